@@ -1,0 +1,10 @@
+-- Jobs, choices and what running a choice gives: the definitions of document 01, and their laws.
+pub mod Job
+pub mod Given
+pub mod Choice
+pub mod Within
+pub mod Moves
+pub mod Runs
+pub mod Outcomes
+pub mod GivenLaws
+pub mod Counts

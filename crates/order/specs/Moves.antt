@@ -1,0 +1,271 @@
+-- The facts about a job's moves, on which every other law rests: what a pick gives forwards, the latest start backwards,
+-- the weight that it adds, and that a move from an earlier and heavier point gives an earlier and heavier one.
+use Prim.Native.Nat.{ℕ, zero, suc, _+_, _≤_, _<_}
+use mathlib.Core.Path.{_≡_, refl, sym, ap, _∙_}
+use mathlib.Core.Bool.{Bool, true, false, not, cond, false≢true}
+use mathlib.Core.List.{List, [], _∷_, List·Memᴰ, List·Memᴰ·head, List·Memᴰ·tail, Memᴰ·cast}
+use mathlib.Core.Logic.{_↔_, _≢_}
+use mathlib.Core.Option.{Option, none, some, Option·none-ne-some}
+use native.Mathlib.Nat.{add-zero}
+use native.Mathlib.Omega.{arith}
+use lib.IntN.{ℤ, pos, _+ℤ_, _-ℤ_}
+use lib.Signed.{leZ, _≤ℤ_}
+use lib.ListN.{length, getElem?}
+use Rattle.seconds.specs.Limits.{rest}
+use Rattle.seconds.specs.Signed.{signed, add-is, sub-is, max-is, min-is, minZ}
+use Rattle.seconds.specs.Ranges.{InFree}
+use Rattle.order.specs.Job.{Rate, Job, Point, startAt, rateOf, finishAt, allowedAt, freeAt, gainAt}
+use Rattle.order.specs.Job.{allowed, busFree, gainOf, lossOf, upTo, picks, move}
+use Rattle.order.specs.Choice.{startOf}
+use Rattle.order.specs.Given.{Covers}
+use Rattle.order.specs.Within.{RateWithin, JobWithin}
+
+-- ---- a kept job, forwards: from an earlier time it is allowed, and the bus is free, no later
+
+earlier-at : (j : Job) (o : Option Rate) {s t : ℤ} → s ≤ℤ t → allowedAt j o t ≡ true → allowedAt j o s ≡ true
+earlier-at j none h e = e
+earlier-at j (some r) {s} {t} h e =
+    omega (
+      signed,
+      max-is (j .ready) s,
+      max-is (j .ready) t,
+      add-is (startAt j s) (pos (r .takes)),
+      add-is (startAt j t) (pos (r .takes)),
+    )
+
+mono-at : (j : Job) (o : Option Rate) {s t : ℤ} → s ≤ℤ t → freeAt j o s ≤ℤ freeAt j o t
+mono-at j none h = h
+mono-at j (some r) {s} {t} h =
+    omega (
+      signed,
+      max-is (j .ready) s,
+      max-is (j .ready) t,
+      add-is (startAt j s) (pos (r .takes)),
+      add-is (startAt j t) (pos (r .takes)),
+      add-is (finishAt j r s) (pos rest),
+      add-is (finishAt j r t) (pos rest),
+    )
+
+later-at : (j : Job) (o : Option Rate) (t : ℤ) → t ≤ℤ freeAt j o t
+later-at j none t = omega signed
+later-at j (some r) t =
+    omega (signed, max-is (j .ready) t, add-is (startAt j t) (pos (r .takes)), add-is (finishAt j r t) (pos rest))
+
+-- What is allowed with the bus free at a time is allowed with it free earlier.
+pub allowed-earlier : (j : Job) (x : ℕ) {s t : ℤ} → s ≤ℤ t → allowed j x t ≡ true → allowed j x s ≡ true
+allowed-earlier j zero h e = e
+allowed-earlier j (suc k) h e = earlier-at j (rateOf j k) h e
+
+-- With the bus free no later, it is free again no later.
+pub busFree-mono : (j : Job) (x : ℕ) {s t : ℤ} → s ≤ℤ t → busFree j x s ≤ℤ busFree j x t
+busFree-mono j zero h = h
+busFree-mono j (suc k) h = mono-at j (rateOf j k) h
+
+-- No pick frees the bus earlier than it was free.
+pub busFree-later : (j : Job) (x : ℕ) (t : ℤ) → t ≤ℤ busFree j x t
+busFree-later j zero t = omega signed
+busFree-later j (suc k) t = later-at j (rateOf j k) t
+
+-- ---- a move: when there is one, and where it leads
+
+-- A pick moves p to q: it is allowed, and q has the bus-free time and the weight after it.
+pub record Moved (j : Job) (x : ℕ) (p q : Point) : Type 0 where
+  pub may : allowed j x (p .time) ≡ true
+  pub free : q .time ≡ busFree j x (p .time)
+  pub sum : q .weight ≡ p .weight + gainOf j x
+
+-- Where a pick leads that is allowed.
+abbrev pub moveTo : Job → ℕ → Point → Point
+moveTo j x p = record { time = busFree j x (p .time); weight = p .weight + gainOf j x }
+
+-- An allowed pick moves, any other does not.
+pub move-allowed : (j : Job) (x : ℕ) (p : Point) → allowed j x (p .time) ≡ true → move j x p ≡ some (moveTo j x p)
+move-allowed j x p e = rw e
+
+pub move-refused : (j : Job) (x : ℕ) (p : Point) → allowed j x (p .time) ≡ false → move j x p ≡ none
+move-refused j x p e = rw e
+
+-- Points with the same time and weight are the same.
+pub point-path : {p q : Point} → p .time ≡ q .time → p .weight ≡ q .weight → p ≡ q
+point-path s w = λ i. record { time = s i; weight = w i }
+
+-- What a move says, and back.
+pub moved : (j : Job) (x : ℕ) (p : Point) {q : Point} → move j x p ≡ some q → Moved j x p q
+moved j x p {q} e = go (allowed j x (p .time)) refl
+  where
+    go : (b : Bool) → allowed j x (p .time) ≡ b → Moved j x p q
+    go true a =
+        let to : moveTo j x p ≡ q = cc (move-allowed j x p a) in
+        record { may = a; free = ap (λ (r : Point). r .time) (sym to); sum = ap (λ (r : Point). r .weight) (sym to) }
+    go false a = absurd (Option·none-ne-some q (sym (move-refused j x p a) ∙ e))
+
+pub moves : (j : Job) (x : ℕ) (p : Point) {q : Point} → Moved j x p q → move j x p ≡ some q
+moves j x p m = move-allowed j x p (m .may) ∙ ap {B = Option Point} some (point-path (sym (m .free)) (sym (m .sum)))
+
+-- A move from a point that covers another leads to a point that covers where the other leads.
+pub move-monotone : (j : Job) (x : ℕ) (p r : Point) {r′ : Point} → Covers p r → move j x r ≡ some r′
+    → (q : Point) × (move j x p ≡ some q) × Covers q r′
+move-monotone j x p r {r′} h e =
+    let m = moved j x r e in
+    let sooner = busFree-mono j x (h .soon) in (
+      moveTo j x p,
+      move-allowed j x p (allowed-earlier j x (h .soon) (m .may)),
+      record { soon = omega signed; heavy = omega (arith, h .heavy, m .sum) },
+    )
+
+-- ---- backwards: the latest time at which the bus may be free, for a pick to leave it free by a given time
+
+-- The last start at a rate: the finish is by the deadline, and a rest before the given time.
+abbrev pub lastStart : Job → Rate → ℤ → ℤ
+lastStart j r by = minZ (j .deadline) (by -ℤ pos rest) -ℤ pos (r .takes)
+
+-- There is one if the job is ready by then.
+abbrev pub latestAt : Job → Option Rate → ℤ → Option ℤ
+latestAt j none by = none
+latestAt j (some r) by =
+    let e = lastStart j r by in
+    cond (leZ (j .ready) e) (some e) none
+
+-- Left out, the bus must be free by that time already.
+abbrev pub latestBefore : Job → ℕ → ℤ → Option ℤ
+latestBefore j zero by = cond (j .critical) none (some by)
+latestBefore j (suc k) by = latestAt j (rateOf j k) by
+
+-- A kept job ends in time exactly when it starts by its last start.
+starts-in-time : (j : Job) (r : Rate) (t by : ℤ)
+    → ((allowedAt j (some r) t ≡ true) × (freeAt j (some r) t ≤ℤ by)) ↔ startAt j t ≤ℤ lastStart j r by
+starts-in-time j r t by =
+    omega (
+      signed,
+      add-is (startAt j t) (pos (r .takes)),
+      add-is (finishAt j r t) (pos rest),
+      sub-is by (pos rest),
+      min-is (j .deadline) (by -ℤ pos rest),
+      sub-is (minZ (j .deadline) (by -ℤ pos rest)) (pos (r .takes)),
+    )
+
+-- A job starts by a time when it is ready by then and the bus is free by then.
+start-by : (j : Job) (t e : ℤ) → startAt j t ≤ℤ e ↔ ((j .ready ≤ℤ e) × (t ≤ℤ e))
+start-by j t e = omega (signed, max-is (j .ready) t)
+
+latest-at : (j : Job) (o : Option Rate) (t by : ℤ) → allowedAt j o t ≡ true → freeAt j o t ≤ℤ by
+    → (e : ℤ) × (latestAt j o by ≡ some e) × (t ≤ℤ e)
+latest-at j none t by a h = absurd (false≢true a)
+latest-at j (some r) t by a h =
+    let e = lastStart j r by in
+    let d = start-by j t e .0 (starts-in-time j r t by .0 (a, h)) in
+    let test : leZ (j .ready) e ≡ true = omega (signed, d .0) in
+    (e, rw test, d .1)
+
+latest-at-back : (j : Job) (o : Option Rate) (t by : ℤ) {e : ℤ} → latestAt j o by ≡ some e → t ≤ℤ e
+    → (allowedAt j o t ≡ true) × (freeAt j o t ≤ℤ by)
+latest-at-back j none t by d h = absurd (Option·none-ne-some _ d)
+latest-at-back j (some r) t by {e} d h = go (leZ (j .ready) (lastStart j r by)) refl
+  where
+    go : (b : Bool) → leZ (j .ready) (lastStart j r by) ≡ b → (allowedAt j (some r) t ≡ true) × (freeAt j (some r) t ≤ℤ by)
+    go true a =
+        let same : lastStart j r by ≡ e = cc in
+        starts-in-time j r t by .1 (start-by j t (lastStart j r by) .1 (omega signed))
+    go false a = absurd (Option·none-ne-some e (cc))
+
+left-out-before : (b : Bool) (by : ℤ) → not b ≡ true → cond b none (some by) ≡ some by
+left-out-before true by a = absurd (false≢true a)
+left-out-before false by a = refl
+
+-- A pick that is allowed and leaves the bus free by a time has a latest time before it, which is no earlier;
+pub latest-before : (j : Job) (x : ℕ) (t by : ℤ) → allowed j x t ≡ true → busFree j x t ≤ℤ by
+    → (e : ℤ) × (latestBefore j x by ≡ some e) × (t ≤ℤ e)
+latest-before j zero t by a h = (by, left-out-before (j .critical) by a, h)
+latest-before j (suc k) t by a h = latest-at j (rateOf j k) t by a h
+
+-- and from every time up to the latest the pick is allowed and leaves the bus free in time.
+pub latest-allows : (j : Job) (x : ℕ) (t by : ℤ) {e : ℤ} → latestBefore j x by ≡ some e → t ≤ℤ e
+    → (allowed j x t ≡ true) × (busFree j x t ≤ℤ by)
+latest-allows j zero t by {e} d h = go (j .critical) refl
+  where
+    go : (b : Bool) → j .critical ≡ b → (not (j .critical) ≡ true) × (t ≤ℤ by)
+    go true c = absurd (Option·none-ne-some e (cc))
+    go false c = let same : by ≡ e = cc in (ap not c, omega signed)
+latest-allows j (suc k) t by d h = latest-at-back j (rateOf j k) t by d h
+
+-- ---- the picks that stand in a job's list
+
+up-to-has : (from k n : ℕ) → k ≤ n → List·Memᴰ (from + k) (upTo from n)
+up-to-has from zero zero h = List·Memᴰ·head (add-zero from)
+up-to-has from zero (suc n) h = List·Memᴰ·head (add-zero from)
+up-to-has from (suc k) zero h = absurd (omega arith)
+up-to-has from (suc k) (suc n) h = List·Memᴰ·tail (Memᴰ·cast (omega arith) (up-to-has (suc from) k n (omega arith)))
+
+has-rate : (j : Job) (rs : List Rate) (k : ℕ) (t : ℤ) → allowedAt j (getElem? rs k) t ≡ true → k < length rs
+has-rate j [] k t a = absurd (false≢true a)
+has-rate j (r ∷ rs) zero t a = omega arith
+has-rate j (r ∷ rs) (suc k) t a = let h = has-rate j rs k t a in omega arith
+
+-- A pick beyond the rates is not allowed.
+pick-bounded : (j : Job) (x : ℕ) (t : ℤ) → allowed j x t ≡ true → x ≤ length (j .rates)
+pick-bounded j zero t a = omega arith
+pick-bounded j (suc k) t a = has-rate j (j .rates) k t a
+
+-- An allowed pick is one of the job's picks.
+pub pick-listed : (j : Job) (x : ℕ) (t : ℤ) → allowed j x t ≡ true → List·Memᴰ x (picks j)
+pick-listed j x t a = Memᴰ·cast (omega arith) (up-to-has 0 x (length (j .rates)) (pick-bounded j x t a))
+
+-- ---- what is allowed, in document 01's words
+
+-- The rate of a kept job.
+abbrev pub keptRate : Job → ℕ → Option Rate
+keptRate j zero = none
+keptRate j (suc k) = rateOf j k
+
+-- A pick holds for a start: a critical job is kept, and a kept job has its rate and finishes at or before its deadline.
+pub record PickHolds (j : Job) (x : ℕ) (start : ℤ) : Type 0 where
+  pub critical : j .critical ≡ true → x ≢ 0
+  pub kept : x ≢ 0 → (r : Rate) × (keptRate j x ≡ some r) × ((start +ℤ pos (r .takes)) ≤ℤ j .deadline)
+
+holds-at : (j : Job) (o : Option Rate) (t : ℤ) → allowedAt j o t ≡ true
+    → (r : Rate) × (o ≡ some r) × ((startAt j t +ℤ pos (r .takes)) ≤ℤ j .deadline)
+holds-at j none t a = absurd (false≢true a)
+holds-at j (some r) t a = (r, refl, omega signed)
+
+-- An allowed pick holds, and back.
+pub pick-holds : (j : Job) (x : ℕ) (t : ℤ) → allowed j x t ≡ true → PickHolds j x (startOf j x t)
+pick-holds j zero t a = record { critical = λ c. absurd (false≢true (rw c at a)); kept = λ n. absurd (n refl) }
+pick-holds j (suc k) t a = record { critical = λ c. omega arith; kept = λ n. holds-at j (rateOf j k) t a }
+
+pub holds-pick : (j : Job) (x : ℕ) (t : ℤ) → PickHolds j x (startOf j x t) → allowed j x t ≡ true
+holds-pick j zero t h = go (j .critical) refl
+  where
+    go : (b : Bool) → j .critical ≡ b → not (j .critical) ≡ true
+    go true c = absurd (h .critical c refl)
+    go false c = ap not c
+holds-pick j (suc k) t h =
+    let r = h .kept (omega arith) in
+    rw (r .1) (omega (signed, r .2))
+
+-- ---- jobs within the limits
+
+gain-at-light : (w : ℕ) (o : Option Rate) → ((r : Rate) → o ≡ some r → RateWithin w r) → gainAt o ≤ w
+gain-at-light w none h = omega arith
+gain-at-light w (some r) h = h r refl .light
+
+-- A pick counts at most the job's weight,
+pub gain-light : (j : Job) (x : ℕ) → JobWithin j → gainOf j x ≤ j .weight
+gain-light j zero w = omega arith
+gain-light j (suc k) w = gain-at-light (j .weight) (rateOf j k) (w .rates k)
+
+-- of which a critical job has none;
+pub gain-critical : (j : Job) (x : ℕ) → JobWithin j → j .critical ≡ true → gainOf j x ≡ 0
+gain-critical j x w c = omega (arith, gain-light j x w, w .weightless c)
+
+-- what it does not count, it loses.
+pub gain-and-loss : (j : Job) (x : ℕ) → JobWithin j → gainOf j x + lossOf j x ≡ j .weight
+gain-and-loss j x w = omega (arith, gain-light j x w)
+
+-- A bus-free time in range stays in range.
+pub busFree-in-range : (j : Job) (x : ℕ) (t : ℤ) → JobWithin j → allowed j x t ≡ true → InFree t → InFree (busFree j x t)
+busFree-in-range j zero t w a h = h
+busFree-in-range j (suc k) t w a h = go (rateOf j k) a
+  where
+    go : (o : Option Rate) → allowedAt j o t ≡ true → InFree (freeAt j o t)
+    go none a = absurd (false≢true a)
+    go (some r) a = omega (signed, later-at j (some r) t, add-is (finishAt j r t) (pos rest), w .deadline .high)

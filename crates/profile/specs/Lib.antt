@@ -1,0 +1,2 @@
+-- Profiles: the definitions of document 01, and their laws.
+pub mod Profile

@@ -1,0 +1,40 @@
+-- The numbers that document 01 fixes, once each.
+use Prim.Native.Nat.{ℕ, _+_}
+use lib.IntN.{ℤ, pos, negsuc}
+
+-- The seconds that the bus rests after every job. Shut on purpose: no law depends on its value.
+unfoldable pub rest : ℕ
+rest = 0
+
+-- Ready times, deadlines and an order's own bus-free time lie from earliest to latest.
+abbrev pub earliest : ℤ
+earliest = negsuc 99999
+
+abbrev pub latest : ℤ
+latest = pos 100000
+
+-- The latest bus-free time that a job within its deadline can leave: a point's time reaches this far.
+abbrev pub latestFree : ℤ
+latestFree = pos (100000 + rest)
+
+-- The longest job, in seconds.
+abbrev pub longest : ℕ
+longest = 10000
+
+-- The greatest weight of one job, and of all jobs together.
+abbrev pub heaviest : ℕ
+heaviest = 50
+
+abbrev pub mostWeight : ℕ
+mostWeight = 300
+
+-- The most jobs in an order, and the most points in a profile.
+abbrev pub mostJobs : ℕ
+mostJobs = 48
+
+abbrev pub mostPoints : ℕ
+mostPoints = 301
+
+-- What stands for the start of a job that is left out.
+abbrev pub leftOut : ℤ
+leftOut = pos 200000
