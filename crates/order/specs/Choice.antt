@@ -76,8 +76,8 @@ choices (j ∷ js) = withEach (picks j) (choices js)
 abbrev pub run : List Job → Choice → Point → Option Point
 run js c p =
     cond (feasible js c (p .time))
-        (some (record { time = finish js c (p .time); weight = p .weight + keptWeight js c }))
-        none
+    (some (record { time = finish js c (p .time); weight = p .weight + keptWeight js c }))
+    none
 
 -- The results there are of a list of trials.
 abbrev pub consIf {ℓ} : {A : Type ℓ} → Option A → List A → List A

@@ -20,6 +20,38 @@ use Rattle.order.specs.Choice.{startOf}
 use Rattle.order.specs.Given.{Covers}
 use Rattle.order.specs.Within.{RateWithin, JobWithin}
 
+-- ---- what is allowed, in document 01's words
+
+-- The rate of a kept job.
+abbrev pub keptRate : Job → ℕ → Option Rate
+keptRate j zero = none
+keptRate j (suc k) = rateOf j k
+
+-- A pick holds for a start: a critical job is kept, and a kept job has its rate and finishes at or before its deadline.
+pub record PickHolds (j : Job) (x : ℕ) (start : ℤ) : Type 0 where
+  pub critical : j .critical ≡ true → x ≢ 0
+  pub kept : x ≢ 0 → (r : Rate) × (keptRate j x ≡ some r) × ((start +ℤ pos (r .takes)) ≤ℤ j .deadline)
+
+holds-at : (j : Job) (o : Option Rate) (t : ℤ) → allowedAt j o t ≡ true
+    → (r : Rate) × (o ≡ some r) × ((startAt j t +ℤ pos (r .takes)) ≤ℤ j .deadline)
+holds-at j none t a = absurd (false≢true a)
+holds-at j (some r) t a = (r, refl, omega signed)
+
+-- An allowed pick holds, and back.
+pub pick-holds : (j : Job) (x : ℕ) (t : ℤ) → allowed j x t ≡ true → PickHolds j x (startOf j x t)
+pick-holds j zero t a = record { critical = λ c. absurd (false≢true (rw c at a)); kept = λ n. absurd (n refl) }
+pick-holds j (suc k) t a = record { critical = λ c. omega arith; kept = λ n. holds-at j (rateOf j k) t a }
+
+pub holds-pick : (j : Job) (x : ℕ) (t : ℤ) → PickHolds j x (startOf j x t) → allowed j x t ≡ true
+holds-pick j zero t h = go (j .critical) refl
+  where
+    go : (b : Bool) → j .critical ≡ b → not (j .critical) ≡ true
+    go true c = absurd (h .critical c refl)
+    go false c = ap not c
+holds-pick j (suc k) t h =
+    let r = h .kept (omega arith) in
+    rw (r .1) (omega (signed, r .2))
+
 -- ---- a kept job, forwards: from an earlier time it is allowed, and the bus is free, no later
 
 earlier-at : (j : Job) (o : Option Rate) {s t : ℤ} → s ≤ℤ t → allowedAt j o t ≡ true → allowedAt j o s ≡ true
@@ -209,38 +241,6 @@ pick-bounded j (suc k) t a = has-rate j (j .rates) k t a
 -- An allowed pick is one of the job's picks.
 pub pick-listed : (j : Job) (x : ℕ) (t : ℤ) → allowed j x t ≡ true → List·Memᴰ x (picks j)
 pick-listed j x t a = Memᴰ·cast (omega arith) (up-to-has 0 x (length (j .rates)) (pick-bounded j x t a))
-
--- ---- what is allowed, in document 01's words
-
--- The rate of a kept job.
-abbrev pub keptRate : Job → ℕ → Option Rate
-keptRate j zero = none
-keptRate j (suc k) = rateOf j k
-
--- A pick holds for a start: a critical job is kept, and a kept job has its rate and finishes at or before its deadline.
-pub record PickHolds (j : Job) (x : ℕ) (start : ℤ) : Type 0 where
-  pub critical : j .critical ≡ true → x ≢ 0
-  pub kept : x ≢ 0 → (r : Rate) × (keptRate j x ≡ some r) × ((start +ℤ pos (r .takes)) ≤ℤ j .deadline)
-
-holds-at : (j : Job) (o : Option Rate) (t : ℤ) → allowedAt j o t ≡ true
-    → (r : Rate) × (o ≡ some r) × ((startAt j t +ℤ pos (r .takes)) ≤ℤ j .deadline)
-holds-at j none t a = absurd (false≢true a)
-holds-at j (some r) t a = (r, refl, omega signed)
-
--- An allowed pick holds, and back.
-pub pick-holds : (j : Job) (x : ℕ) (t : ℤ) → allowed j x t ≡ true → PickHolds j x (startOf j x t)
-pick-holds j zero t a = record { critical = λ c. absurd (false≢true (rw c at a)); kept = λ n. absurd (n refl) }
-pick-holds j (suc k) t a = record { critical = λ c. omega arith; kept = λ n. holds-at j (rateOf j k) t a }
-
-pub holds-pick : (j : Job) (x : ℕ) (t : ℤ) → PickHolds j x (startOf j x t) → allowed j x t ≡ true
-holds-pick j zero t h = go (j .critical) refl
-  where
-    go : (b : Bool) → j .critical ≡ b → not (j .critical) ≡ true
-    go true c = absurd (h .critical c refl)
-    go false c = ap not c
-holds-pick j (suc k) t h =
-    let r = h .kept (omega arith) in
-    rw (r .1) (omega (signed, r .2))
 
 -- ---- jobs within the limits
 

@@ -38,7 +38,7 @@ pub record Ended : Type 0 where
 abbrev pub ranking : Ended → Ended → Ordering
 ranking a b =
     orThen (compare (b .end .weight) (a .end .weight))
-        (orThen (compareZ (a .end .time) (b .end .time)) (byLastPlace (a .choice) (b .choice)))
+    (orThen (compareZ (a .end .time) (b .end .time)) (byLastPlace (a .choice) (b .choice)))
 
 -- ---- the plan
 
@@ -83,7 +83,7 @@ answerOf t js e =
       lostWeight = lostWeight js (e .choice);
       finish = e .end .time;
       points = pointTotal t js;
-      starts = starts js (e .choice) t
+      starts = starts js (e .choice) t;
     }
 
 abbrev pub planAnswer : Order → Option Answer

@@ -1,2 +1,12 @@
 -- Profiles: the definitions of document 01, and their laws.
 pub mod Profile
+pub mod Rising
+pub mod Points
+pub mod Greatest
+pub mod Worth
+pub mod Last
+pub mod Extending
+pub mod BetterOf
+pub mod Joining
+pub mod Closure
+pub mod Stepwise

@@ -1,11 +1,11 @@
 -- Profiles: when a list of points is one, what it gives at a time, lookup, extending and better-of.
 -- Definitions only.
 use Prim.Native.Nat.{ℕ, zero, suc, _+_, max}
-use mathlib.Core.Bool.{Bool, true, false, cond, _&&_}
+use mathlib.Core.Bool.{Bool, true, cond, _&&_}
 use mathlib.Core.List.{List, [], _∷_, _++_}
 use mathlib.Core.Option.{Option, none, some}
 use lib.Dec.{leb, ltb}
-use lib.IntN.{ℤ, pos}
+use lib.IntN.{ℤ}
 use lib.Signed.{leZ, ltZ}
 use lib.ListN.{length, take}
 use Rattle.seconds.specs.Limits.{mostWeight, mostPoints}

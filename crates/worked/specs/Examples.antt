@@ -7,6 +7,7 @@ use mathlib.Core.List.{List, [], _∷_, _++_, map}
 use mathlib.Core.Option.{Option, none, some}
 use lib.IntN.{ℤ, pos, negsuc}
 use Rattle.seconds.specs.Limits.{rest, leftOut}
+use Rattle.seconds.specs.Twos.{bitsTo}
 use Rattle.order.specs.Job.{Job, Order, Point, oneRate}
 use Rattle.profile.specs.Profile.{lookup, betterOf, orderProfile}
 use Rattle.plan.specs.Plan.{Answer, planAnswer}
@@ -58,7 +59,7 @@ morning =
           ∷ oneRate 12 false 15 (pos 0) 200 (pos 300)
           ∷ oneRate 5 true 0 (pos 100) 100 (pos 450)
           ∷ oneRate 9 false 15 (pos 0) 100 (pos 500)
-          ∷ []
+          ∷ [];
     }
 
 abbrev point : ℤ → ℕ → Point
@@ -77,12 +78,12 @@ examples =
       asked = planLine (planAnswer morning);
       told =
           pos 0 ∷ pos 0 ∷ pos 4 ∷ pos 35 ∷ pos 15 ∷ pos 395 ∷ pos 10
-          ∷ negsuc 599 ∷ negsuc 104 ∷ leftOut ∷ pos 195 ∷ pos 295 ∷ []
+          ∷ negsuc 599 ∷ negsuc 104 ∷ leftOut ∷ pos 195 ∷ pos 295 ∷ [];
     }
     -- P2: its profile
     ∷ record {
       asked = alternating (orderProfile morning);
-      told = pos 200 ∷ pos 0 ∷ pos 295 ∷ pos 20 ∷ pos 395 ∷ pos 35 ∷ []
+      told = pos 200 ∷ pos 0 ∷ pos 295 ∷ pos 20 ∷ pos 395 ∷ pos 35 ∷ [];
     }
     -- P3: lookups at 199, 200, 394 and 395
     ∷ record { asked = found (lookup (orderProfile morning) (pos 199)); told = pos 0 ∷ pos 0 ∷ [] }
@@ -92,23 +93,23 @@ examples =
     -- P4: a critical job that just meets its deadline
     ∷ record {
       asked = planLine (planAnswer (from0 (critical 0 10 (pos 10) ∷ [])));
-      told = pos 0 ∷ pos 0 ∷ pos 1 ∷ pos 0 ∷ pos 0 ∷ pos 10 ∷ pos 1 ∷ pos 0 ∷ []
+      told = pos 0 ∷ pos 0 ∷ pos 1 ∷ pos 0 ∷ pos 0 ∷ pos 10 ∷ pos 1 ∷ pos 0 ∷ [];
     }
     -- P5: one that does not, and a non-critical one
     ∷ record { asked = planLine (planAnswer (from0 (critical 0 10 (pos 9) ∷ []))); told = pos 11 ∷ pos 0 ∷ [] }
     ∷ record {
       asked = planLine (planAnswer (from0 (worth10 0 10 (pos 9) ∷ [])));
-      told = pos 0 ∷ pos 0 ∷ pos 0 ∷ pos 0 ∷ pos 10 ∷ pos 0 ∷ pos 1 ∷ leftOut ∷ []
+      told = pos 0 ∷ pos 0 ∷ pos 0 ∷ pos 0 ∷ pos 10 ∷ pos 0 ∷ pos 1 ∷ leftOut ∷ [];
     }
     -- P6: of two alike the first is kept
     ∷ record {
       asked = planLine (planAnswer (from0 (worth10 0 10 (pos 10) ∷ worth10 1 10 (pos 10) ∷ [])));
-      told = pos 0 ∷ pos 0 ∷ pos 1 ∷ pos 10 ∷ pos 10 ∷ pos 10 ∷ pos 4 ∷ pos 0 ∷ leftOut ∷ []
+      told = pos 0 ∷ pos 0 ∷ pos 1 ∷ pos 10 ∷ pos 10 ∷ pos 10 ∷ pos 4 ∷ pos 0 ∷ leftOut ∷ [];
     }
     -- P7: the second is shorter, and is kept
     ∷ record {
       asked = planLine (planAnswer (from0 (worth10 0 10 (pos 10) ∷ worth10 1 5 (pos 10) ∷ [])));
-      told = pos 0 ∷ pos 0 ∷ pos 1 ∷ pos 10 ∷ pos 10 ∷ pos 5 ∷ pos 4 ∷ leftOut ∷ pos 0 ∷ []
+      told = pos 0 ∷ pos 0 ∷ pos 1 ∷ pos 10 ∷ pos 10 ∷ pos 5 ∷ pos 4 ∷ leftOut ∷ pos 0 ∷ [];
     }
     -- P8: A and C, though B alone would end before A
     ∷ record {
@@ -116,26 +117,26 @@ examples =
           planLine
           (planAnswer
           (from0 (worth10 0 4 (pos 4) ∷ worth10 1 2 (pos 4) ∷ oneRate 2 true 0 (pos 10) 1 (pos 11) ∷ [])));
-      told = pos 0 ∷ pos 0 ∷ pos 2 ∷ pos 10 ∷ pos 10 ∷ pos 11 ∷ pos 5 ∷ pos 0 ∷ leftOut ∷ pos 10 ∷ []
+      told = pos 0 ∷ pos 0 ∷ pos 2 ∷ pos 10 ∷ pos 10 ∷ pos 11 ∷ pos 5 ∷ pos 0 ∷ leftOut ∷ pos 10 ∷ [];
     }
     -- P9: better-of
     ∷ record {
       asked = alternating (betterOf (point (pos 0) 0 ∷ point (pos 20) 7 ∷ []) (point (pos 5) 7 ∷ []));
-      told = pos 0 ∷ pos 0 ∷ pos 5 ∷ pos 7 ∷ []
+      told = pos 0 ∷ pos 0 ∷ pos 5 ∷ pos 7 ∷ [];
     }
     -- P10: the bytes 255, 0, 9 and 10
     ∷ record {
       asked = heating (heatUp 255) ++ (heating (heatUp 0) ++ (heating (heatUp 9) ++ heating (heatUp 10)));
-      told = pos 0 ∷ pos 495 ∷ pos 0 ∷ pos 450 ∷ pos 0 ∷ pos 45 ∷ pos 0 ∷ pos 0 ∷ []
+      told = pos 0 ∷ pos 495 ∷ pos 0 ∷ pos 450 ∷ pos 0 ∷ pos 45 ∷ pos 0 ∷ pos 0 ∷ [];
     }
     -- P11: the bytes 246, 245, 226 and 225
     ∷ record {
       asked = heating (heatUp 246) ++ (heating (heatUp 245) ++ (heating (heatUp 226) ++ heating (heatUp 225)));
-      told = pos 0 ∷ pos 900 ∷ pos 0 ∷ pos 1020 ∷ pos 0 ∷ pos 3300 ∷ pos 12 ∷ pos 0 ∷ []
+      told = pos 0 ∷ pos 900 ∷ pos 0 ∷ pos 1020 ∷ pos 0 ∷ pos 3300 ∷ pos 12 ∷ pos 0 ∷ [];
     }
     ∷ []
 
 -- Every example comes out as document 01 says.
 pub examples-hold : map (λ (e : Example). e .asked) examples ≡ map (λ (e : Example). e .told) examples
-unfolding rest
+unfolding rest bitsTo
 examples-hold = refl

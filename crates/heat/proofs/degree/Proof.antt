@@ -8,7 +8,7 @@ use mir.Val.{SFits, toZ}
 use mir.Facts.{toZ-pos, toZ-ofZ}
 use borrow.Author.Needs.{needs}
 use Rattle.seconds.specs.Signed.{signed, sub-is}
-use Rattle.heat.specs.Degree.{degree-plain, degree-less}
+use Rattle.seconds.specs.Twos.{byte-low, byte-high}
 use Rattle.heat.proofs.degree.Statement.{statement}
 use Rattle.heat.proofs.degree.Tie as tie
 
@@ -28,12 +28,12 @@ sub-result c = less-fits c
 returns : tie.Need-returns
 returns c =
     let high : 127 < c .before .args .byte = omega (signed, raw (c .before)) in
-    toZ-ofZ (less-fits c) ∙ ap (λ (z : ℤ). z -ℤ pos 256) (raw (c .before)) ∙ sym (degree-less (c .before .args .byte) high)
+    toZ-ofZ (less-fits c) ∙ ap (λ (z : ℤ). z -ℤ pos 256) (raw (c .before)) ∙ sym (byte-high (c .before .args .byte) high)
 
 returns-2 : tie.Need-returns-2
 returns-2 c =
     let low : c .before .args .byte ≤ 127 = omega (signed, raw (c .before)) in
-    raw (c .before) ∙ sym (degree-plain (c .before .args .byte) low)
+    raw (c .before) ∙ sym (byte-low (c .before .args .byte) low)
 
 pub degree-spec : {M : Type 1} → statement M
 degree-spec = tie.close (tie.spec cast-raw sub-result returns returns-2)

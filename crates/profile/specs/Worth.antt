@@ -1,0 +1,174 @@
+-- What a list of points is worth at a time: the greatest weight of a point at or before it. Lists that give the same have
+-- the same worth at every time, and back; the lookup in a rising list finds it.
+use Prim.Native.Nat.{ℕ, _≤_, max}
+use mathlib.Core.Path.{_≡_, refl, sym, ap, _∙_, subst}
+use mathlib.Core.Bool.{Bool, true, false, cond}
+use mathlib.Core.List.{List, [], _∷_, _++_, List·Memᴰ, List·Memᴰ·head, List·Memᴰ·tail}
+use mathlib.Core.Logic.{_⊎_, inl, inr, _↔_}
+use mathlib.Core.Option.{Option, none, some, Option·map}
+use native.Mathlib.Omega.{arith}
+use lib.IntN.{ℤ}
+use lib.ListN.{length}
+use lib.Signed.{leZ, _≤ℤ_}
+use Rattle.seconds.specs.Signed.{signed}
+use Rattle.order.specs.Job.{Point}
+use Rattle.order.specs.Given.{Covers, Given, _⊑_, Same}
+use Rattle.order.specs.GivenLaws.{giver, given-by, given-own, given-covered}
+use Rattle.profile.specs.Profile.{greater, worth, lookup, orElse, profileOf}
+use Rattle.profile.specs.Rising.{Rising, rising-none, rising-more, below-member}
+use Rattle.profile.specs.Points.{profileOf-rises, profileOf-same, rising-equal, profileOf-shortest}
+use Rattle.profile.specs.Greatest.{Greatest, nothing, greatest, Under}
+use Rattle.profile.specs.Greatest.{greatest-equal, greatest-under, greatest-one, greatest-greater}
+
+-- A weight that a point of the list has at or before a time.
+pub record WeightBy (ps : List Point) (t : ℤ) (w : ℕ) : Type 0 where
+  pub point : Point
+  pub member : List·Memᴰ point ps
+  pub by : point .time ≤ℤ t
+  pub weighs : point .weight ≡ w
+
+-- The worth is the greatest of these,
+pub worth-greatest : (ps : List Point) (t : ℤ) → Greatest (WeightBy ps t) (worth ps t)
+worth-greatest [] t = nothing (λ w h. elim (h .member) [ ])
+worth-greatest (p ∷ ps) t =
+    greatest-greater split (λ w h. record { point = p; member = List·Memᴰ·head refl; by = h .0; weighs = h .1 })
+    (λ w h. record { point = h .point; member = List·Memᴰ·tail (h .member); by = h .by; weighs = h .weighs })
+    (go (leZ (p .time) t) refl) (worth-greatest ps t)
+  where
+    Own : ℕ → Type 0
+    Own w = (p .time ≤ℤ t) × (p .weight ≡ w)
+
+    which : {w : ℕ} (h : WeightBy (p ∷ ps) t w) → List·Memᴰ (h .point) (p ∷ ps) → Own w ⊎ WeightBy ps t w
+    which h (List·Memᴰ·head e) = inl (rw e at (h .by), rw e at (h .weighs))
+    which h (List·Memᴰ·tail m) = inr (record { point = h .point; member = m; by = h .by; weighs = h .weighs })
+
+    split : (w : ℕ) → WeightBy (p ∷ ps) t w → Own w ⊎ WeightBy ps t w
+    split w h = which h (h .member)
+
+    go : (b : Bool) → leZ (p .time) t ≡ b → Greatest Own (cond b (some (p .weight)) none)
+    go true e = greatest (omega signed, refl) (λ x h. omega signed)
+    go false e = nothing (λ w h. omega signed)
+
+-- and whatever is the greatest of these is the worth.
+pub worth-is : (ps : List Point) (t : ℤ) (o : Option ℕ) → worth ps t ≡ o ↔ Greatest (WeightBy ps t) o
+worth-is ps t o = ((λ e. subst (Greatest (WeightBy ps t)) e (worth-greatest ps t)), greatest-one (worth-greatest ps t))
+
+-- ---- the worth at all times, and what a list gives
+
+-- A list gives a point exactly when it is worth the point's weight, or more, at the point's time.
+pub given-worth : (ps : List Point) (r : Point) → Given r ps ↔ ((w : ℕ) × (worth ps (r .time) ≡ some w) × (r .weight ≤ w))
+given-worth ps r = (λ g. let m = giver g in go (m .0) (m .1) (m .2) (worth-greatest ps (r .time)), back)
+  where
+    go : (p : Point) → List·Memᴰ p ps → Covers p r → {o : Option ℕ} → Greatest (WeightBy ps (r .time)) o
+        → (w : ℕ) × (o ≡ some w) × (r .weight ≤ w)
+    go p m c (nothing f) = absurd (f (p .weight) (record { point = p; member = m; by = c .soon; weighs = refl }))
+    go p m c (greatest {w = w} h f) =
+        (w, refl, omega (arith, f (p .weight) (record { point = p; member = m; by = c .soon; weighs = refl }), c .heavy))
+
+    reached : {w : ℕ} → r .weight ≤ w → Greatest (WeightBy ps (r .time)) (some w) → Given r ps
+    reached l (greatest h f) = given-by (h .member) (record { soon = h .by; heavy = omega (arith, h .weighs) })
+
+    back : (w : ℕ) × (worth ps (r .time) ≡ some w) × (r .weight ≤ w) → Given r ps
+    back b = reached (b .2) (worth-is ps (r .time) (some (b .0)) .0 (b .1))
+
+-- A list that gives all that another gives reaches the other's weights at every time,
+given-under : {ps qs : List Point} → ps ⊑ qs → (t : ℤ) → Under (WeightBy ps t) (WeightBy qs t)
+given-under h t w b =
+    let m = giver (h (b .point) (given-own (b .member))) in
+    let c = m .2 in
+    let s = b .by in
+    let e = b .weighs in
+    (m .0 .weight, record { point = m .0; member = m .1; by = omega signed; weighs = refl }, omega signed)
+
+-- and back.
+under-given : {ps qs : List Point} → ((t : ℤ) → Under (WeightBy ps t) (WeightBy qs t)) → ps ⊑ qs
+under-given h r g =
+    let m = giver g in
+    let c = m .2 in
+    let b = h (r .time) (m .0 .weight) (record { point = m .0; member = m .1; by = c .soon; weighs = refl }) in
+    let s = b .1 in
+    let l = b .2 in
+    given-covered (given-own (s .member)) (omega signed)
+
+-- Lists that give the same are worth the same at every time,
+pub same-worth : {ps qs : List Point} → Same ps qs → (t : ℤ) → worth ps t ≡ worth qs t
+same-worth {ps} {qs} s t =
+    greatest-equal (given-under (s .to) t) (given-under (s .back) t) (worth-greatest ps t) (worth-greatest qs t)
+
+-- and lists that are worth the same at every time give the same.
+pub worth-same : (ps qs : List Point) → ((t : ℤ) → worth ps t ≡ worth qs t) → Same ps qs
+worth-same ps qs e = record {
+  to = under-given (λ t. greatest-under (worth-greatest ps t) (worth-is qs t (worth ps t) .0 (sym (e t))));
+  back = under-given (λ t. greatest-under (worth-greatest qs t) (worth-is ps t (worth qs t) .0 (e t)));
+}
+
+-- ---- lists put together
+
+greater-assoc : (a b c : Option ℕ) → greater (greater a b) c ≡ greater a (greater b c)
+greater-assoc none b c = refl
+greater-assoc (some x) none c = refl
+greater-assoc (some x) (some y) none = refl
+greater-assoc (some x) (some y) (some z) = ap some (omega arith)
+
+-- Two lists together are worth the greater of both.
+pub worth-append : (ps qs : List Point) (t : ℤ) → worth (ps ++ qs) t ≡ greater (worth ps t) (worth qs t)
+worth-append [] qs t = refl
+worth-append (p ∷ ps) qs t =
+    ap (greater (cond (leZ (p .time) t) (some (p .weight)) none)) (worth-append ps qs t)
+    ∙ sym (greater-assoc (cond (leZ (p .time) t) (some (p .weight)) none) (worth ps t) (worth qs t))
+
+-- ---- lookup
+
+-- The weight of the point that a lookup finds.
+abbrev pub lookupWeight : List Point → ℤ → Option ℕ
+lookupWeight ps t = Option·map (λ (p : Point). p .weight) (lookup ps t)
+
+-- In a rising list the last point by a time is the heaviest: lookup finds the worth.
+pub lookup-worth : {ps : List Point} → Rising ps → (t : ℤ) → lookupWeight ps t ≡ worth ps t
+lookup-worth rising-none t = refl
+lookup-worth (rising-more {p = p} {ps = ps} b r) t = go (lookup ps t) (leZ (p .time) t) (lookup-worth r t)
+  where
+    weight : Point → ℕ
+    weight q = q .weight
+
+    heavier : {w : ℕ} → Greatest (WeightBy ps t) (some w) → max (p .weight) w ≡ w
+    heavier (greatest h f) = let l = below-member b (h .member) in let e = h .weighs in omega arith
+
+    go : (o : Option Point) (c : Bool) → Option·map weight o ≡ worth ps t
+        → Option·map weight (orElse o (cond c (some p) none)) ≡ greater (cond c (some (p .weight)) none) (worth ps t)
+    go none true e = rw (← e)
+    go none false e = rw (← e)
+    go (some q) true e = rw (← e) (ap some (sym (heavier (worth-is ps t (some (q .weight)) .0 (sym e)))))
+    go (some q) false e = rw (← e)
+
+-- In the profile of a list, lookup finds the list's worth.
+pub lookup-profileOf : (ps : List Point) (t : ℤ) → lookupWeight (profileOf ps) t ≡ worth ps t
+lookup-profileOf ps t = lookup-worth (profileOf-rises ps) t ∙ same-worth (profileOf-same ps) t
+
+-- Two rising lists in which every lookup finds the same are equal.
+pub lookup-equal : {ps qs : List Point} → Rising ps → Rising qs → ((t : ℤ) → lookupWeight ps t ≡ lookupWeight qs t) → ps ≡ qs
+lookup-equal {ps} {qs} r s e =
+    rising-equal r s (worth-same ps qs (λ t. sym (lookup-worth r t) ∙ e t ∙ lookup-worth s t))
+
+-- ---- the shortest profile that gives something at each time
+
+-- A rising list in which each lookup finds what is to be given: the only one, and no list worth as much at each time is
+-- shorter.
+pub record ShortestProfile (gives : ℤ → Option ℕ → Type 0) (ps : List Point) : Type 0 where
+  pub rises : Rising ps
+  pub finds : (t : ℤ) → gives t (lookupWeight ps t)
+  pub only : (qs : List Point) → Rising qs → ((t : ℤ) → gives t (lookupWeight qs t)) → qs ≡ ps
+  pub shortest : (qs : List Point) → ((t : ℤ) → gives t (worth qs t)) → length ps ≤ length qs
+
+-- The profile of a list is the shortest profile that gives the list's worth.
+pub profileOf-is : (gives : ℤ → Option ℕ → Type 0) → ((t : ℤ) (a b : Option ℕ) → gives t a → gives t b → a ≡ b)
+    → (ps : List Point) → ((t : ℤ) → gives t (worth ps t)) → ShortestProfile gives (profileOf ps)
+profileOf-is gives one ps h =
+    let finds : (t : ℤ) → gives t (lookupWeight (profileOf ps) t) = λ t. rw (lookup-profileOf ps t) (h t) in
+    record {
+      rises = profileOf-rises ps;
+      finds = finds;
+      only = λ qs r k.
+          lookup-equal r (profileOf-rises ps) (λ t. one t (lookupWeight qs t) (lookupWeight (profileOf ps) t) (k t) (finds t));
+      shortest = λ qs k. profileOf-shortest (worth-same qs ps (λ t. one t (worth qs t) (worth ps t) (k t) (h t)));
+    }
