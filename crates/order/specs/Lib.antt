@@ -2,6 +2,7 @@
 pub mod Job
 pub mod Given
 pub mod Choice
+pub mod AsWritten
 pub mod Within
 pub mod Moves
 pub mod Runs

@@ -5,7 +5,7 @@ use mathlib.Core.List.{List, [], _∷_}
 use mathlib.Core.Option.{Option, none, some, Option·map}
 use lib.IntN.{ℤ, pos, negsuc}
 use Rattle.order.specs.Job.{Job, Order, Point}
-use Rattle.order.specs.Choice.{Choice, feasible, finish, keptWeight, lostWeight, starts, mask, numberKept, choices, run, results}
+use Rattle.order.specs.Choice.{Choice, lostWeight, starts, mask, numberKept, choices, run, results}
 use Rattle.profile.specs.Profile.{startPoint, pointTotal}
 
 -- ---- the ranking

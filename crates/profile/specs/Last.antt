@@ -12,31 +12,15 @@ use Rattle.order.specs.Job.{Point}
 use Rattle.order.specs.Given.{Covers}
 use Rattle.order.specs.GivenLaws.{giver, given-own}
 use Rattle.profile.specs.Profile.{orElse, profileOf}
+pub use Rattle.profile.specs.Profile.{lastPoint, weightOr0, lastWeight}
 use Rattle.profile.specs.Rising.{Below, Rising, rising-none, rising-more, below-member}
 use Rattle.profile.specs.Points.{covers-both, profileOf-rises, profileOf-same, profileOf-member, profileOf-none}
-
--- ---- definitions
-
--- The last point of a list.
-abbrev pub lastPoint : List Point → Option Point
-lastPoint [] = none
-lastPoint (p ∷ ps) = orElse (lastPoint ps) (some p)
-
--- Its weight, 0 if there is none.
-abbrev pub weightOr0 : Option Point → ℕ
-weightOr0 none = 0
-weightOr0 (some p) = p .weight
-
-abbrev pub lastWeight : List Point → ℕ
-lastWeight ps = weightOr0 (lastPoint ps)
 
 -- The best of some points: none is heavier, and none of its weight is earlier.
 pub record Best (ps : List Point) (q : Point) : Type 0 where
   pub member : List·Memᴰ q ps
   pub heaviest : (r : Point) → List·Memᴰ r ps → r .weight ≤ q .weight
   pub earliest : (r : Point) → List·Memᴰ r ps → r .weight ≡ q .weight → q .time ≤ℤ r .time
-
--- ---- laws
 
 -- There is at most one best.
 pub best-one : {ps : List Point} {p q : Point} → Best ps p → Best ps q → p ≡ q

@@ -1,5 +1,6 @@
 -- Profiles: the definitions of document 01, and their laws.
 pub mod Profile
+pub mod AsWritten
 pub mod Rising
 pub mod Points
 pub mod Greatest

@@ -56,6 +56,19 @@ abbrev pub lookup : List Point → ℤ → Option Point
 lookup [] t = none
 lookup (p ∷ ps) t = orElse (lookup ps t) (cond (leZ (p .time) t) (some p) none)
 
+-- The last point of a list.
+abbrev pub lastPoint : List Point → Option Point
+lastPoint [] = none
+lastPoint (p ∷ ps) = orElse (lastPoint ps) (some p)
+
+-- Its weight, 0 if there is none.
+abbrev pub weightOr0 : Option Point → ℕ
+weightOr0 none = 0
+weightOr0 (some p) = p .weight
+
+abbrev pub lastWeight : List Point → ℕ
+lastWeight ps = weightOr0 (lastPoint ps)
+
 -- ---- the shortest profile of a list of points
 
 -- No later and no lighter.
