@@ -1,0 +1,102 @@
+-- Both sides of the edges of packing and unpacking as one list: each verdict, and what document 01 says of it.
+-- One statement holds of the whole list, by computation.
+use Prim.Native.Nat.{ℕ}
+use mathlib.Core.Path.{_≡_, refl}
+use mathlib.Core.List.{List, [], _∷_, _++_, map}
+use lib.IntN.{ℤ, pos, negsuc}
+use lib.ListN.{replicate}
+use Rattle.seconds.specs.Twos.{bitsTo, toBits}
+use Rattle.packed.specs.Layout.{decode, encode, numberOf, bytesOf}
+use Rattle.packed.specs.Places.{part, flat, each, first}
+use Rattle.packed.specs.Packed.{headerWord, headerOf, countOf, t0Of, spareOf, recordAt, jobWord, jobFields}
+use Rattle.packed.specs.Packed.{numbersOf, jobCount, fieldsAt, packedHeader, packedJob, packOrder, jobOf, jobsOf}
+use Rattle.packed.specs.Judge.{Verdict, fine, refused, judge}
+use Rattle.packed.specs.Refusals.{fieldsWithin, firstBad, numberAt, firstRepeat, headerChecks}
+use Rattle.packed.specs.Refusals.{listChecks, jobChecks, weightChecks, unpackChecks, packChecks}
+
+-- A job ready at 0 with the deadline 100: its number, mark, weight and length.
+abbrev job : ℕ → ℤ → ℤ → ℤ → List ℤ
+job number mark weight long = pos number ∷ mark ∷ weight ∷ pos 0 ∷ long ∷ pos 100 ∷ []
+
+-- One that is within its limits.
+abbrev weighing : ℕ → ℕ → List ℤ
+weighing number weight = job number (pos 0) (pos weight) (pos 10)
+
+-- One with these times.
+abbrev timed : ℤ → ℤ → List ℤ
+timed ready deadline = pos 0 ∷ pos 0 ∷ pos 1 ∷ ready ∷ pos 1 ∷ deadline ∷ []
+
+-- Six jobs of weight 50.
+abbrev heavySix : List ℤ
+heavySix = weighing 1 50 ++ weighing 2 50 ++ weighing 3 50 ++ weighing 4 50 ++ weighing 5 50 ++ weighing 6 50
+
+-- Packing with the bus free at 0 and room enough, and unpacking with room enough.
+abbrev packing : List ℤ → Verdict
+packing zs = judge (packChecks (pos 0) zs 388)
+
+abbrev unpacking : List ℕ → Verdict
+unpacking bytes = judge (unpackChecks bytes 288)
+
+-- ---- the list
+
+pub record Edge : Type 0 where
+  pub asked : Verdict
+  pub told : Verdict
+
+abbrev edge : Verdict → Verdict → Edge
+edge a b = record { asked = a; told = b }
+
+abbrev pub edges : List Edge
+edges =
+    -- 1: three bytes, and four
+    edge (unpacking (0 ∷ 0 ∷ 0 ∷ [])) (refused 1 0)
+    ∷ edge (unpacking (0 ∷ 0 ∷ 0 ∷ 0 ∷ [])) fine
+    -- 2 before 3, 3 before 4, and a record that is missing
+    ∷ edge (unpacking (255 ∷ 0 ∷ 0 ∷ 1 ∷ [])) (refused 2 0)
+    ∷ edge (unpacking (196 ∷ 0 ∷ 0 ∷ 0 ∷ [])) (refused 3 0)
+    ∷ edge (unpacking (192 ∷ 0 ∷ 0 ∷ 0 ∷ [])) (refused 4 0)
+    -- in packing: 289 numbers, 287, and 288 of jobs out of range
+    ∷ edge (packing (replicate 289 (pos 0))) (refused 3 0)
+    ∷ edge (packing (replicate 287 (pos 0))) (refused 4 0)
+    ∷ edge (packing (replicate 288 (pos 0))) (refused 6 0)
+    -- 5: the bus free at 100,000, at 100,001, and at -100,001
+    ∷ edge (unpacking (1 ∷ 0x86 ∷ 0xA0 ∷ 0 ∷ [])) fine
+    ∷ edge (unpacking (1 ∷ 0x86 ∷ 0xA1 ∷ 0 ∷ [])) (refused 5 0)
+    ∷ edge (judge (packChecks (negsuc 100000) [] 4)) (refused 5 0)
+    -- 6: lengths, in packing and in unpacking
+    ∷ edge (packing (weighing 1 1 ++ job 2 (pos 0) (pos 1) (pos 10000))) fine
+    ∷ edge (packing (weighing 1 1 ++ job 2 (pos 0) (pos 1) (pos 10001))) (refused 6 1)
+    ∷ edge (packing (weighing 1 1 ++ job 2 (pos 0) (pos 1) (pos 0))) (refused 6 1)
+    ∷ edge (unpacking (packOrder (pos 0) (weighing 1 1 ++ job 2 (pos 0) (pos 1) (pos 10001)))) (refused 6 1)
+    -- numbers and marks
+    ∷ edge (packing (job 63 (pos 1) (pos 0) (pos 1))) fine
+    ∷ edge (packing (job 64 (pos 1) (pos 0) (pos 1))) (refused 6 0)
+    ∷ edge (packing (job 2 (pos 2) (pos 1) (pos 1))) (refused 6 0)
+    ∷ edge (packing (job 2 (negsuc 0) (pos 0) (pos 1))) (refused 6 0)
+    -- weights, critical and not
+    ∷ edge (packing (job 2 (pos 1) (pos 1) (pos 1))) (refused 6 0)
+    ∷ edge (packing (weighing 2 0)) (refused 6 0)
+    ∷ edge (packing (weighing 2 51)) (refused 6 0)
+    -- ready times and deadlines
+    ∷ edge (packing (timed (negsuc 99999) (pos 100000))) fine
+    ∷ edge (packing (timed (negsuc 100000) (pos 100000))) (refused 6 0)
+    ∷ edge (packing (timed (negsuc 99999) (pos 100001))) (refused 6 0)
+    -- 7: the numbers 4, 9, 4, 9; and not where a job is out of range
+    ∷ edge (packing (weighing 4 1 ++ weighing 9 1 ++ weighing 4 1 ++ weighing 9 1)) (refused 7 2)
+    ∷ edge (packing (weighing 4 1 ++ weighing 4 1 ++ weighing 9 0)) (refused 6 2)
+    -- 9: six weights of 50, and one more of 1
+    ∷ edge (packing heavySix) fine
+    ∷ edge (packing (heavySix ++ weighing 7 1)) (refused 9 0)
+    -- 10: room that is just enough, and one short; no jobs at all
+    ∷ edge (judge (packChecks (pos 0) [] 4)) fine
+    ∷ edge (judge (packChecks (pos 0) [] 3)) (refused 10 0)
+    ∷ edge (judge (unpackChecks (packOrder (pos 0) (weighing 1 1)) 6)) fine
+    ∷ edge (judge (unpackChecks (packOrder (pos 0) (weighing 1 1)) 5)) (refused 10 0)
+    ∷ []
+
+-- Every edge is where document 01 has it.
+pub edges-hold : map (λ (e : Edge). e .asked) edges ≡ map (λ (e : Edge). e .told) edges
+unfolding decode encode numberOf bytesOf bitsTo toBits part flat each first headerWord headerOf countOf t0Of spareOf
+    recordAt jobWord jobFields numbersOf jobCount fieldsAt packedHeader packedJob packOrder jobOf jobsOf
+    fieldsWithin firstBad numberAt firstRepeat headerChecks listChecks jobChecks weightChecks
+edges-hold = refl

@@ -1,0 +1,123 @@
+-- An order in bytes and in numbers: what the bytes say, the bytes of some numbers, and the order that either means.
+-- Definitions only.
+use Prim.Native.Nat.{ℕ, _/_}
+use mathlib.Core.Bool.{Bool}
+use mathlib.Core.List.{List, [], _∷_, _++_}
+use lib.Dec.{eqb}
+use lib.IntN.{ℤ, pos, natAbs}
+use lib.ListN.{length, take, drop, getD}
+use Rattle.order.specs.Job.{Job, Order, oneRate}
+use Rattle.packed.specs.Layout.{decode, encode, numberOf, bytesOf, headerLayout}
+use Rattle.packed.specs.Layout.{jobLayout, headerBytes, jobBytes, jobNumbers}
+use Rattle.packed.specs.Places.{part, flat, each}
+
+-- ---- what the bytes say
+
+-- The number of the header's bytes.
+unfoldable pub headerWord : List ℕ → ℕ
+headerWord bytes = numberOf (take headerBytes bytes)
+
+-- The header's numbers.
+unfoldable pub headerOf : List ℕ → List ℤ
+headerOf bytes = decode headerLayout (headerWord bytes)
+
+-- How many jobs.
+unfoldable pub countOf : List ℕ → ℕ
+countOf bytes = natAbs (getD (headerOf bytes) 0 (pos 0))
+
+-- The bus-free time.
+unfoldable pub t0Of : List ℕ → ℤ
+t0Of bytes = getD (headerOf bytes) 1 (pos 0)
+
+-- The spare bits.
+unfoldable pub spareOf : List ℕ → ℕ
+spareOf bytes = natAbs (getD (headerOf bytes) 2 (pos 0))
+
+-- The bytes of the job at a place.
+unfoldable pub recordAt : List ℕ → ℕ → List ℕ
+recordAt bytes k = part jobBytes (drop headerBytes bytes) k
+
+-- The number that they make.
+unfoldable pub jobWord : List ℕ → ℕ → ℕ
+jobWord bytes k = numberOf (recordAt bytes k)
+
+-- The numbers of that job.
+unfoldable pub jobFields : List ℕ → ℕ → List ℤ
+jobFields bytes k = decode jobLayout (jobWord bytes k)
+
+-- The numbers of all jobs.
+unfoldable pub numbersOf : List ℕ → List ℤ
+numbersOf bytes = flat (jobFields bytes) (countOf bytes)
+
+-- ---- the bytes of a bus-free time and the numbers of all jobs
+
+-- How many jobs have all their numbers.
+unfoldable pub jobCount : List ℤ → ℕ
+jobCount zs = length zs / jobNumbers
+
+-- The numbers of the job at a place.
+unfoldable pub fieldsAt : List ℤ → ℕ → List ℤ
+fieldsAt zs k = part jobNumbers zs k
+
+-- The header's bytes.
+unfoldable pub packedHeader : ℕ → ℤ → List ℕ
+packedHeader n t0 = bytesOf headerBytes (encode headerLayout (pos n ∷ t0 ∷ pos 0 ∷ []))
+
+-- The bytes of the job at a place.
+unfoldable pub packedJob : List ℤ → ℕ → List ℕ
+packedJob zs k = bytesOf jobBytes (encode jobLayout (fieldsAt zs k))
+
+-- All bytes.
+unfoldable pub packOrder : ℤ → List ℤ → List ℕ
+packOrder t0 zs = packedHeader (jobCount zs) t0 ++ flat (packedJob zs) (jobCount zs)
+
+-- ---- a job's numbers by name, in the sequence of the layout
+
+abbrev pub theNumber : List ℤ → ℤ
+theNumber zs = getD zs 0 (pos 0)
+
+abbrev pub theMark : List ℤ → ℤ
+theMark zs = getD zs 1 (pos 0)
+
+abbrev pub theWeight : List ℤ → ℤ
+theWeight zs = getD zs 2 (pos 0)
+
+abbrev pub theReady : List ℤ → ℤ
+theReady zs = getD zs 3 (pos 0)
+
+abbrev pub theLength : List ℤ → ℤ
+theLength zs = getD zs 4 (pos 0)
+
+abbrev pub theDeadline : List ℤ → ℤ
+theDeadline zs = getD zs 5 (pos 0)
+
+-- The mark of a critical job is 1.
+abbrev pub isCritical : List ℤ → Bool
+isCritical zs = eqb (natAbs (theMark zs)) 1
+
+-- ---- the jobs and the order
+
+-- The job of its numbers.
+unfoldable pub jobOf : List ℤ → Job
+jobOf zs =
+    oneRate (natAbs (theNumber zs)) (isCritical zs) (natAbs (theWeight zs)) (theReady zs) (natAbs (theLength zs)) (theDeadline zs)
+
+-- The job at a place, in numbers.
+abbrev pub jobAt : List ℤ → ℕ → Job
+jobAt zs k = jobOf (fieldsAt zs k)
+
+-- The job at a place, in bytes.
+abbrev pub jobIn : List ℕ → ℕ → Job
+jobIn bytes k = jobOf (jobFields bytes k)
+
+-- All jobs of some numbers.
+unfoldable pub jobsOf : List ℤ → List Job
+jobsOf zs = each (jobAt zs) 0 (jobCount zs)
+
+-- The order of a bus-free time and numbers.
+abbrev pub orderFrom : ℤ → List ℤ → Order
+orderFrom t0 zs = record { t0 = t0; jobs = jobsOf zs }
+
+-- The order that bytes say.
+unfoldable pub orderOf : List ℕ → Order
+orderOf bytes = orderFrom (t0Of bytes) (numbersOf bytes)

@@ -1,0 +1,128 @@
+-- The refusals of orders. Checks 1 to 7, 9 and 10 stand here once each, in stages: a call's refusals are the stages that it
+-- names, one behind the other. Checks 6, 7 and 9 are over the numbers of all jobs, for bytes and for numbers alike.
+-- Definitions only.
+use Prim.Native.Nat.{ℕ, _+_, _*_, _%_}
+use mathlib.Core.Bool.{Bool, true, not, cond, _&&_}
+use mathlib.Core.List.{List, [], _∷_, _++_}
+use lib.Dec.{ltb, eqb}
+use lib.IntN.{ℤ, pos}
+use lib.ListN.{length}
+use lib.Signed.{leZ}
+use Rattle.seconds.specs.Limits.{longest, heaviest, mostWeight, mostJobs}
+use Rattle.seconds.specs.Ranges.{isBetween, isTime}
+use Rattle.order.specs.Job.{weightOf}
+use Rattle.packed.specs.Layout.{headerBytes, jobBytes, jobNumbers}
+use Rattle.packed.specs.Places.{first}
+use Rattle.packed.specs.Judge.{Check, check, checkAt}
+use Rattle.packed.specs.Packed.{countOf, t0Of, spareOf, numbersOf, jobCount, fieldsAt, theNumber}
+use Rattle.packed.specs.Packed.{theMark, theWeight, theReady, theLength, theDeadline, isCritical, jobsOf}
+
+-- ---- one job
+
+-- A critical job has weight 0, any other 1 to 50.
+abbrev pub weightTest : Bool → ℤ → Bool
+weightTest critical w = cond critical (isBetween (pos 0) (pos 0) w) (isBetween (pos 1) (pos heaviest) w)
+
+-- Each number of a job against its limits, in the sequence of the layout.
+abbrev pub fieldTests : List ℤ → List Bool
+fieldTests zs =
+    isBetween (pos 0) (pos 63) (theNumber zs)
+    ∷ isBetween (pos 0) (pos 1) (theMark zs)
+    ∷ weightTest (isCritical zs) (theWeight zs)
+    ∷ isTime (theReady zs)
+    ∷ isBetween (pos 1) (pos longest) (theLength zs)
+    ∷ isTime (theDeadline zs)
+    ∷ []
+
+-- Every test is passed.
+abbrev pub allTrue : List Bool → Bool
+allTrue [] = true
+allTrue (b ∷ bs) = b && allTrue bs
+
+-- A job's numbers are within their limits.
+unfoldable pub fieldsWithin : List ℤ → Bool
+fieldsWithin zs = allTrue (fieldTests zs)
+
+-- ---- all jobs
+
+-- A place whose job is out of range.
+abbrev pub badAt : List ℤ → ℕ → Bool
+badAt zs k = not (fieldsWithin (fieldsAt zs k))
+
+-- The first such place.
+unfoldable pub firstBad : List ℤ → ℕ
+firstBad zs = first (badAt zs) 0 (jobCount zs)
+
+-- The number of the job at a place.
+unfoldable pub numberAt : List ℤ → ℕ → ℤ
+numberAt zs k = theNumber (fieldsAt zs k)
+
+-- Whether two numbers are the same.
+abbrev pub same : ℤ → ℤ → Bool
+same x y = leZ x y && leZ y x
+
+-- Whether the number at a place j is that at k.
+abbrev pub sameAt : List ℤ → ℕ → ℕ → Bool
+sameAt zs k j = same (numberAt zs j) (numberAt zs k)
+
+-- The first place before k that has the number at k; k if none has.
+abbrev pub firstLike : List ℤ → ℕ → ℕ
+firstLike zs k = first (sameAt zs k) 0 k
+
+-- A place whose number stood earlier.
+abbrev pub repeatedAt : List ℤ → ℕ → Bool
+repeatedAt zs k = ltb (firstLike zs k) k
+
+-- The first such place.
+unfoldable pub firstRepeat : List ℤ → ℕ
+firstRepeat zs = first (repeatedAt zs) 0 (jobCount zs)
+
+-- ---- the checks, in stages
+
+-- 1 to 5 on bytes.
+unfoldable pub headerChecks : List ℕ → List Check
+headerChecks bytes =
+    check 1 (ltb (length bytes) headerBytes)
+    ∷ check 2 (not (eqb (spareOf bytes) 0))
+    ∷ check 3 (ltb mostJobs (countOf bytes))
+    ∷ check 4 (not (eqb (length bytes) (headerBytes + jobBytes * countOf bytes)))
+    ∷ check 5 (not (isTime (t0Of bytes)))
+    ∷ []
+
+-- 3 to 5 on a bus-free time and numbers, in packing.
+unfoldable pub listChecks : ℤ → List ℤ → List Check
+listChecks t0 zs =
+    check 3 (ltb (jobNumbers * mostJobs) (length zs))
+    ∷ check 4 (not (eqb (length zs % jobNumbers) 0))
+    ∷ check 5 (not (isTime t0))
+    ∷ []
+
+-- 6 and 7 on the numbers of all jobs.
+unfoldable pub jobChecks : List ℤ → List Check
+jobChecks zs = checkAt 6 (firstBad zs) (jobCount zs) ∷ checkAt 7 (firstRepeat zs) (jobCount zs) ∷ []
+
+-- 9, with the weight that is there before the jobs.
+unfoldable pub weightChecks : ℕ → List ℤ → List Check
+weightChecks before zs = check 9 (ltb mostWeight (before + weightOf (jobsOf zs))) ∷ []
+
+-- 10: how much room is needed, and how much there is.
+abbrev pub roomChecks : ℕ → ℕ → List Check
+roomChecks need room = check 10 (ltb room need) ∷ []
+
+-- ---- the checks of an order, and of the two calls
+
+-- Whether bytes are an order.
+abbrev pub orderChecks : List ℕ → List Check
+orderChecks bytes = headerChecks bytes ++ jobChecks (numbersOf bytes) ++ weightChecks 0 (numbersOf bytes)
+
+-- Whether a bus-free time and numbers are.
+abbrev pub numberChecks : ℤ → List ℤ → List Check
+numberChecks t0 zs = listChecks t0 zs ++ jobChecks zs ++ weightChecks 0 zs
+
+-- Unpacking, with room for so many numbers.
+abbrev pub unpackChecks : List ℕ → ℕ → List Check
+unpackChecks bytes room = orderChecks bytes ++ roomChecks (jobNumbers * countOf bytes) room
+
+-- Packing, with room for so many bytes.
+abbrev pub packChecks : ℤ → List ℤ → ℕ → List Check
+packChecks t0 zs room = numberChecks t0 zs ++ roomChecks (headerBytes + jobBytes * jobCount zs) room
