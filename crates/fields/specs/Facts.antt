@@ -1,0 +1,189 @@
+-- What callers read by name: a job within its limits, a job and a header that were read.
+use Prim.Native.Nat.{ℕ, _+_, _*_}
+use mathlib.Core.Path.{_≡_, refl, sym, ap, _∙_}
+use mathlib.Core.Bool.{Bool, true, _&&_, and-assoc, and-true}
+use mathlib.Core.Logic.{_↔_}
+use mathlib.Core.List.{List}
+use lib.Dec.{eqb}
+use lib.IntN.{ℤ, pos, negsuc, natAbs}
+use lib.ListN.{getD, take, drop}
+use lib.Signed.{_≤ℤ_}
+use mir.Syntax.{w32}
+use mir.Val.{SFits, toZ, ofZ}
+use mir.Facts.{toZ-ofZ}
+use borrow.Table.Steps.{cases}
+use Rattle.seconds.specs.Limits.{heaviest, longest}
+use Rattle.seconds.specs.Signed.{signed, abs-is}
+use Rattle.seconds.specs.Ranges.{Between, isBetween, InTime, isTime, between-true, time-fits}
+use Rattle.packed.specs.Layout.{decode, numberOf, jobLayout}
+use Rattle.packed.specs.Packed.{headerOf, countOf, t0Of, spareOf, jobFields, fieldsAt}
+use Rattle.packed.specs.PackedLaws.{fields-is, word-is}
+use Rattle.packed.specs.Places.{part}
+use Rattle.packed.specs.Refusals.{weightTest, fieldsWithin}
+use Rattle.packed.specs.RefusalLaws.{within-is}
+use Rattle.fields.specs.Fields.{fieldsOf, headerFields}
+use Rattle.fields.specs.declared.Job.{Job}
+use Rattle.fields.specs.declared.Header.{Header}
+
+-- ---- a job
+
+-- Each number of a job within its limits.
+pub record JobFacts (j : Job) : Type 0 where
+  pub number : Between (pos 0) (pos 63) (j .number)
+  pub critical : Between (pos 0) (pos 1) (j .critical)
+  pub weight : Between (pos 0) (pos heaviest) (j .weight)
+  pub weightless : j .critical ≡ pos 1 → j .weight ≡ pos 0
+  pub weighty : j .critical ≡ pos 0 → pos 1 ≤ℤ j .weight
+  pub ready : InTime (j .ready)
+  pub long : Between (pos 1) (pos longest) (j .length)
+  pub deadline : InTime (j .deadline)
+
+-- The weight, by the mark.
+pub record WeightFacts (mark weight : ℤ) : Type 0 where
+  pub range : Between (pos 0) (pos heaviest) weight
+  pub weightless : mark ≡ pos 1 → weight ≡ pos 0
+  pub weighty : mark ≡ pos 0 → pos 1 ≤ℤ weight
+
+weight-facts : (mark weight : ℤ) → weightTest (eqb (natAbs mark) 1) weight ≡ true → WeightFacts mark weight
+weight-facts mark weight h = cases (eqb (natAbs mark) 1)
+    (λ e. let r : Between (pos 0) (pos 0) weight = between-true _ _ _ .0 (rw e at h) in
+    record { range = omega signed; weightless = λ k. omega signed; weighty = λ k. omega (signed, abs-is mark) })
+    (λ e. let r : Between (pos 1) (pos heaviest) weight = between-true _ _ _ .0 (rw e at h) in
+    record { range = omega signed; weightless = λ k. omega (signed, abs-is mark); weighty = λ k. omega signed })
+
+facts-weight : (mark weight : ℤ) → Between (pos 0) (pos 1) mark → WeightFacts mark weight
+    → weightTest (eqb (natAbs mark) 1) weight ≡ true
+facts-weight mark weight m f = cases (eqb (natAbs mark) 1)
+    (λ e. let z = f .weightless (omega (signed, abs-is mark)) in rw e (between-true (pos 0) (pos 0) weight .1 (omega signed)))
+    (λ e. let z = f .weighty (omega (signed, abs-is mark)) in rw e (between-true (pos 1) (pos heaviest) weight .1 (omega signed)))
+
+-- The test says so.
+pub job-facts : (j : Job) → fieldsWithin (fieldsOf j) ≡ true ↔ JobFacts j
+job-facts j = (there, back)
+  where
+    there : fieldsWithin (fieldsOf j) ≡ true → JobFacts j
+    there e =
+        let w = within-is (fieldsOf j) .0 e in
+        let f = weight-facts (j .critical) (j .weight) (w .weight) in
+        record {
+          number = w .number;
+          critical = w .mark;
+          weight = f .range;
+          weightless = f .weightless;
+          weighty = f .weighty;
+          ready = w .ready;
+          long = w .long;
+          deadline = w .deadline;
+        }
+
+    back : JobFacts j → fieldsWithin (fieldsOf j) ≡ true
+    back f =
+        let w : WeightFacts (j .critical) (j .weight) =
+        record { range = f .weight; weightless = f .weightless; weighty = f .weighty } in
+        within-is (fieldsOf j) .1
+        (record {
+          number = f .number;
+          mark = f .critical;
+          weight = facts-weight (j .critical) (j .weight) (f .critical) w;
+          ready = f .ready;
+          long = f .long;
+          deadline = f .deadline;
+        })
+
+-- Each number of a job is an i32, and so it is what its bits say.
+pub record JobFits (j : Job) : Type 0 where
+  pub number : SFits w32 (j .number)
+  pub critical : SFits w32 (j .critical)
+  pub weight : SFits w32 (j .weight)
+  pub ready : SFits w32 (j .ready)
+  pub long : SFits w32 (j .length)
+  pub deadline : SFits w32 (j .deadline)
+
+-- Within the limits they are.
+pub facts-fit : (j : Job) → JobFacts j → JobFits j
+facts-fit j f =
+    record {
+      number = omega (signed, f .number);
+      critical = omega (signed, f .critical);
+      weight = omega (signed, f .weight);
+      ready = time-fits (f .ready);
+      long = omega (signed, f .long);
+      deadline = time-fits (f .deadline);
+    }
+
+-- A job made anew from the bits of its numbers.
+abbrev pub fromBits : Job → Job
+fromBits j =
+    record {
+      number = toZ w32 (ofZ w32 (j .number));
+      critical = toZ w32 (ofZ w32 (j .critical));
+      weight = toZ w32 (ofZ w32 (j .weight));
+      ready = toZ w32 (ofZ w32 (j .ready));
+      length = toZ w32 (ofZ w32 (j .length));
+      deadline = toZ w32 (ofZ w32 (j .deadline));
+    }
+
+-- It is the job.
+pub fields-kept : (j : Job) → JobFits j → fieldsOf (fromBits j) ≡ fieldsOf j
+fields-kept j f =
+    rw (toZ-ofZ (f .number), toZ-ofZ (f .critical), toZ-ofZ (f .weight), toZ-ofZ (f .ready), toZ-ofZ (f .long), toZ-ofZ (f .deadline))
+
+-- ---- the tests as the code makes them
+
+all-six : (a b c d e f : Bool) → (a && b && c && d && e && f) ≡ (a && (b && (c && (d && (e && (f && true))))))
+all-six a b c d e f = simp (and-assoc, and-true)
+
+-- The mark is compared as its bits.
+mark-tested : (mark weight : ℤ) (b : Bool)
+    → (isBetween (pos 0) (pos 1) mark && (weightTest (eqb (ofZ w32 mark) 1) weight && b))
+    ≡ (isBetween (pos 0) (pos 1) mark && (weightTest (eqb (natAbs mark) 1) weight && b))
+mark-tested (pos n) weight b = refl
+mark-tested (negsuc n) weight b = refl
+
+-- The six tests together.
+pub job-tested : (j : Job)
+    → (isBetween (pos 0) (pos 63) (j .number) && isBetween (pos 0) (pos 1) (j .critical)
+    && weightTest (eqb (ofZ w32 (j .critical)) 1) (j .weight) && isTime (j .ready)
+    && isBetween (pos 1) (pos longest) (j .length) && isTime (j .deadline))
+    ≡ fieldsWithin (fieldsOf j)
+unfolding fieldsWithin
+job-tested j =
+    let number = isBetween (pos 0) (pos 63) (j .number) in
+    let critical = isBetween (pos 0) (pos 1) (j .critical) in
+    let ready = isTime (j .ready) in
+    let long = isBetween (pos 1) (pos longest) (j .length) in
+    let deadline = isTime (j .deadline) in
+    all-six number critical (weightTest (eqb (ofZ w32 (j .critical)) 1) (j .weight)) ready long deadline
+    ∙ ap (λ b. number && b) (mark-tested (j .critical) (j .weight) (ready && (long && (deadline && true))))
+
+-- ---- a job that was read
+
+-- Read at the place of a record, it has the numbers of that job.
+pub read-at : (bytes : List ℕ) (k at : ℕ) (j : Job) → at ≡ 4 + 8 * k
+    → fieldsOf j ≡ decode jobLayout (numberOf (take 8 (drop at bytes))) → fieldsOf j ≡ jobFields bytes k
+read-at bytes k at j e r =
+    r ∙ ap (λ i. decode jobLayout (numberOf (take 8 (drop i bytes)))) e
+    ∙ sym (fields-is bytes k ∙ ap (decode jobLayout) (word-is bytes k))
+
+-- The same among numbers.
+pub read-from : (zs : List ℤ) (k at : ℕ) (j : Job) → at ≡ 6 * k → fieldsOf j ≡ take 6 (drop at zs) → fieldsOf j ≡ fieldsAt zs k
+unfolding fieldsAt part
+read-from zs k at j e r = r ∙ ap (λ i. take 6 (drop i zs)) e
+
+-- ---- a header
+
+-- What a header that was read from bytes says of them.
+pub record HeaderRead (bytes : List ℕ) (h : Header) : Type 0 where
+  pub count : h .count ≡ countOf bytes
+  pub t0 : h .t0 ≡ t0Of bytes
+  pub spare : h .spare ≡ spareOf bytes
+
+-- Its numbers say so.
+pub header-read : (bytes : List ℕ) (h : Header) → headerFields h ≡ headerOf bytes → HeaderRead bytes h
+unfolding countOf t0Of spareOf
+header-read bytes h e =
+    record {
+      count = ap (λ zs. natAbs (getD zs 0 (pos 0))) e;
+      t0 = ap (λ zs. getD zs 1 (pos 0)) e;
+      spare = ap (λ zs. natAbs (getD zs 2 (pos 0))) e;
+    }

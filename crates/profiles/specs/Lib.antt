@@ -1,0 +1,10 @@
+-- Profiles held as alternating numbers: what the calls over them answer, and the laws behind the code.
+pub mod Numbers
+pub mod Answer
+pub mod NumbersLaws
+pub mod OnePass
+pub mod ByTime
+pub mod AnswerLaws
+pub mod Places
+pub mod Writing
+pub mod Determined
