@@ -1,0 +1,119 @@
+-- `judge::judge_header` meets its contract: the tests are those of the checks, one after the other.
+-- Assumes nothing.
+use mathlib.Core.Path.{_≡_, sym, _∙_, ap}
+use Prim.Native.Nat.{ℕ, _+_, _*_}
+use mathlib.Core.List.{List}
+use denote.Ref.{now}
+use lib.ListN.{length}
+use mir.Syntax.{w32}
+use mir.Val.{SFits}
+use mir.Facts.{toZ-ofZ}
+use borrow.Author.Needs.{needs}
+use borrow.Author.Tests.{lt-ltb, le-ltb, eq-eqb, ne-eqb, not-true, not-false}
+use Rattle.seconds.specs.Ranges.{isTime}
+use Rattle.packed.specs.Steps.{header-judge}
+use Rattle.fields.specs.Facts.{HeaderRead, header-read}
+use Rattle.fields.specs.declared.Header.{Header}
+use Rattle.judge.specs.Told.{header-told}
+use Rattle.judge.proofs.judge_header.Statement.{statement}
+use Rattle.judge.proofs.judge_header.Tie as tie
+
+returns : tie.Need-returns
+returns c =
+    let bytes = now (c .before .before .args .bytes) in
+    rw (header-judge bytes, lt-ltb (length bytes) 4 (c .if1 .taken))
+
+header-at-requires : tie.Need-header-at-requires
+header-at-requires c κs = search needs
+
+-- Past the first test, the header has been read.
+module _ (c : tie.After-struct-told) where
+  abbrev bytes : List ℕ
+  bytes = now (c .before .before .before .before .args .bytes)
+
+  abbrev header : Header
+  header = c .before .header-at .result
+
+  says : HeaderRead bytes header
+  says = header-read bytes header (c .before .header-at .ensures)
+
+  t0-fits : SFits w32 (header .t0)
+  t0-fits = record { sfits = c .struct-told .given .1 .0 .1 }
+
+returns-2 : tie.Need-returns-2
+returns-2 c =
+    let h = c .before in
+    rw (
+      header-told (bytes h) (header h) (says h),
+      le-ltb (length (bytes h)) 4 (h .before .before .if1 .left),
+      ne-eqb (header h .spare) 0 (c .if2 .taken),
+    )
+
+returns-3 : tie.Need-returns-3
+returns-3 c =
+    let h = c .before .before in
+    rw (
+      header-told (bytes h) (header h) (says h),
+      le-ltb (length (bytes h)) 4 (h .before .before .if1 .left),
+      eq-eqb (header h .spare) 0 (c .before .if2 .left),
+      lt-ltb 48 (header h .count) (c .if3 .taken),
+    )
+
+mul-if4 : tie.Need-mul-if4
+mul-if4 c = search needs
+
+add-if4 : tie.Need-add-if4
+add-if4 c = search needs
+
+returns-4 : tie.Need-returns-4
+returns-4 c =
+    let h = c .before .before .before in
+    rw (
+      header-told (bytes h) (header h) (says h),
+      le-ltb (length (bytes h)) 4 (h .before .before .if1 .left),
+      eq-eqb (header h .spare) 0 (c .before .before .if2 .left),
+      le-ltb 48 (header h .count) (c .before .if3 .left),
+      ne-eqb (length (bytes h)) (4 + 8 * header h .count) (c .if4 .taken),
+    )
+
+is-time-requires : tie.Need-is-time-requires
+is-time-requires c κs = search needs
+
+-- Past the fourth test, the bus-free time has been tested.
+module _ (c : tie.After-is-time) where
+  abbrev read : tie.After-struct-told
+  read = c .before .before .before .before
+
+  timely : c .is-time .result ≡ isTime (header read .t0)
+  timely = c .is-time .ensures ∙ ap isTime (toZ-ofZ (t0-fits read))
+
+returns-5 : tie.Need-returns-5
+returns-5 c =
+    let e = c .before in
+    let h = read e in
+    rw (
+      header-told (bytes h) (header h) (says h),
+      le-ltb (length (bytes h)) 4 (h .before .before .if1 .left),
+      eq-eqb (header h .spare) 0 (e .before .before .before .if2 .left),
+      le-ltb 48 (header h .count) (e .before .before .if3 .left),
+      eq-eqb (length (bytes h)) (4 + 8 * header h .count) (e .before .if4 .left),
+      sym (timely e) ∙ not-true (e .is-time .result) (c .if5 .taken),
+    )
+
+returns-6 : tie.Need-returns-6
+returns-6 c =
+    let e = c .before in
+    let h = read e in
+    rw (
+      header-told (bytes h) (header h) (says h),
+      le-ltb (length (bytes h)) 4 (h .before .before .if1 .left),
+      eq-eqb (header h .spare) 0 (e .before .before .before .if2 .left),
+      le-ltb 48 (header h .count) (e .before .before .if3 .left),
+      eq-eqb (length (bytes h)) (4 + 8 * header h .count) (e .before .if4 .left),
+      sym (timely e) ∙ not-false (e .is-time .result) (c .if5 .left),
+    )
+
+pub judge-header-spec : {M : Type 1} → statement M
+judge-header-spec =
+    tie.close
+    (tie.spec returns header-at-requires returns-2 returns-3 mul-if4 add-if4 returns-4 is-time-requires returns-5 returns-6)

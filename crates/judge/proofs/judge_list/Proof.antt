@@ -1,0 +1,65 @@
+-- `judge::judge_list` meets its contract: the tests are those of the checks, one after the other.
+-- Assumes nothing.
+use mathlib.Core.Path.{_≡_, sym, _∙_, ap}
+use Prim.Native.Nat.{_%_}
+use denote.Ref.{now}
+use lib.ListN.{length}
+use mir.Facts.{toZ-ofZ}
+use borrow.Author.Needs.{needs}
+use borrow.Author.Tests.{lt-ltb, le-ltb, eq-eqb, ne-eqb, not-true, not-false}
+use Rattle.seconds.specs.Ranges.{isTime}
+use Rattle.packed.specs.Steps.{list-judge}
+use Rattle.judge.proofs.judge_list.Statement.{statement}
+use Rattle.judge.proofs.judge_list.Tie as tie
+
+mul-if1 : tie.Need-mul-if1
+mul-if1 c = search needs
+
+returns : tie.Need-returns
+returns c =
+    let zs = now (c .before .args .given) in
+    rw (list-judge (c .before .args .t0) zs, lt-ltb 288 (length zs) (c .if1 .taken))
+
+returns-2 : tie.Need-returns-2
+returns-2 c =
+    let a = c .before .before in
+    let zs = now (a .args .given) in
+    rw (
+      list-judge (a .args .t0) zs,
+      le-ltb 288 (length zs) (c .before .if1 .left),
+      ne-eqb (length zs % 6) 0 (c .if2 .taken),
+    )
+
+is-time-requires : tie.Need-is-time-requires
+is-time-requires c κs = search needs
+
+-- The bus-free time has been tested.
+timely : (c : tie.After-is-time) → c .is-time .result ≡ isTime (c .before .before .before .args .t0)
+timely c = c .is-time .ensures ∙ ap isTime (toZ-ofZ (c .before .before .before .fits .t0))
+
+returns-3 : tie.Need-returns-3
+returns-3 c =
+    let e = c .before in
+    let a = e .before .before .before in
+    let zs = now (a .args .given) in
+    rw (
+      list-judge (a .args .t0) zs,
+      le-ltb 288 (length zs) (e .before .before .if1 .left),
+      eq-eqb (length zs % 6) 0 (e .before .if2 .left),
+      sym (timely e) ∙ not-true (e .is-time .result) (c .if3 .taken),
+    )
+
+returns-4 : tie.Need-returns-4
+returns-4 c =
+    let e = c .before in
+    let a = e .before .before .before in
+    let zs = now (a .args .given) in
+    rw (
+      list-judge (a .args .t0) zs,
+      le-ltb 288 (length zs) (e .before .before .if1 .left),
+      eq-eqb (length zs % 6) 0 (e .before .if2 .left),
+      sym (timely e) ∙ not-false (e .is-time .result) (c .if3 .left),
+    )
+
+pub judge-list-spec : {M : Type 1} → statement M
+judge-list-spec = tie.close (tie.spec mul-if1 returns returns-2 is-time-requires returns-3 returns-4)

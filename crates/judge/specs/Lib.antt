@@ -1,0 +1,7 @@
+-- The checks of an order: the answer of each call, and what the code's loops say on the way.
+pub mod Verdicts
+pub mod Repeats
+pub mod RepeatLaws
+pub mod Loops
+pub mod Told
+pub mod Passed

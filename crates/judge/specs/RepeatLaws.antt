@@ -1,0 +1,76 @@
+-- One step of the search for a number that stood earlier, over a list of numbers; and that it is the search of check 7.
+use Prim.Native.Nat.{ℕ, _+_, _<_}
+use mathlib.Core.Path.{_≡_, refl, sym, ap, _∙_}
+use mathlib.Core.Bool.{Bool}
+use mathlib.Core.Logic.{_≢_}
+use mathlib.Core.List.{List}
+use native.Mathlib.Omega.{arith}
+use lib.Dec.{ltb, eqb}
+use lib.IntN.{ℤ, pos}
+use lib.ListN.{length, getD}
+use borrow.Author.Tests.{lt-ltb, le-ltb, eq-eqb, ne-eqb, eqb-true, eqb-false}
+use borrow.Table.Steps.{cases}
+use Rattle.seconds.specs.Signed.{signed}
+use Rattle.packed.specs.Places.{first}
+use Rattle.packed.specs.PlacesLaws.{IsFirst, first-is, first-unique, first-on, first-here}
+use Rattle.packed.specs.Packed.{jobCount}
+use Rattle.packed.specs.Refusals.{numberAt, same, sameAt, repeatedAt, firstRepeat}
+use Rattle.packed.specs.RefusalLaws.{same-yes, same-no}
+use Rattle.judge.specs.Repeats.{alike, stoodEarlier, firstAgain}
+
+-- ---- the steps
+
+-- From the first place.
+pub again-from-0 : (ns : List ℕ) → firstAgain ns ≡ first (stoodEarlier ns) 0 (length ns)
+unfolding firstAgain
+again-from-0 ns = refl
+
+-- Unlike the number at an earlier place: on to the next of them.
+pub alike-on : (ns : List ℕ) (earlier later : ℕ) → earlier < later → getD ns earlier 0 ≢ getD ns later 0
+    → first (alike ns later) earlier later ≡ first (alike ns later) (earlier + 1) later
+alike-on ns earlier later h n = first-on (alike ns later) earlier later h (ne-eqb (getD ns earlier 0) (getD ns later 0) n)
+
+-- Like the number at an earlier place: the search ends.
+pub again-here : (ns : List ℕ) (earlier later : ℕ) → later < length ns → earlier < later → getD ns earlier 0 ≡ getD ns later 0
+    → first (alike ns later) 0 later ≡ first (alike ns later) earlier later
+    → first (stoodEarlier ns) later (length ns) ≡ later
+again-here ns earlier later b h e s =
+    let there : first (alike ns later) 0 later ≡ earlier =
+    s ∙ first-here (alike ns later) earlier later h (eq-eqb (getD ns earlier 0) (getD ns later 0) e) in
+    first-here (stoodEarlier ns) later (length ns) b (rw there (lt-ltb earlier later h))
+
+-- Unlike all of them: on to the next place.
+pub again-on : (ns : List ℕ) (later : ℕ) → later < length ns → first (alike ns later) 0 later ≡ later
+    → first (stoodEarlier ns) later (length ns) ≡ first (stoodEarlier ns) (later + 1) (length ns)
+again-on ns later b s = first-on (stoodEarlier ns) later (length ns) b (rw s (le-ltb later later (omega arith)))
+
+-- ---- check 7
+
+-- The same search by a test that agrees.
+first-cong : (p q : ℕ → Bool) (n : ℕ) → ((k : ℕ) → k < n → p k ≡ q k) → first p 0 n ≡ first q 0 n
+first-cong p q n e =
+    let f = first-is q 0 n (omega arith) in
+    let same-first : IsFirst p 0 n (first q 0 n) =
+    record {
+      from = f .from;
+      to = f .to;
+      passes = λ b. e (first q 0 n) b ∙ f .passes b;
+      before = λ k a b. e k (omega (arith, f .to)) ∙ f .before k a b;
+    } in
+    first-unique p 0 n (first p 0 n) (first q 0 n) (first-is p 0 n (omega arith)) same-first
+
+same-is : (a b : ℕ) → same (pos a) (pos b) ≡ eqb a b
+same-is a b = cases (eqb a b)
+    (λ e. same-yes (pos a) (pos b) .1 (ap pos (eqb-true a b e)) ∙ sym e)
+    (λ e. same-no (pos a) (pos b) .1 (λ q. let u = eqb-false a b e in absurd (u (omega signed))) ∙ sym e)
+
+-- Over the numbers of all jobs the search is that of check 7.
+pub repeat-again : (zs : List ℤ) (ns : List ℕ) → length ns ≡ jobCount zs
+    → ((k : ℕ) → k < length ns → numberAt zs k ≡ pos (getD ns k 0)) → firstRepeat zs ≡ firstAgain ns
+unfolding firstRepeat firstAgain
+repeat-again zs ns l g =
+    rw (← l)
+    (first-cong (repeatedAt zs) (stoodEarlier ns) (length ns)
+    (λ k b. ap (λ f. ltb f k)
+    (first-cong (sameAt zs k) (alike ns k) k
+    (λ j a. rw (g j (omega arith), g k b) (same-is (getD ns j 0) (getD ns k 0))))))
