@@ -1,0 +1,94 @@
+-- The job at a place as the code reads it from its bytes: its numbers are within their limits, and stepping a row by them is
+-- stepping it by the job.
+use Prim.Native.Nat.{ℕ, _+_, _*_, _<_}
+use mathlib.Core.Path.{_≡_, refl, sym, ap}
+use mathlib.Core.List.{List}
+use native.Mathlib.Omega.{arith}
+use lib.Dec.{T, eqb}
+use lib.IntN.{ℤ, pos, negsuc, natAbs}
+use lib.ListN.{take, drop}
+use lib.Signed.{nonNeg}
+use mir.Syntax.{w32, w64}
+use mir.Val.{Fits, toZ, ofZ}
+use mir.Facts.{toZ-ofZ}
+use Rattle.seconds.specs.Ranges.{Between}
+use Rattle.seconds.specs.Signed.{signed, abs-is}
+use Rattle.order.specs.Job.{Job, oneRate}
+use Rattle.packed.specs.Layout.{decode, jobLayout, numberOf}
+use Rattle.packed.specs.Packed.{countOf, jobFields, jobOf, jobIn}
+use Rattle.packed.specs.PackedLaws.{fields-of-numbers, numbers-count}
+use Rattle.packed.specs.RefusalLaws.{Within, within-is}
+use Rattle.packed.specs.Accepted.{OrderFine}
+use Rattle.fields.specs.Fields.{fieldsOf}
+use Rattle.fields.specs.Facts.{JobFacts, JobFits, job-facts, facts-fit, read-at}
+use Rattle.fields.specs.declared.Job.{Job as Numbers}
+use Rattle.cells.specs.Work.{CanStep, Stepped}
+use Rattle.filling.specs.Rows.{rowPlace, CanFillOne, FilledOne}
+
+-- A number, as the code reads it back from its bits.
+abbrev read : ℤ → ℤ
+read z = toZ w32 (ofZ w32 z)
+
+-- A mark of 0 or 1 is its bits.
+mark-is : (z : ℤ) → Between (pos 0) (pos 1) z → eqb (ofZ w32 z) 1 ≡ eqb (natAbs z) 1
+mark-is (pos n) b = refl
+mark-is (negsuc n) b = absurd (omega signed)
+
+module _ (bytes : List ℕ) (k : ℕ) (order : OrderFine bytes) (there : k < countOf bytes)
+    (job : Numbers) (is : fieldsOf job ≡ decode jobLayout (numberOf (take 8 (drop (4 + 8 * k) bytes))))
+  where
+    fields : fieldsOf job ≡ jobFields bytes k
+    fields = read-at bytes k (4 + 8 * k) job refl is
+
+    -- Its numbers are within their limits,
+    within : JobFacts job
+    within =
+        let w : Within (jobFields bytes k) =
+        rw (fields-of-numbers bytes k there) at (order .jobs .within k (omega (arith, numbers-count bytes))) in
+        job-facts job .0 (within-is (fieldsOf job) .1 (rw fields w))
+
+    fits : JobFits job
+    fits = facts-fit job within
+
+    -- and they are the job's.
+    job-is : jobIn bytes k
+        ≡ oneRate (natAbs (job .number)) (eqb (ofZ w32 (job .critical)) 1) (natAbs (read (job .weight))) (read (job .ready))
+        (natAbs (read (job .length))) (read (job .deadline))
+    unfolding jobOf
+    job-is =
+        rw (
+          mark-is (job .critical) (within .critical),
+          toZ-ofZ (fits .weight),
+          toZ-ofZ (fits .ready),
+          toZ-ofZ (fits .long),
+          toZ-ofZ (fits .deadline),
+        )
+        (ap jobOf (sym fields))
+
+    -- Its weight can be read as an unsigned number.
+    pub weight-casts : T (nonNeg (read (job .weight))) × Fits w64 (natAbs (read (job .weight)))
+    weight-casts = rw (toZ-ofZ (fits .weight)) (omega (signed, abs-is (job .weight), within .weight))
+
+    pub weight-is : jobIn bytes k .weight ≡ natAbs (read (job .weight))
+    weight-is = ap (λ (j : Job). j .weight) job-is
+
+    -- A row can be stepped by the job where there is room and weight for it,
+    pub job-steps : (top : ℕ) (l : List ℤ) → CanFillOne bytes k top l
+        → CanStep (rowPlace k) top (natAbs (read (job .weight))) (read (job .ready)) (read (job .length)) (read (job .deadline)) l
+    job-steps top l f =
+        record {
+          room = f .room;
+          light = rw (← weight-is) (f .light);
+          starts = rw (toZ-ofZ (fits .ready)) (within .ready);
+          least = rw (toZ-ofZ (fits .long)) (omega (signed, within .long));
+          most = rw (toZ-ofZ (fits .long)) (within .long .high);
+          ends = rw (toZ-ofZ (fits .deadline)) (within .deadline);
+        }
+
+    -- and then the next row is that after the job.
+    pub job-stepped : (top : ℕ) (old new : List ℤ) (reached : ℕ)
+        → Stepped (eqb (ofZ w32 (job .critical)) 1) (natAbs (read (job .weight))) (read (job .ready)) (read (job .length))
+        (read (job .deadline)) (rowPlace k) top old new reached
+        → FilledOne bytes k top old new reached
+    job-stepped top old new reached s =
+        record { reaches = rw weight-is (s .reaches); wrote = rw job-is (s .wrote (natAbs (job .number))) }
