@@ -1,0 +1,116 @@
+-- Choosing between two openings: which of two wins, the checks, the answer, the part handed back, and the work area at exit,
+-- for every input. Definitions only.
+use Prim.Native.Nat.{ℕ, _+_}
+use mathlib.Core.Path.{_≡_}
+use mathlib.Core.Bool.{Bool, true, cond}
+use mathlib.Core.List.{List, [], _++_}
+use mathlib.Core.Option.{Option, none, some}
+use lib.Dec.{ltb}
+use lib.IntN.{ℤ}
+use lib.ListN.{length, drop}
+use denote.Ref.{RefT, now}
+use Rattle.profile.specs.Profile.{worth, orderProfile}
+use Rattle.packed.specs.Layout.{headerBytes}
+use Rattle.packed.specs.Judge.{Check, Verdict, fine, refused, judge}
+use Rattle.packed.specs.Packed.{orderOf}
+use Rattle.packed.specs.Refusals.{roomChecks, orderChecks}
+use Rattle.cells.specs.Work.{area, cleared}
+use Rattle.openings.specs.declared.Chosen.{Chosen}
+use Rattle.openings.specs.declared.Chosen.the-variants.{Refused, First, Second}
+
+-- ---- which of two wins
+
+-- What an opening is worth at a time: the greatest weight of its profile then; nothing if it has no point by then.
+abbrev pub openingWorth : List ℕ → ℤ → Option ℕ
+openingWorth bytes t = worth (orderProfile (orderOf bytes)) t
+
+-- The winner by what each is worth. With no point an opening loses to one that has one; 11 where neither has one. The heavier
+-- wins; where both are worth the same, the first wins if `even` says so.
+abbrev pub byWorth : Bool → Option ℕ → Option ℕ → Chosen
+byWorth even none none = Refused 11
+byWorth even (some v) none = First
+byWorth even none (some w) = Second
+byWorth even (some v) (some w) = cond (ltb w v) First (cond (ltb v w) Second (cond even First Second))
+
+-- A tie rule says of two openings and a time whether the first wins where both are worth the same. Equal goes to the first.
+abbrev pub Tie : Type 0
+Tie = List ℕ → List ℕ → ℤ → Bool
+
+abbrev pub toFirst : Tie
+toFirst first second t = true
+
+-- The winner of two openings at a time, by a tie rule.
+abbrev pub winnerBy : Tie → List ℕ → List ℕ → ℤ → Chosen
+winnerBy tie first second t = byWorth (tie first second t) (openingWorth first t) (openingWorth second t)
+
+-- ---- the calls
+
+-- 1 to 9 of the first order, then of the second, then room for the rows.
+unfoldable pub choosingChecks : List ℕ → List ℕ → List ℤ → List Check
+choosingChecks first second work = orderChecks first ++ orderChecks second ++ roomChecks area (length work)
+
+-- The verdict of these checks.
+abbrev pub choosingVerdict : List ℕ → List ℕ → List ℤ → Verdict
+choosingVerdict first second work = judge (choosingChecks first second work)
+
+-- The answer by the verdict and by which of the two wins: a refusal has no place.
+abbrev pub chosenBy : Verdict → Chosen → Chosen
+chosenBy (refused n p) won = Refused n
+chosenBy fine won = won
+
+-- The work area by both: a refusal by these checks leaves it as it was; past them what the rows take is cleared, with 11 too.
+abbrev pub workBy : Verdict → Chosen → List ℤ → List ℤ
+workBy (refused n p) won work = work
+workBy fine (Refused n) work = cleared work
+workBy fine First work = cleared work
+workBy fine Second work = cleared work
+
+-- The answer of the question, and the work area after either call.
+abbrev pub chosenOf : List ℕ → List ℕ → ℤ → List ℤ → Chosen
+chosenOf first second t work = chosenBy (choosingVerdict first second work) (winnerBy toFirst first second t)
+
+abbrev pub workAfter : List ℕ → List ℕ → ℤ → List ℤ → List ℤ
+workAfter first second t work = workBy (choosingVerdict first second work) (winnerBy toFirst first second t) work
+
+-- The question on any bytes, at any time, with any work area.
+pub record Asked (first second : List ℕ) (t : ℤ) (work : List ℤ) (r : Chosen) (work′ : List ℤ) : Type 0 where
+  pub answer : r ≡ chosenOf first second t work
+  pub area : work′ ≡ workAfter first second t work
+
+-- ---- the part handed back
+
+-- Its bytes: all but the header of the winner, none where refused.
+abbrev pub partOf : Chosen → List ℕ → List ℕ → List ℕ
+partOf (Refused n) first second = []
+partOf First first second = drop headerBytes first
+partOf Second first second = drop headerBytes second
+
+-- The place behind a header; a place is a block of memory and how far into it.
+abbrev pub pastHeader : ℕ × ℕ → ℕ × ℕ
+pastHeader place = (place .0, headerBytes + place .1)
+
+-- Where it begins: behind the header of the winner, where the first begins if refused.
+abbrev pub placeOf : Chosen → ℕ × ℕ → ℕ × ℕ → ℕ × ℕ
+placeOf (Refused n) first second = first
+placeOf First first second = pastHeader first
+placeOf Second first second = pastHeader second
+
+-- The choice on any bytes, at any time, with any work area: which bytes it hands back, where they stand, and the work area.
+pub record Handed (first second : RefT (List ℕ)) (t : ℤ) (work : List ℤ) (r : RefT (List ℕ)) (work′ : List ℤ) : Type 0 where
+  pub bytes : now r ≡ partOf (chosenOf (now first) (now second) t work) (now first) (now second)
+  pub place : r .ptr ≡ placeOf (chosenOf (now first) (now second) t work) (first .ptr) (second .ptr)
+  pub area : work′ ≡ workAfter (now first) (now second) t work
+
+-- ---- document 01's numbers for each case
+
+-- The refusal number; 0 if there is a winner.
+abbrev pub refusalOf : Chosen → ℕ
+refusalOf (Refused n) = n
+refusalOf First = 0
+refusalOf Second = 0
+
+-- The winner; 0 if refused.
+abbrev pub winnerOf : Chosen → ℕ
+winnerOf (Refused n) = 0
+winnerOf First = 1
+winnerOf Second = 2

@@ -1,0 +1,129 @@
+-- The calls stage by stage, as the code goes through their checks: each refusal, and what is left when all are passed.
+use Prim.Native.Nat.{ℕ, _≤_, _<_}
+use mathlib.Core.Path.{_≡_, refl, sym, ap, ap₂, _∙_}
+use mathlib.Core.Bool.{true}
+use mathlib.Core.List.{List, _++_}
+use native.Mathlib.Omega.{arith}
+use lib.Dec.{ltb}
+use lib.IntN.{ℤ}
+use lib.ListN.{length}
+use denote.Ref.{RefT, now}
+use borrow.Author.Tests.{lt-ltb, le-ltb}
+use borrow.Table.Steps.{cases}
+use Rattle.packed.specs.Judge.{Verdict as Judged, fine, refused, judge}
+use Rattle.packed.specs.JudgeLaws.{stages-fine}
+use Rattle.packed.specs.Refusals.{roomChecks, orderChecks}
+use Rattle.packed.specs.Accepted.{order-fine}
+use Rattle.cells.specs.Work.{area, cleared}
+use Rattle.cells.specs.Keeping.{cleared-same}
+use Rattle.cells.specs.declared.Found.{Found}
+use Rattle.cells.specs.declared.Found.the-variants.{At}
+use Rattle.judge.specs.Verdicts.{verdictOf}
+use Rattle.judge.specs.Told.{told-refused, told-next}
+use Rattle.judge.specs.declared.Verdict.the-variants.{Refused as Stopped}
+use Rattle.openings.specs.Choosing.{byWorth, toFirst, winnerBy, choosingChecks, choosingVerdict, chosenBy, workBy}
+use Rattle.openings.specs.Choosing.{chosenOf, Asked, partOf, placeOf, Handed, winnerOf}
+use Rattle.openings.specs.Weighing.{weightIn, WeighedIn, CanCompare}
+use Rattle.openings.specs.declared.Chosen.{Chosen}
+use Rattle.openings.specs.declared.Chosen.the-variants.{Refused, First, Second}
+
+-- ---- which of two cells wins
+
+-- The first, where the second is no heavier,
+pub first-wins : {one other : Found} {v w : ℕ} {t u : ℤ} → one ≡ At v t → other ≡ At w u → w ≤ v
+    → First ≡ byWorth true (weightIn one) (weightIn other)
+first-wins {v = v} {w = w} e f h = rw (e, f, le-ltb v w h) (cases (ltb w v) (λ d. rw d) (λ d. rw d))
+
+-- and the second, where it is heavier.
+pub second-wins : {one other : Found} {v w : ℕ} {t u : ℤ} → one ≡ At v t → other ≡ At w u → v < w
+    → Second ≡ byWorth true (weightIn one) (weightIn other)
+second-wins {v = v} {w = w} e f h = rw (e, f, lt-ltb v w h, le-ltb w v (omega arith))
+
+-- ---- the checks
+
+-- Past the checks the work area is cleared, whatever the answer.
+pub cleared-past : (won : Chosen) (work : List ℤ) → workBy fine won work ≡ cleared work
+cleared-past (Refused n) work = refl
+cleared-past First work = refl
+cleared-past Second work = refl
+
+module _ (first second : List ℕ) (t : ℤ) (work : List ℤ) where
+  -- A refusal by these checks gives its number and leaves the work area as it was.
+  by-verdict : (v : Judged) {n p : ℕ} → choosingVerdict first second work ≡ v → verdictOf v ≡ Stopped n p
+      → Asked first second t work (Refused n) work
+  by-verdict fine e f = let z : _≡_ {A = ℕ} 0 1 = cc in absurd (omega arith)
+  by-verdict (refused m q) e f = record { answer = rw e (cc); area = rw e }
+
+  orders-refused : {n p : ℕ} → verdictOf (judge (orderChecks first ++ orderChecks second)) ≡ Stopped n p
+      → Asked first second t work (Refused n) work
+  unfolding choosingChecks
+  orders-refused e =
+      by-verdict (choosingVerdict first second work) refl
+      (told-refused (orderChecks first ++ orderChecks second) (roomChecks area (length work)) _ _ e)
+
+  -- The first order is refused,
+  pub first-refused : {n p : ℕ} → verdictOf (judge (orderChecks first)) ≡ Stopped n p
+      → Asked first second t work (Refused n) work
+  first-refused e = orders-refused (told-refused (orderChecks first) (orderChecks second) _ _ e)
+
+  -- or the second is,
+  pub second-refused : {n p : ℕ} → judge (orderChecks first) ≡ fine → verdictOf (judge (orderChecks second)) ≡ Stopped n p
+      → Asked first second t work (Refused n) work
+  second-refused passed e = orders-refused (ap verdictOf (told-next (orderChecks first) (orderChecks second) passed) ∙ e)
+
+  module _ (both : CanCompare first second) where
+    both-fine : judge (orderChecks first ++ orderChecks second) ≡ fine
+    both-fine = told-next (orderChecks first) (orderChecks second) (both .one) ∙ both .other
+
+    room-told : choosingVerdict first second work ≡ judge (roomChecks area (length work))
+    unfolding choosingChecks
+    room-told = told-next (orderChecks first ++ orderChecks second) (roomChecks area (length work)) both-fine
+
+    -- or the work area is too short.
+    pub no-room : length work < area → Asked first second t work (Refused 10) work
+    no-room h = by-verdict (refused 10 0) (room-told ∙ rw (lt-ltb (length work) area h)) refl
+
+    -- Past all of them both are weighed, the winner is told, and the work area cleared.
+    pub compared : {one other : Found} {after left end : List ℤ} {r : Chosen} → area ≤ length work
+        → WeighedIn first t work one after → WeighedIn second t after other left → end ≡ cleared left
+        → r ≡ byWorth true (weightIn one) (weightIn other) → Asked first second t work r end
+    compared {left = left} h v w c e =
+        let passed : choosingVerdict first second work ≡ fine = room-told ∙ rw (le-ltb (length work) area h) in
+        let after = cleared-past (winnerBy toFirst first second t) work in
+        record {
+          answer = rw passed (e ∙ ap₂ (byWorth true) (v .worth) (w .worth));
+          area = rw passed (c ∙ cleared-same work left (w .past ∙ v .past) ∙ sym after);
+        }
+
+-- ---- the part handed back
+
+-- A winner is told only past the checks.
+won-fine : (v : Judged) (won : Chosen) → 0 < winnerOf (chosenBy v won) → v ≡ fine
+won-fine fine won h = refl
+won-fine (refused n p) won h = absurd (omega arith)
+
+module _ (first second : RefT (List ℕ)) (t : ℤ) (work : List ℤ) {q : Chosen} {left : List ℤ}
+    (asked : Asked (now first) (now second) t work q left)
+  where
+    -- Where there is a winner both openings have a header.
+    pub headers-there : {c : Chosen} → q ≡ c → 0 < winnerOf c → (4 ≤ length (now first)) × (4 ≤ length (now second))
+    unfolding choosingChecks
+    headers-there e h =
+        let passed = won-fine (choosingVerdict (now first) (now second) work) _ (rw (sym e ∙ asked .answer) at h) in
+        let orders = stages-fine (orderChecks (now first) ++ orderChecks (now second)) _ .0 passed .0 in
+        let each = stages-fine (orderChecks (now first)) (orderChecks (now second)) .0 orders in
+        (order-fine (now first) .0 (each .0) .header .long, order-fine (now second) .0 (each .1) .header .long)
+
+    -- What is handed back by the answer of the question is what the choice hands back.
+    pub handed : {c : Chosen} {r : RefT (List ℕ)} → q ≡ c → now r ≡ partOf c (now first) (now second)
+        → r .ptr ≡ placeOf c (first .ptr) (second .ptr) → Handed first second t work r left
+    handed e b p =
+        let told : chosenOf (now first) (now second) t work ≡ _ = sym (asked .answer) ∙ e in
+        record { bytes = rw told b; place = rw told p; area = asked .area }
+
+-- The question's answer and the part handed back agree: for the same inputs the part is the one that the answer names, and the
+-- work area is left the same.
+pub question-choice : {first second : RefT (List ℕ)} {t : ℤ} {work : List ℤ} {q : Chosen} {r : RefT (List ℕ)} {left end : List ℤ}
+    → Asked (now first) (now second) t work q left → Handed first second t work r end
+    → (now r ≡ partOf q (now first) (now second)) × (r .ptr ≡ placeOf q (first .ptr) (second .ptr)) × (end ≡ left)
+question-choice a h = rw (a .answer, a .area) (h .bytes, h .place, h .area)

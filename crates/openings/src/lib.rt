@@ -1,0 +1,101 @@
+// Choosing between two openings at a time: which of two packed orders keeps more weight by then, and the
+// winner's records. Any bytes, time and work area have an answer. Assumes nothing.
+use cells::Found;
+use cells::clear;
+use cells::heaviest_by;
+use cells::start_row;
+use fields::header_at;
+use filling::fill_rows;
+use judge::Verdict;
+use judge::judge_order;
+ghost use mathlib.Core.Path.{_≡_};
+ghost use mathlib.Core.Bool.{true};
+ghost use Rattle.openings.specs.Choosing.{byWorth, Asked, Handed};
+ghost use Rattle.openings.specs.Weighing.{weightIn, CanWeigh, WeighedIn, CanCompare};
+
+// What the question answers: a refusal with its number, or which of the two openings wins.
+pub enum Chosen {
+    Refused(u32),
+    First,
+    Second,
+}
+
+// How many numbers after a row the next row stands, and how many all rows take together.
+const ROW: usize = 301;
+
+const AREA: usize = 14_749;
+
+// The heaviest cell of an opening that is there by a time, from the rows of all its jobs.
+fn weigh(bytes: &[u8], t: i32, work: &mut [i32]) -> Found
+    requires { ⌜ CanWeigh (now bytes) (now work) ⌝ }
+    ensures { λ r. ⌜ WeighedIn (now (bytes .entry)) t (now (work .entry)) r (now (work .exit)) ⌝ }
+{
+    let header = header_at(bytes);
+    let n = header.count;
+    let t0 = header.t0;
+    start_row(work, t0);
+    let top = fill_rows(work, bytes, n, 0);
+    heaviest_by(work, n * ROW, top, t)
+}
+
+// Which of two openings wins, by the cell that was found for each: the heavier, and of equal ones the first.
+fn winner(first: Found, second: Found) -> Chosen
+    ensures { λ r. ⌜ r ≡ byWorth true (weightIn first) (weightIn second) ⌝ }
+{
+    match first {
+        Found::Nothing => match second {
+            Found::Nothing => Chosen::Refused(11),
+            Found::At(_, _) => Chosen::Second,
+        },
+        Found::At(weight, _) => match second {
+            Found::Nothing => Chosen::First,
+            Found::At(other, _) => {
+                if other <= weight {
+                    Chosen::First
+                } else {
+                    Chosen::Second
+                }
+            }
+        },
+    }
+}
+
+// The question on two openings that have passed their checks: the room is judged, both are weighed, and
+// the work area is cleared behind.
+fn compare(first: &[u8], second: &[u8], t: i32, work: &mut [i32]) -> Chosen
+    requires { ⌜ CanCompare (now first) (now second) ⌝ }
+    ensures { λ r. ⌜ Asked (now (first .entry)) (now (second .entry)) t (now (work .entry)) r (now (work .exit)) ⌝ }
+{
+    if work.len() < AREA {
+        return Chosen::Refused(10);
+    }
+    let one = weigh(first, t, work);
+    let other = weigh(second, t, work);
+    clear(work);
+    winner(one, other)
+}
+
+// The question: which of two openings wins at a time, or the number of the refusal.
+pub fn question(first: &[u8], second: &[u8], t: i32, work: &mut [i32]) -> Chosen
+    ensures { λ r. ⌜ Asked (now (first .entry)) (now (second .entry)) t (now (work .entry)) r (now (work .exit)) ⌝ }
+{
+    match judge_order(first, 0) {
+        Verdict::Refused(number, _) => Chosen::Refused(number),
+        Verdict::Fine => match judge_order(second, 0) {
+            Verdict::Refused(number, _) => Chosen::Refused(number),
+            Verdict::Fine => compare(first, second, t, work),
+        },
+    }
+}
+
+// The choice: the records of the opening that wins, without its header, where they stand; the empty part
+// at the start of the first where it is refused.
+pub fn choose<'a>(first: &'a [u8], second: &'a [u8], t: i32, work: &mut [i32]) -> &'a [u8]
+    ensures { λ r. ⌜ Handed (first .entry) (second .entry) t (now (work .entry)) r (now (work .exit)) ⌝ }
+{
+    match question(first, second, t, work) {
+        Chosen::Refused(_) => &first[..0],
+        Chosen::First => &first[4..],
+        Chosen::Second => &second[4..],
+    }
+}

@@ -1,0 +1,50 @@
+-- `reader::open` meets its contract: the header's verdict tells the case, and the header's count is that of the bytes.
+-- Assumes nothing.
+use mathlib.Core.Path.{_≡_, sym, ap, _∙_}
+use denote.Ref.{now}
+use borrow.Author.Needs.{needs}
+use Rattle.packed.specs.Judge.{fine, judge}
+use Rattle.packed.specs.Packed.{countOf}
+use Rattle.packed.specs.Refusals.{headerChecks}
+use Rattle.packed.specs.RefusalLaws.{header-fine}
+use Rattle.fields.specs.Facts.{header-read}
+use Rattle.judge.specs.declared.Verdict.the-variants.{Fine, Refused}
+use Rattle.reader.specs.Reading.{openedBy}
+use Rattle.reader.specs.Told.{told}
+use Rattle.reader.specs.declared.Opened.the-variants.{Accepted}
+use Rattle.reader.proofs.open.Statement.{statement}
+use Rattle.reader.proofs.open.Tie as tie
+
+judge-header-requires : tie.Need-judge-header-requires
+judge-header-requires c κs = search needs
+
+enum-known-number : tie.Need-enum-known-number
+enum-known-number c = search needs
+
+enum-told : tie.Need-enum-told
+enum-told c = search needs
+
+-- Past checks 1 to 5.
+passed : (c : tie.After-enum-told) → judge (headerChecks (now (c .before .before .before .before .args .bytes))) ≡ fine
+passed c =
+    told (headerChecks (now (c .before .before .before .before .args .bytes))) Fine
+    (sym (c .enum-told .given .1) ∙ c .before .before .judge-header .ensures)
+
+header-at-requires : tie.Need-header-at-requires
+header-at-requires c κs = header-fine (now (c .before .before .before .before .args .bytes)) .0 (passed c) .long
+
+returns : tie.Need-returns
+returns c =
+    let bytes = now (c .before .before .before .before .before .args .bytes) in
+    let r = c .before .number .given in
+    sym (ap (openedBy (countOf bytes))
+    (told (headerChecks bytes) (Refused (r .0 .0) (r .0 .1 .0)) (sym (r .1) ∙ c .before .before .before .judge-header .ensures)))
+
+returns-2 : tie.Need-returns-2
+returns-2 c =
+    let bytes = now (c .before .before .before .before .before .args .bytes) in
+    let read = header-read bytes (c .header-at .result) (c .header-at .ensures) in
+    ap Accepted (read .count) ∙ sym (ap (openedBy (countOf bytes)) (passed (c .before)))
+
+pub open-spec : {M : Type 1} → statement M
+open-spec = tie.close (tie.spec judge-header-requires enum-known-number enum-told header-at-requires returns returns-2)

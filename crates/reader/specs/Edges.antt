@@ -1,0 +1,100 @@
+-- P1 read job by job, and both sides of the reader's edges, as one list: each answer, and what document 01 says of it.
+-- One statement holds of the whole list, by computation.
+use Prim.Native.Nat.{ℕ}
+use mathlib.Core.Path.{_≡_, refl}
+use mathlib.Core.List.{List, [], _∷_, _++_, map}
+use lib.IntN.{ℤ, pos, negsuc}
+use Rattle.seconds.specs.Twos.{bitsTo, toBits}
+use Rattle.packed.specs.Layout.{decode, encode, numberOf, bytesOf}
+use Rattle.packed.specs.Places.{part, flat}
+use Rattle.packed.specs.Packed.{headerWord, headerOf, countOf, t0Of, spareOf, recordAt, jobWord, jobFields}
+use Rattle.packed.specs.Packed.{jobCount, fieldsAt, packedHeader, packedJob, packOrder}
+use Rattle.packed.specs.Refusals.{fieldsWithin, headerChecks}
+use Rattle.reader.specs.Reading.{openOf, jobFrom, stepOf}
+use Rattle.reader.specs.declared.Opened.{Opened}
+use Rattle.reader.specs.declared.Opened.the-variants as opened
+use Rattle.reader.specs.declared.Read.{Read}
+use Rattle.reader.specs.declared.Read.the-variants as read
+use Rattle.reader.specs.declared.Moved.{Moved}
+
+-- ---- orders in bytes
+
+-- The numbers of P1's jobs.
+abbrev first : List ℤ
+first = pos 7 ∷ pos 1 ∷ pos 0 ∷ negsuc 599 ∷ pos 495 ∷ pos 0 ∷ []
+
+abbrev second : List ℤ
+second = pos 3 ∷ pos 0 ∷ pos 20 ∷ negsuc 199 ∷ pos 300 ∷ pos 250 ∷ []
+
+abbrev third : List ℤ
+third = pos 12 ∷ pos 0 ∷ pos 15 ∷ pos 0 ∷ pos 200 ∷ pos 300 ∷ []
+
+abbrev fourth : List ℤ
+fourth = pos 5 ∷ pos 1 ∷ pos 0 ∷ pos 100 ∷ pos 100 ∷ pos 450 ∷ []
+
+abbrev last : List ℤ
+last = pos 9 ∷ pos 0 ∷ pos 15 ∷ pos 0 ∷ pos 100 ∷ pos 500 ∷ []
+
+-- P1.
+abbrev p1 : List ℕ
+p1 = packOrder (negsuc 599) (first ++ second ++ third ++ fourth ++ last)
+
+-- P1 with a third job of no length.
+abbrev damaged : List ℕ
+damaged = packOrder (negsuc 599) (first ++ second ++ (pos 12 ∷ pos 0 ∷ pos 15 ∷ pos 0 ∷ pos 0 ∷ pos 300 ∷ []) ++ fourth ++ last)
+
+-- One job seven times: its number is repeated, and the weights sum to 350.
+abbrev heavy : List ℤ
+heavy = pos 1 ∷ pos 0 ∷ pos 50 ∷ pos 0 ∷ pos 1 ∷ pos 1 ∷ []
+
+abbrev repeated : List ℕ
+repeated = packOrder (pos 0) (heavy ++ heavy ++ heavy ++ heavy ++ heavy ++ heavy ++ heavy)
+
+-- ---- the list
+
+pub record Edge : Type 0 where
+  pub asked : Moved
+  pub told : Moved
+
+-- A step over bytes at a place, the answer and the place after it.
+abbrev edge : List ℕ → ℕ → Read → ℕ → Edge
+edge bytes place answer next = record { asked = stepOf bytes place; told = record { answer = answer; place = next } }
+
+abbrev pub edges : List Edge
+edges =
+    -- P1 to the end, and past it
+    edge p1 0 (read.Job (jobFrom first)) 1
+    ∷ edge p1 1 (read.Job (jobFrom second)) 2
+    ∷ edge p1 2 (read.Job (jobFrom third)) 3
+    ∷ edge p1 3 (read.Job (jobFrom fourth)) 4
+    ∷ edge p1 4 (read.Job (jobFrom last)) 5
+    ∷ edge p1 5 read.End 5
+    ∷ edge p1 6 read.End 6
+    -- a job out of range; those beside it are given
+    ∷ edge damaged 1 (read.Job (jobFrom second)) 2
+    ∷ edge damaged 2 (read.Refused 6 2) 2
+    ∷ edge damaged 3 (read.Job (jobFrom fourth)) 4
+    -- 7 and 9 are not judged
+    ∷ edge repeated 6 (read.Job (jobFrom heavy)) 7
+    -- bytes that are not accepted
+    ∷ edge [] 0 (read.Refused 1 0) 0
+    ∷ edge [] 7 (read.Refused 1 0) 7
+    ∷ edge (0 ∷ 0 ∷ 0 ∷ 1 ∷ []) 0 (read.Refused 2 0) 0
+    ∷ edge (196 ∷ 0 ∷ 0 ∷ 0 ∷ []) 0 (read.Refused 3 0) 0
+    ∷ edge (p1 ++ 0 ∷ []) 2 (read.Refused 4 0) 2
+    ∷ edge (1 ∷ 0x86 ∷ 0xA1 ∷ 0 ∷ []) 0 (read.Refused 5 0) 0
+    -- no jobs
+    ∷ edge (0 ∷ 0 ∷ 0 ∷ 0 ∷ []) 0 read.End 0
+    ∷ []
+
+-- Opening over the same bytes.
+abbrev pub openings : List Opened
+openings = openOf p1 ∷ openOf damaged ∷ openOf repeated ∷ openOf [] ∷ openOf (p1 ++ 0 ∷ []) ∷ openOf (0 ∷ 0 ∷ 0 ∷ 0 ∷ []) ∷ []
+
+-- Every edge is where document 01 has it.
+pub edges-hold : (map (λ (e : Edge). e .asked) edges ≡ map (λ (e : Edge). e .told) edges)
+    × (openings
+    ≡ opened.Accepted 5 ∷ opened.Accepted 5 ∷ opened.Accepted 7 ∷ opened.Refused 1 ∷ opened.Refused 4 ∷ opened.Accepted 0 ∷ [])
+unfolding decode encode numberOf bytesOf bitsTo toBits part flat headerWord headerOf countOf t0Of spareOf recordAt jobWord
+    jobFields jobCount fieldsAt packedHeader packedJob packOrder fieldsWithin headerChecks
+edges-hold = (refl, refl)
