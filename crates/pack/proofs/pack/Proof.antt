@@ -1,0 +1,96 @@
+-- `pack::pack` meets its contract: the verdict on the numbers, then the room; then the header and the jobs are written.
+-- Assumes nothing.
+use mathlib.Core.Path.{_≡_, sym, ap, _∙_}
+use mathlib.Core.List.{List, _++_}
+use Prim.Native.Nat.{ℕ, _/_}
+use lib.IntN.{ℤ}
+use lib.ListN.{length, drop}
+use mir.Syntax.{w32}
+use mir.Val.{toZ, ofZ}
+use mir.Facts.{toZ-ofZ}
+use borrow.Author.Needs.{needs}
+use Rattle.packed.specs.Judge.{fine, judge}
+use Rattle.packed.specs.Packed.{packedHeader}
+use Rattle.packed.specs.Refusals.{numberChecks}
+use Rattle.judge.specs.Verdicts.{verdictOf}
+use Rattle.judge.specs.Told.{told-fine}
+use Rattle.pack.specs.Writing.{firstRecords}
+use Rattle.pack.specs.AnswerLaws.{packs-refused, packs-no-room, header-room, packable, packs-written}
+use Rattle.pack.proofs.pack.Statement.{statement}
+use Rattle.pack.proofs.pack.Tie as tie
+
+judge-numbers-requires : tie.Need-judge-numbers-requires
+judge-numbers-requires c κs = search needs
+
+enum-known-number : tie.Need-enum-known-number
+enum-known-number c = search needs
+
+enum-told : tie.Need-enum-told
+enum-told c = search needs
+
+-- What was told of the numbers.
+told : (c : tie.After-judge-numbers)
+    → verdictOf (judge (numberChecks (c .before .before .args .t0) (c .before .before .args .numbers .now))) ≡ c .judge-numbers .result
+told c =
+    let a = c .before .before in
+    ap (λ (t : ℤ). verdictOf (judge (numberChecks t (a .args .numbers .now)))) (sym (toZ-ofZ (a .fits .t0)))
+    ∙ sym (c .judge-numbers .ensures)
+
+-- Past 3 to 9.
+passed : (c : tie.After-enum-told)
+    → judge (numberChecks (c .before .before .before .before .args .t0) (c .before .before .before .before .args .numbers .now)) ≡ fine
+passed c =
+    let a = c .before .before .before .before .args in
+    told-fine (numberChecks (a .t0) (a .numbers .now)) (told (c .before .before) ∙ c .enum-told .given .1)
+
+mul-written : tie.Need-mul-written
+mul-written c = search needs
+
+add-written : tie.Need-add-written
+add-written c = search needs
+
+returns : tie.Need-returns
+returns c =
+    let a = c .before .before .before .before .before .args in
+    packs-no-room (a .t0) (a .numbers .now) (a .bytes .now) (passed (c .before)) (c .if1 .taken)
+
+put-header-requires : tie.Need-put-header-requires
+put-header-requires c κs =
+    let a = c .before .before .before .before .before .before in
+    header-room (a .args .t0) (a .args .numbers .now) (a .args .bytes .now) (passed (c .before .before)) (c .before .if1 .left)
+    (toZ w32 (ofZ w32 (a .args .t0))) (toZ-ofZ (a .fits .t0))
+
+write-jobs-requires : tie.Need-write-jobs-requires
+write-jobs-requires c κs =
+    let h = c .before .before .before .before .before in
+    let a = h .before .before .before .before .before .args in
+    packable (a .t0) (a .numbers .now) (a .bytes .now) (passed (h .before)) (h .if1 .left)
+    (c .before .before .before .put-header .last .0) (c .before .before .before .put-header .kept .0)
+
+returns-2 : tie.Need-returns-2
+returns-2 c =
+    let a = c .before .before .before .before .before .args in
+    let said = c .before .number .given in
+    packs-refused (a .t0) (a .numbers .now) (a .bytes .now) (said .0 .0) (said .0 .1 .0)
+    (told (c .before .before .before) ∙ said .1)
+
+same-length : tie.Need-same-length
+same-length c = search needs
+
+returns-3 : tie.Need-returns-3
+returns-3 c =
+    let w = c .before .before in
+    let h = w .before .before .before .before .before .before in
+    let a = h .before .before .before .before .before in
+    let count : ℕ = length (a .args .numbers .now) / 6 in
+    let header : ℤ → List ℕ = λ t. packedHeader count t ++ drop 4 (a .args .bytes .now) in
+    packs-written (a .args .t0) (a .args .numbers .now) (a .args .bytes .now) (passed (h .before)) (h .if1 .left)
+    (w .write-jobs .last .1 .1 .0)
+    (w .write-jobs .ensures
+    ∙ ap (firstRecords (a .args .numbers .now) count) (w .before .before .before .before .put-header .ensures ∙ ap header (toZ-ofZ (a .fits .t0))))
+
+pub pack-spec : {M : Type 1} → statement M
+pack-spec =
+    tie.close
+    (tie.spec judge-numbers-requires enum-known-number enum-told mul-written add-written returns put-header-requires
+    write-jobs-requires returns-2 same-length returns-3)

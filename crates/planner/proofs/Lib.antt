@@ -1,0 +1,2 @@
+-- What is proved of the calls' contracts.
+pub mod Determined

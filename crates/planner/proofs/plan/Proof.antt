@@ -1,0 +1,54 @@
+-- `planner::plan` meets its contract: an order that its checks refuse is answered so, any other is planned.
+-- Assumes nothing.
+use mathlib.Core.Path.{sym, _∙_}
+use denote.Ref.{now}
+use borrow.Author.Needs.{needs}
+use Rattle.packed.specs.Refusals.{orderChecks}
+use Rattle.judge.specs.Told.{told-fine}
+use Rattle.planner.specs.CallLaws.{plan-stopped}
+use Rattle.planner.proofs.plan.Statement.{statement}
+use Rattle.planner.proofs.plan.Tie as tie
+
+judge-order-requires : tie.Need-judge-order-requires
+judge-order-requires c κs = search needs
+
+enum-known-number : tie.Need-enum-known-number
+enum-known-number c = search needs
+
+enum-told : tie.Need-enum-told
+enum-told c = search needs
+
+plan-order-requires : tie.Need-plan-order-requires
+plan-order-requires c κs =
+    let e = c .before .before in
+    told-fine (orderChecks (now (e .before .before .before .before .args .bytes)))
+    (sym (e .before .before .judge-order .ensures) ∙ e .enum-told .given .1)
+
+returns : tie.Need-returns
+returns c =
+    let j = c .before .before .before in
+    let a = j .before .before .args in
+    let r = c .before .number .given in
+    plan-stopped (now (a .bytes)) (now (a .starts)) (now (a .work)) (r .0 .0) (r .0 .1 .0) (sym (j .judge-order .ensures) ∙ r .1)
+
+same-length : tie.Need-same-length
+same-length c = search needs
+
+same-length-2 : tie.Need-same-length-2
+same-length-2 c = search needs
+
+returns-2 : tie.Need-returns-2
+returns-2 c = c .before .before .plan-order .ensures
+
+pub plan-spec : {M : Type 1} → statement M
+plan-spec =
+    tie.close
+    (tie.spec
+    judge-order-requires
+    enum-known-number
+    enum-told
+    plan-order-requires
+    returns
+    same-length
+    same-length-2
+    returns-2)

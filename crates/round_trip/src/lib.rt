@@ -1,0 +1,1 @@
+// Packing and unpacking one after the other: laws only, in specs/.

@@ -1,0 +1,5 @@
+-- Unpacking: the answer of the call and the lent numbers after it, and what the code's loop says on the way.
+pub mod Answer
+pub mod Writing
+pub mod AnswerLaws
+pub mod AnswerSays
