@@ -1,2 +1,4 @@
--- What is proved of the call's contract.
+-- What the walks share, and what is proved of the calls' contracts.
+pub mod Steps
+pub mod Records
 pub mod Determined

@@ -7,7 +7,7 @@ use native.Mathlib.Omega.{arith}
 use lib.Dec.{leb}
 use lib.IntN.{ℤ}
 use lib.ListN.{length, getD, set, take, drop, drop-of-length-le}
-use lib.Seq.{take-suc, take-suc-set, take-length, length-take-le, drop-cons, getD-take}
+use lib.Seq.{take-suc, take-suc-set, take-all, take-length, length-take-le, drop-cons, getD-take}
 use Rattle.seconds.specs.Limits.{mostPoints}
 use Rattle.seconds.specs.Signed.{signed}
 use Rattle.profiles.specs.Answer.{lookupOf}
@@ -15,7 +15,7 @@ use Rattle.profiles.specs.AnswerLaws.{lookup-refused}
 use Rattle.profiles.specs.OnePass.{holds-long}
 use Rattle.profiles.specs.Writing.{Writing, writing-two}
 use Rattle.profiles.specs.declared.Finding.the-variants.{NotValid}
-use Rattle.point_records.specs.Records.{flattened, mostRead}
+use Rattle.point_records.specs.Records.{flattened, mostRead, mostPassed}
 use Rattle.point_records.specs.declared.Point.{Point}
 
 -- ---- copying
@@ -82,3 +82,15 @@ read-decides ps t = go (leb (length ps) mostRead) refl
         let some : min (length ps) mostRead ≡ mostRead = omega signed in
         let cut = too-many (take mostRead ps) t (rw (length-take-le mostRead ps (omega signed)) (omega arith)) in
         rw some (cut ∙ sym (too-many ps t (omega signed)))
+
+-- Of records that are passed by value no more are taken than there are.
+pub few-taken : (ps : List Point) (n : ℕ) → length ps ≡ mostPassed → take (min n mostPassed) ps ≡ take n ps
+few-taken ps n full = go (leb n mostPassed) refl
+  where
+    go : (b : Bool) → leb n mostPassed ≡ b → take (min n mostPassed) ps ≡ take n ps
+    go true e =
+        let few : min n mostPassed ≡ n = omega signed in
+        rw few refl
+    go false e =
+        let all : min n mostPassed ≡ mostPassed = omega signed in
+        rw all (take-all mostPassed ps (omega (arith, full)) ∙ sym (take-all n ps (omega (signed, full))))

@@ -14,6 +14,10 @@ flattened (p ∷ ps) = p .time ∷ p .weight ∷ flattened ps
 abbrev pub mostRead : ℕ
 mostRead = mostPoints + 1
 
+-- The most records that are passed by value.
+abbrev pub mostPassed : ℕ
+mostPassed = 8
+
 -- A record that holds nothing yet.
 abbrev pub blank : Point
 blank = record { time = pos 0; weight = pos 0 }

@@ -5,7 +5,7 @@ ghost use mathlib.Core.Path.{_≡_};
 ghost use Prim.Native.Nat.{_≤_, min};
 ghost use lib.ListN.{take};
 ghost use Rattle.profiles.specs.Answer.{lookupOf};
-ghost use Rattle.point_records.specs.Records.{mostRead, flattened};
+ghost use Rattle.point_records.specs.Records.{mostRead, mostPassed, flattened};
 use profiles::Finding;
 
 // A point of a profile. Its layout is C's, so that a list of them can be lent from outside.
@@ -63,4 +63,27 @@ pub fn lookup_records(points: &[Point], t: i32) -> Finding
         i += 1;
     }
     lookup_copied(records, count, t)
+}
+
+// The most records that are passed by value.
+const MOST_PASSED: usize = 8;
+
+// How many records of so many are among those that are passed.
+fn among(count: usize) -> usize
+    ensures { λ r. ⌜ r ≡ min count mostPassed ⌝ }
+{
+    if count < MOST_PASSED {
+        count
+    } else {
+        MOST_PASSED
+    }
+}
+
+// The lookup over the first so many of a few records that are passed by value, for callers that lend no
+// slice of structs themselves. It lends them, so this too is proved by hand.
+pub fn lookup_among(points: [Point; MOST_PASSED], count: usize, t: i32) -> Finding
+    ensures { λ r. ⌜ r ≡ lookupOf (flattened (take count points)) t ⌝ }
+{
+    let few = among(count);
+    lookup_records(&points[..few], t)
 }

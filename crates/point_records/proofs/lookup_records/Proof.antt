@@ -75,13 +75,11 @@ use Rattle.point_records.proofs.lookup_records as lookup-records
 use Rattle.point_records.proofs.lookup_records.Statement as stated
 use Rattle.point_records.proofs.lookup_records.Code as code
 use Rattle.point_records.proofs.lookup_records.Code.Mir as body
-use Rattle.point_records.proofs.lookup_records.Proof.Steps.{local, rights, freed, calls-for}
-use Rattle.point_records.proofs.lookup_records.Proof.Records.{R, Rs, points, vals, tells, low, makes, copies}
-use Rattle.point_records.proofs.lookup_records.Proof.Records.{point-typed, array-typed, apart, together}
+use Rattle.point_records.proofs.Steps.{local, rights, freed, calls-for}
+use Rattle.point_records.proofs.Records.{R, Rs, points, vals, tells, low, makes, copies}
+use Rattle.point_records.proofs.Records.{point-typed, array-typed, apart, together}
 use Rattle.point_records.proofs.lookup_records.Proof.Callees.{ToRead, use-to-read, BlankRecords, use-blank}
 use Rattle.point_records.proofs.lookup_records.Proof.Callees.{LookupCopied, use-copied}
-mod Steps
-mod Records
 mod Callees
 
 -- the MIR types of a count, and of the slice
@@ -147,14 +145,14 @@ module _ {M : Type 1} (𝓤 : URA M) (H : Heap 𝓤) (A : Atoms 𝓤) (W : Given
 
     -- the locals: the result, points, t, count, records, i, and temporaries
     abbrev En : Env 𝓤 H
-    En = (F′.mir, l₀) ∷ (slice, l₁) ∷ (tyInt w32, l₂) ∷ (word, l₃) ∷ (points, l₄) ∷ (word, l₅) ∷ (word, l₆) ∷ (points, l₇)
-        ∷ (tyBool, l₈) ∷ (word, l₉) ∷ (tyPtr, l₁₀) ∷ (P′.mir, l₁₁) ∷ (word, l₁₂) ∷ (tyPtr, l₁₃) ∷ (tyPtr, l₁₄) ∷ []
+    En = (F′.mir, l₀) ∷ (slice, l₁) ∷ (tyInt w32, l₂) ∷ (word, l₃) ∷ (points mostRead, l₄) ∷ (word, l₅) ∷ (word, l₆)
+        ∷ (points mostRead, l₇) ∷ (tyBool, l₈) ∷ (word, l₉) ∷ (tyPtr, l₁₀) ∷ (P′.mir, l₁₁) ∷ (word, l₁₂) ∷ (tyPtr, l₁₃) ∷ (tyPtr, l₁₄) ∷ []
 
     -- what no turn touches: from entry 10 on, count, points, t, the result, two temporaries, the open slice, what it owns,
     -- and the right to free each local
     abbrev Frame : List (Item 𝓤)
     Frame = ‵ (fat fullShare word l₃ 0 (vint w64 n)) ∷ ‵ (fat fullShare slice l₁ 0 v) ∷ ‵ (fat fullShare (tyInt w32) l₂ 0 u)
-        ∷ ‵ (froom F′.mir l₀ 0) ∷ ‵ (froom word l₆ 0) ∷ ‵ (froom points l₇ 0)
+        ∷ ‵ (froom F′.mir l₀ 0) ∷ ‵ (froom word l₆ 0) ∷ ‵ (froom (points mostRead) l₇ 0)
         ∷ ‵ (fobor κ q (arr-parts (shares R) (length ps) .part q′ ps b o)) ∷ ‵ Own ∷ rights En
 
     -- where the loop stands: i points are copied, and the array holds rs
@@ -269,10 +267,10 @@ module _ {M : Type 1} (𝓤 : URA M) (H : Heap 𝓤) (A : Atoms 𝓤) (W : Given
           rewrite ! 3 (λ (y : Bool). ‵ (fat fullShare tyBool l₈ 0 (vbool y))) e refl $
           leaves-loop ! (local ! 3 refl) $ exec ! C Λ En body.t-7 (atRet En Post) $
           move ! (0 ∷ 16 ∷ []) $ shuts-slice ! tt R q′ ps b o $
-          move ! (1 ∷ []) $ use1 W (‵ (fat fullShare points l₄ 0 w) ⊛ ‵ (Rs .own (x .rs) (w ∷ []))) (together 𝓤 H A W (x .rs) (x .full) l₄) $
-          split ! $ move ! (1 ∷ []) $ peeks ! Rs (Is Rs) (shows 𝓤 H A Rs) (x .rs) (w ∷ []) (λ is.
+          move ! (1 ∷ []) $ use1 W (‵ (fat fullShare (points mostRead) l₄ 0 w) ⊛ ‵ (Rs mostRead .own (x .rs) (w ∷ [])))
+          (together 𝓤 H A W mostRead (x .rs) (x .full) l₄) $ split ! $ move ! (1 ∷ []) $ peeks ! (Rs mostRead) (Is (Rs mostRead)) (shows 𝓤 H A (Rs mostRead)) (x .rs) (w ∷ []) (λ is.
           -- [what the array owns; _4; the token; i; the turn's temporaries; the rest of the frame]
-          assigns ! (of-opd ! (local ! 1 refl)) (from ! (stop !)) (init ! 16 refl (array-typed 𝓤 H A W (x .rs) _ is)) $
+          assigns ! (of-opd ! (local ! 1 refl)) (from ! (stop !)) (init ! 16 refl (array-typed 𝓤 H A W mostRead (x .rs) _ is)) $
           calls-for ! fm (LookupCopied 𝓤 H A mem run) known (use-copied 𝓤 H A mem run W (x .rs) w n few t t-fits)
           (and-then ! (local ! 16 refl) (and-then ! (local ! 11 refl) (and-then ! (local ! 13 refl) (no-more !)))) (λ w′ r. learn ! (λ f.
           peeks ! F.the-row (Is F.the-row) (shows 𝓤 H A F.the-row) r (w′ ∷ []) (λ is′.
@@ -323,12 +321,12 @@ module _ {M : Type 1} (𝓤 : URA M) (H : Heap 𝓤) (A : Atoms 𝓤) (W : Given
         nothing ! $ calls-for ! fm (BlankRecords 𝓤 H A mem run) known-blank (use-blank 𝓤 H A mem run W)
         (no-more !) (λ w′ rs. learn ! (λ _.
         -- [what the array owns; _14; …]
-        peeks ! Rs (Is Rs) (shows 𝓤 H A Rs) rs (w′ ∷ []) (λ is-rs.
-        land ! (from ! (stop !)) (init ! 15 refl (array-typed 𝓤 H A W rs _ is-rs)) $
-        assigns ! (of-opd ! (local ! 15 refl)) (from ! (stop !)) (init ! 21 refl (array-typed 𝓤 H A W rs _ is-rs)) $
+        peeks ! (Rs mostRead) (Is (Rs mostRead)) (shows 𝓤 H A (Rs mostRead)) rs (w′ ∷ []) (λ is-rs.
+        land ! (from ! (stop !)) (init ! 15 refl (array-typed 𝓤 H A W mostRead rs _ is-rs)) $
+        assigns ! (of-opd ! (local ! 15 refl)) (from ! (stop !)) (init ! 21 refl (array-typed 𝓤 H A W mostRead rs _ is-rs)) $
         assigns ! (of-opd ! (lit ! tt)) (from ! (stop !)) (init ! 19 refl (tt, record { fits = lit< tt })) $
-        move ! (21 ∷ 0 ∷ []) $ fjoin ! $ use1 W (‵ (fsep (feq ℕ (length rs) mostRead) (row R fullShare rs l₄ 0))) (apart 𝓤 H A W rs w′ l₄) $
-        fsplit ! $ feqL ! (λ full.
+        move ! (21 ∷ 0 ∷ []) $ fjoin ! $ use1 W (‵ (fsep (feq ℕ (length rs) mostRead) (row R fullShare rs l₄ 0)))
+        (apart 𝓤 H A W mostRead rs w′ l₄) $ fsplit ! $ feqL ! (λ full.
         -- [the array point by point; _14; …; the token; what the parameters own]: a copy of what the slice owns is kept for the exit
         move ! (31 ∷ []) $ fsplit ! $ move ! (1 ∷ []) $ drop ! $
         use1 W (‵ Own ⊛ ‵ Own) (shr-slice-copy 𝓤 H A W (named 0) κ R .twice s (v ∷ [])) $ split ! $

@@ -36,8 +36,8 @@ use Rattle.point_records.specs.declared.Point.{Point}
 use Rattle.point_records.proofs.to_read as to-read
 use Rattle.point_records.proofs.blank_records as blank-records
 use Rattle.point_records.proofs.lookup_copied as lookup-copied
-use Rattle.point_records.proofs.lookup_records.Proof.Records.{Rs}
-use Rattle.point_records.proofs.lookup_records.Proof.Steps.{Use, came-back}
+use Rattle.point_records.proofs.Records.{Rs}
+use Rattle.point_records.proofs.Steps.{Use, came-back}
 
 module _ {M : Type 1} (𝓤 : URA M) (H : Heap 𝓤) (A : Atoms 𝓤) (mem : Memory → SProp 𝓤) (run : Routine → Fun 𝓤) where
   -- the contracts
@@ -69,9 +69,9 @@ module _ {M : Type 1} (𝓤 : URA M) (H : Heap 𝓤) (A : Atoms 𝓤) (mem : Mem
     use-blank = record {
       passed = ((tt, tt, tt, tt, tt), tt);
       head = ‵ ftrue;
-      had = λ w rs. given (Unit {0}) (‵ (Rs .own rs (w ∷ [])));
+      had = λ w rs. given (Unit {0}) (‵ (Rs mostRead .own rs (w ∷ [])));
       asks = qed W [] ∵ nothing ! $ nothing ! $ nothing ! $ join ! $ frame ! $ done !;
-      gives = came-back 𝓤 H A W Rs
+      gives = came-back 𝓤 H A W (Rs mostRead)
           (ensured 𝓤 H A blank-records.ended (blank-records.clauses 𝓤 H A mem run) tt tt tt) (λ rs. Unit {0})
           (λ rs. factI 𝓤 (Unit {0}) _ tt);
     }
@@ -81,9 +81,9 @@ module _ {M : Type 1} (𝓤 : URA M) (H : Heap 𝓤) (A : Atoms 𝓤) (mem : Mem
         → Use 𝓤 H A LookupCopied Finding
     use-copied rs v n few t fits = record {
       passed = ((tt, tt, tt, (rs, (n, (t, tt))), (v ∷ [], (vint w64 n ∷ [], (vint w32 (ofZ w32 t) ∷ [], tt)))), tt);
-      head = ‵ (Rs .own rs (v ∷ []));
+      head = ‵ (Rs mostRead .own rs (v ∷ []));
       had = λ w r. given (r ≡ lookupOf (flattened (take n rs)) t) (‵ (F.the-row .own r (w ∷ [])));
-      asks = qed W (‵ (Rs .own rs (v ∷ [])) ∷ []) ∵ says ! few $ nothing ! $ frame ! $ nothing ! $
+      asks = qed W (‵ (Rs mostRead .own rs (v ∷ [])) ∷ []) ∵ says ! few $ nothing ! $ frame ! $ nothing ! $
           owned ! i32 (Is i32) (sint-makes 𝓤 H A W w32) t _ (refl, fits) $ fjoin ! $
           owned ! usize (Is usize) (uint-makes 𝓤 H A W w64) n _ (refl, omega arith) $ fjoin ! $ move ! (1 ∷ 0 ∷ []) $ fjoin ! $ done !;
       gives = came-back 𝓤 H A W F.the-row

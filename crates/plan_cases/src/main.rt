@@ -1,0 +1,184 @@
+// Fixed inputs, each told as the program tells it, one text after the other.
+use plan_input::tell;
+
+// Plans at the edges: P4 to P8.
+fn plans() {
+    // P4: a critical job that just meets its deadline.
+    tell(
+        b"\x04\x00\x00\x00\
+        \x02\x00\x00\x00\x00\x28\x00\x0A",
+    );
+    // P5: one that does not, and a non-critical one.
+    tell(
+        b"\x04\x00\x00\x00\
+        \x02\x00\x00\x00\x00\x28\x00\x09",
+    );
+    tell(
+        b"\x04\x00\x00\x00\
+        \x00\x28\x00\x00\x00\x28\x00\x09",
+    );
+    // P6: of two alike the first is kept.
+    tell(
+        b"\x08\x00\x00\x00\
+        \x00\x28\x00\x00\x00\x28\x00\x0A\
+        \x04\x28\x00\x00\x00\x28\x00\x0A",
+    );
+    // P7: the second is shorter, and is kept.
+    tell(
+        b"\x08\x00\x00\x00\
+        \x00\x28\x00\x00\x00\x28\x00\x0A\
+        \x04\x28\x00\x00\x00\x14\x00\x0A",
+    );
+    // P8: A and C, though B alone would end before A.
+    tell(
+        b"\x0C\x00\x00\x00\
+        \x00\x28\x00\x00\x00\x10\x00\x04\
+        \x04\x28\x00\x00\x00\x08\x00\x04\
+        \x0A\x00\x00\x0A\x00\x04\x00\x0B",
+    );
+}
+
+// Plans at the ends of the ranges.
+fn more_plans() {
+    // A job that could only end after its deadline: ready 5, length 10, deadline 12.
+    tell(
+        b"\x04\x00\x00\x00\
+        \x00\x28\x00\x05\x00\x28\x00\x0C",
+    );
+    // No jobs, with the bus free at the earliest and at the latest time.
+    tell(b"\x02\x79\x60\x00");
+    tell(b"\x01\x86\xA0\x00");
+    // The earliest start, the longest job and the greatest number; then a job that ends at the latest deadline.
+    tell(
+        b"\x0A\x79\x60\x00\
+        \xFE\x02\x79\x60\x9C\x42\xA0\x70\
+        \x02\x01\x86\x9F\x00\x05\x86\xA0",
+    );
+    // Six weights of 50 pass.
+    tell(
+        b"\x18\x00\x00\x00\
+        \x04\xC8\x00\x00\x00\x28\x03\xE8\
+        \x08\xC8\x00\x00\x00\x28\x03\xE8\
+        \x0C\xC8\x00\x00\x00\x28\x03\xE8\
+        \x10\xC8\x00\x00\x00\x28\x03\xE8\
+        \x14\xC8\x00\x00\x00\x28\x03\xE8\
+        \x18\xC8\x00\x00\x00\x28\x03\xE8",
+    );
+}
+
+// Refusals 1 to 5, the lowest that applies.
+fn headers() {
+    // 1: three bytes.
+    tell(b"\x00\x00\x00");
+    // 2: a spare bit, also with more than 48 jobs.
+    tell(b"\x00\x00\x00\x80");
+    tell(b"\xFC\x00\x00\x01");
+    // 3: 49 jobs.
+    tell(b"\xC4\x00\x00\x00");
+    // 4: a record is missing, and a byte too many.
+    tell(b"\xC0\x00\x00\x00");
+    tell(
+        b"\x00\x00\x00\x00\
+        \x00",
+    );
+    // 5: one second after the latest time, and one before the earliest.
+    tell(b"\x01\x86\xA1\x00");
+    tell(b"\x02\x79\x5F\x00");
+}
+
+// Refusal 6, with the place of the first job out of range.
+fn jobs() {
+    // Length 10,001, and no length.
+    tell(
+        b"\x04\x00\x00\x00\
+        \x02\x00\x00\x00\x9C\x44\x00\x64",
+    );
+    tell(
+        b"\x08\x00\x00\x00\
+        \x02\x00\x00\x00\x00\x04\x00\x64\
+        \x06\x00\x00\x00\x00\x00\x00\x64",
+    );
+    // Weight 51; a non-critical job of no weight; a critical one of weight 1.
+    tell(
+        b"\x04\x00\x00\x00\
+        \x00\xCC\x00\x00\x00\x04\x00\x64",
+    );
+    tell(
+        b"\x08\x00\x00\x00\
+        \x00\xC8\x00\x00\x00\x04\x00\x64\
+        \x04\x00\x00\x00\x00\x04\x00\x64",
+    );
+    tell(
+        b"\x04\x00\x00\x00\
+        \x02\x04\x00\x00\x00\x04\x00\x64",
+    );
+    // A ready time and a deadline out of range.
+    tell(
+        b"\x04\x00\x00\x00\
+        \x02\x01\x86\xA1\x00\x04\x00\x64",
+    );
+    tell(
+        b"\x04\x00\x00\x00\
+        \x02\x00\x00\x00\x00\x06\x79\x5F",
+    );
+    // 6 is given before 7.
+    tell(
+        b"\x0C\x00\x00\x00\
+        \x12\x00\x00\x00\x00\x04\x00\x64\
+        \x12\x00\x00\x00\x00\x04\x00\x64\
+        \x16\x00\x00\x00\x00\x00\x00\x64",
+    );
+}
+
+// Refusals 7 and 9.
+fn orders() {
+    // 7: the numbers 4, 9, 4, 9.
+    tell(
+        b"\x10\x00\x00\x00\
+        \x10\x28\x00\x00\x00\x04\x00\x64\
+        \x24\x28\x00\x00\x00\x04\x00\x64\
+        \x10\x28\x00\x00\x00\x04\x00\x64\
+        \x24\x28\x00\x00\x00\x04\x00\x64",
+    );
+    // 9: six weights of 50, and one more of 1.
+    tell(
+        b"\x1C\x00\x00\x00\
+        \x04\xC8\x00\x00\x00\x28\x03\xE8\
+        \x08\xC8\x00\x00\x00\x28\x03\xE8\
+        \x0C\xC8\x00\x00\x00\x28\x03\xE8\
+        \x10\xC8\x00\x00\x00\x28\x03\xE8\
+        \x14\xC8\x00\x00\x00\x28\x03\xE8\
+        \x18\xC8\x00\x00\x00\x28\x03\xE8\
+        \x1C\x04\x00\x00\x00\x28\x03\xE8",
+    );
+    // 7 is given before 9.
+    tell(
+        b"\x1C\x00\x00\x00\
+        \x04\xC8\x00\x00\x00\x28\x03\xE8\
+        \x08\xC8\x00\x00\x00\x28\x03\xE8\
+        \x0C\xC8\x00\x00\x00\x28\x03\xE8\
+        \x10\xC8\x00\x00\x00\x28\x03\xE8\
+        \x14\xC8\x00\x00\x00\x28\x03\xE8\
+        \x18\xC8\x00\x00\x00\x28\x03\xE8\
+        \x04\x04\x00\x00\x00\x28\x03\xE8",
+    );
+}
+
+// More than 388 bytes: 2 or 3 by the header, else 4.
+fn long_inputs() {
+    let mut input = [0u8; 400];
+    tell(&input);
+    input[0] = 0xC4;
+    tell(&input);
+    input[3] = 0x01;
+    tell(&input);
+}
+
+fn main() {
+    plans();
+    more_plans();
+    headers();
+    jobs();
+    orders();
+    long_inputs();
+}

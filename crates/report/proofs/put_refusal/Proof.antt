@@ -1,0 +1,24 @@
+-- `report::put_refusal` meets its contract: the number, a space, and the place with the byte behind it.
+-- Assumes nothing.
+use mathlib.Core.List.{append-assoc}
+use borrow.Author.Needs.{needs}
+use Rattle.text.specs.Buffer.{wrote-more}
+use Rattle.report.proofs.put_refusal.Statement.{statement}
+use Rattle.report.proofs.put_refusal.Tie as tie
+
+put-figure-requires : tie.Need-put-figure-requires
+put-figure-requires c κs = search needs
+
+put-figure-requires-2 : tie.Need-put-figure-requires-2
+put-figure-requires-2 c κs = search needs
+
+same-length : tie.Need-same-length
+same-length c = search needs
+
+returns : tie.Need-returns
+returns c =
+    let number = c .before .before .before .before .before .before .put-figure in
+    (simp append-assoc at (wrote-more (number .ensures .0) (c .before .before .put-figure2 .ensures .0)), search needs)
+
+pub put-refusal-spec : {M : Type 1} → statement M
+put-refusal-spec = tie.close (tie.spec put-figure-requires put-figure-requires-2 same-length returns)

@@ -1,0 +1,70 @@
+-- Input past 388 bytes, the longest order: it is refused by its header, so its text does not depend on what stands behind,
+-- and a program that reads more than 388 bytes of it has read enough.
+use Prim.Native.Nat.{ℕ, _+_, _*_, _<_}
+use mathlib.Core.Path.{_≡_, sym, ap, _∙_}
+use mathlib.Core.Bool.{not, cond}
+use mathlib.Core.List.{List, _++_}
+use native.Mathlib.Omega.{arith}
+use lib.Dec.{ltb, eqb}
+use lib.ListN.{length, take, drop, length-append, take-append-drop}
+use lib.Seq.{take-all, take-append-le, length-take-le}
+use borrow.Author.Tests.{le-ltb, ltb-true, ltb-false, ne-eqb}
+use borrow.Table.Steps.{cases}
+use Rattle.packed.specs.Judge.{refused, judge}
+use Rattle.packed.specs.JudgeLaws.{judge-append}
+use Rattle.packed.specs.Packed.{headerWord, countOf, spareOf, numbersOf}
+use Rattle.packed.specs.PackedLaws.{count-is, spare-is}
+use Rattle.packed.specs.Refusals.{headerChecks, jobChecks, weightChecks}
+use Rattle.packed.specs.Steps.{header-judge}
+use Rattle.report.specs.Report.{refusalLine, textOf, reportOf}
+
+-- The bytes of an order of 48 jobs.
+abbrev pub longestOrder : ℕ
+longestOrder = 388
+
+-- What longer bytes are refused by: 2 or 3 where they apply, else 4.
+abbrev pub tooLong : List ℕ → ℕ
+tooLong bytes = cond (not (eqb (spareOf bytes) 0)) 2 (cond (ltb 48 (countOf bytes)) 3 4)
+
+module _ (bytes : List ℕ) (long : longestOrder < length bytes) where
+  -- Their header refuses them.
+  header-long : judge (headerChecks bytes) ≡ refused (tooLong bytes) 0
+  header-long =
+      header-judge bytes
+      ∙ rw (le-ltb (length bytes) 4 (omega arith))
+      (cases (not (eqb (spareOf bytes) 0))
+      (λ e. rw e)
+      (λ e. cases (ltb 48 (countOf bytes))
+      (λ f. rw (e, f))
+      (λ f. rw (e, f, ne-eqb (length bytes) (4 + 8 * countOf bytes) (λ q. omega (arith, ltb-false 48 (countOf bytes) f))))))
+
+  -- Such bytes have one line.
+  pub long-text : reportOf bytes ≡ refusalLine (tooLong bytes) 0
+  unfolding reportOf textOf
+  long-text =
+      rw (
+        judge-append (headerChecks bytes ++ jobChecks (numbersOf bytes)) (weightChecks 0 (numbersOf bytes)),
+        judge-append (headerChecks bytes) (jobChecks (numbersOf bytes)),
+        header-long,
+      )
+
+-- What stands behind such bytes changes nothing: the header is the same.
+pub longer-same : (bytes more : List ℕ) → longestOrder < length bytes → reportOf (bytes ++ more) ≡ reportOf bytes
+unfolding headerWord
+longer-same bytes more long =
+    long-text (bytes ++ more) (rw length-append (omega arith))
+    ∙ ap (λ n. refusalLine n 0) refused-same
+    ∙ sym (long-text bytes long)
+  where
+    word : headerWord (bytes ++ more) ≡ headerWord bytes
+    word = rw (take-append-le 4 bytes more (omega arith))
+
+    refused-same : tooLong (bytes ++ more) ≡ tooLong bytes
+    refused-same = rw (spare-is (bytes ++ more), count-is (bytes ++ more), spare-is bytes, count-is bytes, word)
+
+-- So the first bytes of any input, if they are more than the longest order has, have the text of the whole input.
+pub read-enough : (size : ℕ) → longestOrder < size → (input : List ℕ) → reportOf (take size input) ≡ reportOf input
+read-enough size h input = cases (ltb size (length input))
+    (λ e. let long : length (take size input) ≡ size = length-take-le size input (omega (arith, ltb-true size (length input) e)) in
+    sym (longer-same (take size input) (drop size input) (omega arith)) ∙ ap reportOf (take-append-drop size input))
+    (λ e. ap reportOf (take-all size input (ltb-false size (length input) e)))

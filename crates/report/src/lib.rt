@@ -1,0 +1,154 @@
+// The text that the program prints: the plan of the bytes that it read, or why there is none, written into
+// a lent buffer. Assumes nothing.
+use fields::header_at;
+use fields::job_at;
+use planner::Figures;
+use planner::Planned;
+use planner::plan;
+use text::put_byte;
+use text::put_count;
+use text::put_number;
+ghost use mathlib.Core.List.{[], _∷_, _++_};
+ghost use Prim.Native.Nat.{_+_, _≤_};
+ghost use Rattle.text.specs.Decimal.{space, digits};
+ghost use Rattle.text.specs.Buffer.{Room, Wrote};
+ghost use Rattle.report.specs.Report.{planLine, startWord, jobLine, reportOf, Reported};
+ghost use Rattle.report.specs.Writing.{keptWords, CanList, listed, CanTell, HasRoom};
+
+// The bytes between the figures of a line and at its end, and the one for a job that is left out.
+const SPACE: u8 = 32;
+
+const NEWLINE: u8 = 10;
+
+const MINUS: u8 = 45;
+
+// What stands for the start of a job that is left out.
+const LEFT_OUT: i32 = 200_000;
+
+// The most jobs of an order, and the numbers that planning works in.
+const MOST_JOBS: usize = 48;
+
+const AREA: usize = 14_749;
+
+// The room that is wanted for a text, in bytes.
+pub const ROOM: usize = 2048;
+
+// A number from zero up, and a byte behind it: at most eleven bytes.
+fn put_figure(out: &mut [u8], at: usize, value: u32, behind: u8) -> usize
+    requires { ⌜ Room 11 (now out) at ⌝ }
+    ensures { λ r. ⌜ Wrote (now (out .entry)) at (digits value ++ (behind ∷ [])) (now (out .exit)) r ⌝ }
+    ensures { λ r. ⌜ r ≤ at + 11 ⌝ }
+{
+    let next = put_count(out, at, value);
+    put_byte(out, next, behind)
+}
+
+// A refusal's number and place, and a byte behind them, at the front: at most 22 bytes.
+fn put_refusal(out: &mut [u8], number: u32, place: u32, behind: u8) -> usize
+    requires { ⌜ Room 22 (now out) 0 ⌝ }
+    ensures { λ r. ⌜ Wrote (now (out .entry)) 0 (digits number ++ (space ∷ (digits place ++ (behind ∷ []))))
+        (now (out .exit)) r ⌝ }
+    ensures { λ r. ⌜ r ≤ 22 ⌝ }
+{
+    let next = put_figure(out, 0, number, SPACE);
+    put_figure(out, next, place, behind)
+}
+
+// How many jobs are kept, and the weights kept and lost, a space behind each: at most 33 bytes.
+fn put_kept(out: &mut [u8], at: usize, figures: Figures) -> usize
+    requires { ⌜ Room 33 (now out) at ⌝ }
+    ensures { λ r. ⌜ Wrote (now (out .entry)) at (keptWords figures) (now (out .exit)) r ⌝ }
+    ensures { λ r. ⌜ r ≤ at + 33 ⌝ }
+{
+    let mut next = put_figure(out, at, figures.kept, SPACE);
+    next = put_figure(out, next, figures.kept_weight, SPACE);
+    put_figure(out, next, figures.lost_weight, SPACE)
+}
+
+// The line of a plan, at the front: at most 78 bytes.
+fn put_plan(out: &mut [u8], figures: Figures) -> usize
+    requires { ⌜ Room 78 (now out) 0 ⌝ }
+    ensures { λ r. ⌜ Wrote (now (out .entry)) 0 (planLine figures) (now (out .exit)) r ⌝ }
+    ensures { λ r. ⌜ r ≤ 78 ⌝ }
+{
+    let mut at = put_refusal(out, 0, 0, SPACE);
+    at = put_kept(out, at, figures);
+    at = put_number(out, at, figures.finish);
+    at = put_byte(out, at, SPACE);
+    put_figure(out, at, figures.points, NEWLINE)
+}
+
+// A job's start, or a minus sign where the job is left out: at most eleven bytes.
+fn put_start(out: &mut [u8], at: usize, start: i32) -> usize
+    requires { ⌜ Room 11 (now out) at ⌝ }
+    ensures { λ r. ⌜ Wrote (now (out .entry)) at (startWord start) (now (out .exit)) r ⌝ }
+    ensures { λ r. ⌜ r ≤ at + 11 ⌝ }
+{
+    if start == LEFT_OUT {
+        return put_byte(out, at, MINUS);
+    }
+    put_number(out, at, start)
+}
+
+// The line of a job: at most 23 bytes.
+fn put_job(out: &mut [u8], at: usize, number: u32, start: i32) -> usize
+    requires { ⌜ Room 23 (now out) at ⌝ }
+    ensures { λ r. ⌜ Wrote (now (out .entry)) at (jobLine number start) (now (out .exit)) r ⌝ }
+    ensures { λ r. ⌜ r ≤ at + 23 ⌝ }
+{
+    let mut next = put_figure(out, at, number, SPACE);
+    next = put_start(out, next, start);
+    put_byte(out, next, NEWLINE)
+}
+
+// The lines of the first n jobs, in place order.
+fn put_jobs(out: &mut [u8], at: usize, bytes: &[u8], n: usize, starts: &[i32]) -> usize
+    requires { ⌜ CanList (now bytes) n (now starts) (now out) at ⌝ }
+    ensures { λ r. ⌜ Wrote (now (out .entry)) at (listed (now (bytes .entry)) (now (starts .entry)) n) (now (out .exit)) r ⌝ }
+{
+    let mut next = at;
+    let mut i = 0;
+    while i < n {
+        let job = job_at(bytes, 4 + 8 * i);
+        let number = job.number;
+        let start = starts[i];
+        next = put_job(out, next, number as u32, start);
+        i += 1;
+    }
+    next
+}
+
+// The text of a plan: its line, and a line for each job.
+fn tell_plan(bytes: &[u8], figures: Figures, starts: &[i32], out: &mut [u8]) -> usize
+    requires { ⌜ CanTell (now bytes) figures (now starts) (now out) ⌝ }
+    ensures { λ r. ⌜ Wrote (now (out .entry)) 0 (reportOf (now (bytes .entry))) (now (out .exit)) r ⌝ }
+{
+    let header = header_at(bytes);
+    let n = header.count;
+    let next = put_plan(out, figures);
+    put_jobs(out, next, bytes, n, starts)
+}
+
+// The text by planning in lent numbers, of which there are enough.
+fn plan_and_tell(bytes: &[u8], starts: &mut [i32], work: &mut [i32], out: &mut [u8]) -> usize
+    requires { ⌜ HasRoom (now starts) (now work) (now out) ⌝ }
+    ensures { λ r. ⌜ Wrote (now (out .entry)) 0 (reportOf (now (bytes .entry))) (now (out .exit)) r ⌝ }
+{
+    match plan(bytes, starts, work) {
+        Planned::Refused(number, place) => put_refusal(out, number, place as u32, NEWLINE),
+        Planned::Made(figures) => tell_plan(bytes, figures, starts, out),
+    }
+}
+
+// The text for any bytes, at the front of `out`. Returns its length; with less than 2,048 bytes of room
+// nothing is written, and the length is 0.
+pub fn report(bytes: &[u8], out: &mut [u8]) -> usize
+    ensures { λ r. ⌜ Reported (now (bytes .entry)) (now (out .entry)) (now (out .exit)) r ⌝ }
+{
+    if out.len() < ROOM {
+        return 0;
+    }
+    let mut starts = [0i32; MOST_JOBS];
+    let mut work = [0i32; AREA];
+    plan_and_tell(bytes, &mut starts, &mut work, out)
+}
