@@ -1,0 +1,2 @@
+-- What the program's helpers promise.
+pub mod Within
