@@ -74,7 +74,7 @@ loop-again c =
     let time = kept (getD rs (at .i) blank .time) (c .struct-told2 .given .0 .1) in
     let weight = kept (getD rs (at .i) blank .weight) (c .struct-told2 .given .1 .0 .1) in
     let laid = lay-more rs (start .args .count) (at .i) blank (omega arith) (omega arith) (omega arith) (at .inv .1) in
-    (omega arith, rw (time, weight) laid)
+    (omega arith, simp (time, weight) laid)
 
 mul-numbers-3 : tie.Need-mul-numbers-3 Inv-loop μ-loop
 mul-numbers-3 c = search needs
