@@ -1,0 +1,47 @@
+-- `by_hand::choices::run` is safe and ends: each turn leaves fewer jobs.
+-- Assumes nothing.
+use Prim.Native.Nat.{_-_}
+use native.Mathlib.Omega.{arith}
+use Rattle.by_hand.proofs.choices.run.Statement.{statement}
+use Rattle.by_hand.proofs.choices.run.Tie as tie
+
+abbrev Inv-loop : tie.InvT-loop
+Inv-loop numbers jobs from choice outcome₀ left₀ place₀ outcome left place = Unit {0}
+
+abbrev μ-loop : tie.MeasureT-loop
+μ-loop numbers jobs from choice outcome₀ left₀ place₀ outcome left place = jobs - place
+
+loop-holds : tie.Need-loop-holds Inv-loop μ-loop
+loop-holds c = tt
+
+keep-requires : tie.Need-keep-requires Inv-loop μ-loop
+keep-requires c κs = tt
+
+leave-requires : tie.Need-leave-requires Inv-loop μ-loop
+leave-requires c κs = tt
+
+add-place : tie.Need-add-place Inv-loop μ-loop
+add-place c = omega arith
+
+loop-less : tie.Need-loop-less Inv-loop μ-loop
+loop-less c = omega arith
+
+loop-again : tie.Need-loop-again Inv-loop μ-loop
+loop-again c = tt
+
+returns : tie.Need-returns Inv-loop μ-loop
+returns c = tt
+
+pub run-spec : {M : Type 1} → statement M
+run-spec =
+    tie.close
+    (tie.spec
+    Inv-loop
+    μ-loop
+    loop-holds
+    keep-requires
+    leave-requires
+    add-place
+    loop-less
+    loop-again
+    returns)

@@ -1,0 +1,238 @@
+// Choices of an order run one by one: what a choice comes to, the best of them, and its figures.
+use careful::at;
+use careful::more;
+use careful::plus;
+use careful::put;
+
+// The most jobs of an order.
+const MOST: usize = 10;
+
+// Where a job's fields stand among its six numbers.
+const CRITICAL: usize = 1;
+
+const WEIGHT: usize = 2;
+
+const READY: usize = 3;
+
+const LENGTH: usize = 4;
+
+const DEADLINE: usize = 5;
+
+// What stands for the start of a job that is left out.
+const LEFT_OUT: i32 = 200_000;
+
+// What running a choice comes to: whether it may be run at all, when it ends, and the weight kept.
+pub struct Outcome {
+    pub feasible: bool,
+    pub finish: i32,
+    pub weight: i32,
+}
+
+// The best choice so far, if there is one, and whether another has the same weight and finish.
+pub struct Best {
+    pub found: bool,
+    pub choice: u32,
+    pub finish: i32,
+    pub weight: i32,
+    pub tied: bool,
+}
+
+// A choice's mask, the highest bit for place 0, how many jobs it keeps and the weight it loses.
+pub struct Tally {
+    pub mask: u64,
+    pub kept: u64,
+    pub lost: i32,
+}
+
+// A field of the job at a place.
+fn field(numbers: &[i32], place: usize, which: usize) -> i32 {
+    if place >= MOST {
+        return 0;
+    }
+    if which > DEADLINE {
+        return 0;
+    }
+    at(numbers, 6 * place + which)
+}
+
+// How many choices so many jobs have.
+pub fn choices(jobs: usize) -> u32 {
+    if jobs < MOST {
+        return 1u32 << jobs;
+    }
+    1024
+}
+
+// The start of the job at a place where the bus is free from a time on.
+fn start_of(numbers: &[i32], place: usize, free: i32) -> i32 {
+    let ready = field(numbers, place, READY);
+    if ready < free {
+        return free;
+    }
+    ready
+}
+
+// The job at a place left out: a critical one may not be.
+fn leave(numbers: &[i32], place: usize, so_far: Outcome) -> Outcome {
+    if field(numbers, place, CRITICAL) == 1 {
+        return Outcome {
+            feasible: false,
+            finish: so_far.finish,
+            weight: so_far.weight,
+        };
+    }
+    so_far
+}
+
+// The job at a place kept: it ends by its deadline, or the choice may not be run.
+fn keep(numbers: &[i32], place: usize, so_far: Outcome) -> Outcome {
+    let start = start_of(numbers, place, so_far.finish);
+    let finish = plus(start, field(numbers, place, LENGTH));
+    let weight = plus(so_far.weight, field(numbers, place, WEIGHT));
+    let mut feasible = so_far.feasible;
+    if field(numbers, place, DEADLINE) < finish {
+        feasible = false;
+    }
+    Outcome {
+        feasible: feasible,
+        finish: finish,
+        weight: weight,
+    }
+}
+
+// The first so many jobs run by a choice, the bus free from a time on.
+pub fn run(numbers: &[i32], jobs: usize, from: i32, choice: u32) -> Outcome {
+    let mut outcome = Outcome {
+        feasible: true,
+        finish: from,
+        weight: 0,
+    };
+    let mut left = choice;
+    let mut place = 0;
+    while place < jobs {
+        if left % 2 == 1 {
+            outcome = keep(numbers, place, outcome);
+        } else {
+            outcome = leave(numbers, place, outcome);
+        }
+        left = left / 2;
+        place += 1;
+    }
+    outcome
+}
+
+// The better of the best so far and a choice that comes to an outcome: heavier, or as heavy and earlier.
+// The best so far stays where both are the same: of two choices the lesser number leaves out the last
+// job in which they differ.
+fn better(best: Best, choice: u32, outcome: Outcome) -> Best {
+    if !outcome.feasible {
+        return best;
+    }
+    let finish = outcome.finish;
+    let weight = outcome.weight;
+    let heavier = !best.found || best.weight < weight;
+    if heavier || (best.weight == weight && finish < best.finish) {
+        return Best {
+            found: true,
+            choice: choice,
+            finish: finish,
+            weight: weight,
+            tied: false,
+        };
+    }
+    if best.weight == weight && best.finish == finish {
+        return Best {
+            found: true,
+            choice: best.choice,
+            finish: finish,
+            weight: weight,
+            tied: true,
+        };
+    }
+    best
+}
+
+// The best of all choices, in the sequence of their numbers.
+pub fn best_choice(numbers: &[i32], t0: i32) -> Best {
+    let jobs = numbers.len() / 6;
+    let mut best = Best {
+        found: false,
+        choice: 0,
+        finish: 0,
+        weight: 0,
+        tied: false,
+    };
+    let end = choices(jobs);
+    let mut choice = 0;
+    while choice < end {
+        best = better(best, choice, run(numbers, jobs, t0, choice));
+        choice += 1;
+    }
+    best
+}
+
+// Puts the start of the job at a place, kept or left out. Returns when the bus is free after it.
+fn put_start(numbers: &[i32], place: usize, kept: bool, free: i32, starts: &mut [i32]) -> i32 {
+    if !kept {
+        put(starts, place, LEFT_OUT);
+        return free;
+    }
+    let start = start_of(numbers, place, free);
+    put(starts, place, start);
+    plus(start, field(numbers, place, LENGTH))
+}
+
+// The starts of a choice, in place order.
+pub fn write_starts(numbers: &[i32], t0: i32, choice: u32, starts: &mut [i32]) {
+    let jobs = numbers.len() / 6;
+    let mut free = t0;
+    let mut left = choice;
+    let mut place = 0;
+    while place < jobs {
+        free = put_start(numbers, place, left % 2 == 1, free, starts);
+        left = left / 2;
+        place += 1;
+    }
+}
+
+// The tally with the job at a place kept or left out.
+fn tallied(numbers: &[i32], place: usize, kept: bool, so_far: Tally) -> Tally {
+    if !kept {
+        return Tally {
+            mask: so_far.mask,
+            kept: so_far.kept,
+            lost: plus(so_far.lost, field(numbers, place, WEIGHT)),
+        };
+    }
+    Tally {
+        mask: so_far.mask | bit_of(place),
+        kept: more(so_far.kept, 1),
+        lost: so_far.lost,
+    }
+}
+
+// The bit of a place in a mask.
+fn bit_of(place: usize) -> u64 {
+    if place < 64 {
+        return 1u64 << (63 - place);
+    }
+    0
+}
+
+// The tally of a choice over all jobs.
+pub fn tally_of(numbers: &[i32], choice: u32) -> Tally {
+    let jobs = numbers.len() / 6;
+    let mut tally = Tally {
+        mask: 0,
+        kept: 0,
+        lost: 0,
+    };
+    let mut left = choice;
+    let mut place = 0;
+    while place < jobs {
+        tally = tallied(numbers, place, left % 2 == 1, tally);
+        left = left / 2;
+        place += 1;
+    }
+    tally
+}

@@ -1,0 +1,19 @@
+// A planner by trial, to compare the library with: every choice of an order is counted as a number and
+// run job by job. It is written from document 01 alone, and uses nothing of the library. A choice's
+// lowest bit is place 0; an order is six numbers a job, of at most ten jobs; outcomes and profiles are
+// alternating numbers, time and weight. Every function is safe and ends. Assumes nothing.
+mod choices;
+mod points;
+
+pub use choices::Best;
+pub use choices::Tally;
+pub use choices::best_choice;
+pub use choices::tally_of;
+pub use choices::write_starts;
+pub use points::extend;
+pub use points::is_profile;
+pub use points::join;
+pub use points::look_up;
+pub use points::point_total;
+pub use points::too_heavy;
+pub use points::worth;

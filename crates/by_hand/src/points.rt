@@ -1,0 +1,257 @@
+// Profiles by trial: the outcomes of all choices gathered, and from them, or from the points of two
+// profiles, the points at which the greatest weight to be had rises.
+use crate::choices::Outcome;
+use crate::choices::choices;
+use crate::choices::run;
+use crate::choices::tally_of;
+use careful::at;
+use careful::more;
+use careful::plus;
+use careful::put;
+ghost use Prim.Native.Nat.{_≤_};
+
+// The most outcomes that are gathered: those of four points and ten jobs.
+const MOST: usize = 4096;
+
+// The most points and numbers of a profile, the second before its earliest time, its latest time and its
+// greatest weight.
+const POINTS: usize = 301;
+
+const NUMBERS: usize = 602;
+
+const TOO_EARLY: i32 = -100_001;
+
+const LATEST: i32 = 100_000;
+
+const HEAVIEST: i32 = 300;
+
+// The time of an outcome or a point.
+fn time_of(pairs: &[i32], place: usize) -> i32 {
+    if place < MOST {
+        return at(pairs, 2 * place);
+    }
+    0
+}
+
+// The weight of an outcome or a point.
+fn weight_of(pairs: &[i32], place: usize) -> i32 {
+    if place < MOST {
+        return at(pairs, 2 * place + 1);
+    }
+    0
+}
+
+// Puts a pair behind those gathered. Returns how many there are.
+fn put_pair(pairs: &mut [i32], many: usize, time: i32, weight: i32) -> usize {
+    if many < MOST {
+        put(pairs, 2 * many, time);
+        put(pairs, 2 * many + 1, weight);
+        return many + 1;
+    }
+    many
+}
+
+// Puts a feasible outcome, with the weight of the point it was run from, behind those gathered.
+fn put_outcome(pairs: &mut [i32], many: usize, outcome: Outcome, before: i32) -> usize {
+    if outcome.feasible {
+        return put_pair(pairs, many, outcome.finish, plus(before, outcome.weight));
+    }
+    many
+}
+
+// Every choice of the first so many jobs run from a point, behind what is gathered.
+fn gather(
+    numbers: &[i32],
+    jobs: usize,
+    time: i32,
+    weight: i32,
+    pairs: &mut [i32],
+    many: usize,
+) -> usize {
+    let end = choices(jobs);
+    let mut count = many;
+    let mut choice = 0;
+    while choice < end {
+        count = put_outcome(pairs, count, run(numbers, jobs, time, choice), weight);
+        choice += 1;
+    }
+    count
+}
+
+// Every choice run from every point of a profile.
+fn gather_all(profile: &[i32], numbers: &[i32], pairs: &mut [i32]) -> usize {
+    let points = profile.len() / 2;
+    let jobs = numbers.len() / 6;
+    let mut count = 0;
+    let mut i = 0;
+    while i < points {
+        count = gather(
+            numbers,
+            jobs,
+            time_of(profile, i),
+            weight_of(profile, i),
+            pairs,
+            count,
+        );
+        i += 1;
+    }
+    count
+}
+
+// The points of a profile put behind what is gathered.
+fn gather_points(profile: &[i32], pairs: &mut [i32], many: usize) -> usize {
+    let points = profile.len() / 2;
+    let mut count = many;
+    let mut i = 0;
+    while i < points {
+        count = put_pair(pairs, count, time_of(profile, i), weight_of(profile, i));
+        i += 1;
+    }
+    count
+}
+
+// Whether a pair above a weight comes before the pair found so far: earlier, or as early and heavier.
+fn comes_first(pairs: &[i32], place: usize, found: usize, many: usize, above: i32) -> bool {
+    let weight = weight_of(pairs, place);
+    if weight <= above {
+        return false;
+    }
+    if found >= many {
+        return true;
+    }
+    let time = time_of(pairs, place);
+    let other = time_of(pairs, found);
+    time < other || (time == other && weight_of(pairs, found) < weight)
+}
+
+// The earliest pair above a weight, the heaviest of those; where there is none, how many pairs there are.
+fn next_rise(pairs: &[i32], many: usize, above: i32) -> usize {
+    let mut found = many;
+    let mut i = 0;
+    while i < many {
+        if comes_first(pairs, i, found, many, above) {
+            found = i;
+        }
+        i += 1;
+    }
+    found
+}
+
+// The profile of the pairs gathered: a point at each time at which the greatest weight by then rises.
+// Returns how many points there are.
+fn write_profile(pairs: &[i32], many: usize, out: &mut [i32]) -> usize
+    ensures { λ r. ⌜ r ≤ 301 ⌝ }
+{
+    let mut above = -1;
+    let mut points = 0;
+    while points < POINTS {
+        let next = next_rise(pairs, many, above);
+        if next >= many {
+            return points;
+        }
+        above = weight_of(pairs, next);
+        put(out, 2 * points, time_of(pairs, next));
+        put(out, 2 * points + 1, above);
+        points += 1;
+    }
+    points
+}
+
+// A profile extended by an order. Returns how many points there are.
+pub fn extend(profile: &[i32], numbers: &[i32], out: &mut [i32]) -> usize
+    ensures { λ r. ⌜ r ≤ 301 ⌝ }
+{
+    let mut pairs = [0; 8192];
+    let many = gather_all(profile, numbers, &mut pairs);
+    write_profile(&pairs, many, out)
+}
+
+// The better of two profiles. Returns how many points there are.
+pub fn join(one: &[i32], other: &[i32], out: &mut [i32]) -> usize
+    ensures { λ r. ⌜ r ≤ 301 ⌝ }
+{
+    let mut pairs = [0; 1204];
+    let some = gather_points(one, &mut pairs, 0);
+    let many = gather_points(other, &mut pairs, some);
+    write_profile(&pairs, many, out)
+}
+
+// How many points the profile of the first so many jobs has.
+fn points_after(numbers: &[i32], jobs: usize, t0: i32) -> usize {
+    let mut pairs = [0; 2048];
+    let mut out = [0; 602];
+    let many = gather(numbers, jobs, t0, 0, &mut pairs, 0);
+    write_profile(&pairs, many, &mut out)
+}
+
+// The points after each job, summed.
+pub fn point_total(numbers: &[i32], t0: i32) -> u64 {
+    let jobs = numbers.len() / 6;
+    let mut total = 0;
+    let mut k = 0;
+    while k < jobs {
+        k += 1;
+        total = more(total, points_after(numbers, k, t0) as u64);
+    }
+    total
+}
+
+// The greatest weight of the pairs at or before a time, -1 where there is none.
+fn weight_by(pairs: &[i32], many: usize, t: i32) -> i32 {
+    let mut greatest = -1;
+    let mut i = 0;
+    while i < many {
+        let weight = weight_of(pairs, i);
+        if time_of(pairs, i) <= t && greatest < weight {
+            greatest = weight;
+        }
+        i += 1;
+    }
+    greatest
+}
+
+// The weight that a profile gives at a time, -1 where it gives none.
+pub fn look_up(profile: &[i32], t: i32) -> i32 {
+    weight_by(profile, profile.len() / 2, t)
+}
+
+// The greatest weight that an order can keep by a time, -1 where it has no plan that ends by then.
+pub fn worth(numbers: &[i32], t0: i32, t: i32) -> i32 {
+    let mut pairs = [0; 2048];
+    let many = gather(numbers, numbers.len() / 6, t0, 0, &mut pairs, 0);
+    weight_by(&pairs, many, t)
+}
+
+// Whether numbers are a profile: pairs whose times and weights rise within their ranges.
+pub fn is_profile(numbers: &[i32]) -> bool {
+    if numbers.len() % 2 == 1 || numbers.len() > NUMBERS {
+        return false;
+    }
+    let points = numbers.len() / 2;
+    let mut time = TOO_EARLY;
+    let mut weight = -1;
+    let mut i = 0;
+    while i < points {
+        if time_of(numbers, i) <= time || weight_of(numbers, i) <= weight {
+            return false;
+        }
+        time = time_of(numbers, i);
+        weight = weight_of(numbers, i);
+        i += 1;
+    }
+    time <= LATEST && weight <= HEAVIEST
+}
+
+// The last weight of a profile, 0 where it is empty.
+fn last_weight(profile: &[i32]) -> i32 {
+    if profile.len() == 0 {
+        return 0;
+    }
+    at(profile, profile.len() - 1)
+}
+
+// Whether a profile and an order are too heavy together. The choice that keeps nothing loses all weights.
+pub fn too_heavy(profile: &[i32], numbers: &[i32]) -> bool {
+    let nothing = tally_of(numbers, 0);
+    HEAVIEST < plus(last_weight(profile), nothing.lost)
+}

@@ -1,0 +1,95 @@
+// Numbers read, written, cut short and added with an answer for every place and every number, so that
+// trial programs carry no bounds of their own. Every function is safe and ends. Assumes nothing.
+
+// The numbers of a sum are no less than the first and no greater than the second.
+const LOW: i32 = -1_000_000;
+
+const HIGH: i32 = 1_000_000;
+
+// The counts of a sum are no greater than this.
+const MANY: u64 = 1_000_000_000;
+
+// The number at a place, 0 past the end.
+pub fn at(numbers: &[i32], place: usize) -> i32 {
+    if place < numbers.len() {
+        return numbers[place];
+    }
+    0
+}
+
+// Puts a number at a place; past the end nothing is written.
+pub fn put(numbers: &mut [i32], place: usize, number: i32) {
+    if place < numbers.len() {
+        numbers[place] = number;
+    }
+}
+
+// The first so many numbers, or all where there are fewer.
+pub fn front(numbers: &[i32], many: usize) -> &[i32] {
+    if many <= numbers.len() {
+        return &numbers[0..many];
+    }
+    numbers
+}
+
+// Whether two runs of numbers are the same.
+pub fn same(one: &[i32], other: &[i32]) -> bool {
+    if one.len() != other.len() {
+        return false;
+    }
+    let mut i = 0;
+    while i < one.len() {
+        if at(one, i) != at(other, i) {
+            return false;
+        }
+        i += 1;
+    }
+    true
+}
+
+// Whether all numbers are one number.
+pub fn all_are(numbers: &[i32], number: i32) -> bool {
+    let mut i = 0;
+    while i < numbers.len() {
+        if at(numbers, i) != number {
+            return false;
+        }
+        i += 1;
+    }
+    true
+}
+
+// The sum of two numbers, 0 where one is too far from 0.
+pub fn plus(one: i32, other: i32) -> i32 {
+    if one < LOW || other < LOW || one > HIGH || other > HIGH {
+        return 0;
+    }
+    one + other
+}
+
+// A count as a number, 0 where it is too great.
+pub fn number_of(count: u64) -> i32 {
+    if count < 1_000_000 {
+        return count as i32;
+    }
+    0
+}
+
+// Whether a count is a number.
+pub fn is_count(count: u64, number: i32) -> bool {
+    if count < 1_000_000 {
+        return count as i32 == number;
+    }
+    false
+}
+
+// The sum of two counts, or the first where one is too great.
+pub fn more(count: u64, by: u64) -> u64 {
+    if count > MANY {
+        return count;
+    }
+    if by > MANY {
+        return count;
+    }
+    count + by
+}

@@ -1,0 +1,289 @@
+// Each call compared with the planner by trial: its answer, all that it wrote, and that it wrote no more.
+use crate::counts::FEASIBLE;
+use crate::counts::LOOKUPS;
+use crate::counts::ORDERS;
+use crate::counts::POINTS;
+use crate::counts::QUESTIONS;
+use crate::counts::TIES;
+use crate::counts::count;
+use crate::counts::expect;
+use better::Joined;
+use by_hand::Best;
+use careful::all_are;
+use careful::at;
+use careful::front;
+use careful::is_count;
+use careful::plus;
+use careful::same;
+use openings::Chosen;
+use pack::Packed;
+use planner::Extended;
+use planner::Figures;
+use planner::Planned;
+use profiles::Finding;
+ghost use Prim.Native.Nat.{_≤_};
+
+// What lent buffers hold before a call, so that every number written shows.
+const MARK: i32 = 7_777;
+
+// The numbers of the work area.
+const AREA: usize = 14_749;
+
+// The bytes of an order; an order that is refused has none.
+fn pack_order(t0: i32, numbers: &[i32], bytes: &mut [u8]) -> usize {
+    match pack::pack(t0, numbers, bytes) {
+        Packed::Refused(_, _) => 0,
+        Packed::Bytes(written) => written,
+    }
+}
+
+// The first so many bytes, or all where there are fewer.
+fn front_bytes(bytes: &[u8], many: usize) -> &[u8] {
+    if many <= bytes.len() {
+        return &bytes[0..many];
+    }
+    bytes
+}
+
+// Whether a call left the work area as it should, full of one number, and what is past it as it was.
+fn leaves(work: &[i32], number: i32) -> bool {
+    all_are(front(work, AREA), number) && at(work, AREA) == MARK
+}
+
+// Whether a plan's figures are those of the best choice.
+fn figures_agree(figures: Figures, numbers: &[i32], t0: i32, best: Best) -> bool {
+    let tally = by_hand::tally_of(numbers, best.choice);
+    best.found
+        && figures.mask == tally.mask
+        && figures.kept as u64 == tally.kept
+        && is_count(figures.kept_weight as u64, best.weight)
+        && is_count(figures.lost_weight as u64, tally.lost)
+        && figures.finish == best.finish
+        && figures.points as u64 == by_hand::point_total(numbers, t0)
+}
+
+// The starts that a plan must write: none where there is no choice.
+fn expect_starts(numbers: &[i32], t0: i32, best: Best, starts: &mut [i32]) {
+    if best.found {
+        by_hand::write_starts(numbers, t0, best.choice, starts);
+    }
+}
+
+// Whether planning agrees with the best choice and writes the starts expected.
+fn plan_agrees(numbers: &[i32], t0: i32, best: Best, expected: &[i32]) -> bool {
+    let mut bytes = [0; 84];
+    let size = pack_order(t0, numbers, &mut bytes);
+    let mut starts = [MARK; 12];
+    let mut work = [MARK; 14_750];
+    let agrees = match planner::plan(front_bytes(&bytes, size), &mut starts, &mut work) {
+        Planned::Refused(number, place) => !best.found && number == 11 && place == 0,
+        Planned::Made(figures) => figures_agree(figures, numbers, t0, best),
+    };
+    agrees && same(&starts, expected) && leaves(&work, 0)
+}
+
+// The plan of an order.
+pub fn check_plan(numbers: &[i32], t0: i32, counts: &mut [u64]) {
+    let best = by_hand::best_choice(numbers, t0);
+    let mut expected = [MARK; 12];
+    expect_starts(numbers, t0, best, &mut expected);
+    expect(counts, plan_agrees(numbers, t0, best, &expected));
+    count(counts, ORDERS, 1);
+    count(counts, FEASIBLE, best.found as u64);
+    count(counts, TIES, best.tied as u64);
+}
+
+// The refusal that extending must give, 0 for none.
+fn extend_refusal(profile: &[i32], numbers: &[i32]) -> u32 {
+    if !by_hand::is_profile(profile) {
+        return 8;
+    }
+    if by_hand::too_heavy(profile, numbers) {
+        return 9;
+    }
+    0
+}
+
+// The points that extending must write, none where it is refused. Returns how many.
+fn expect_extended(profile: &[i32], numbers: &[i32], refusal: u32, out: &mut [i32]) -> usize
+    ensures { λ r. ⌜ r ≤ 301 ⌝ }
+{
+    if refusal != 0 {
+        return 0;
+    }
+    by_hand::extend(profile, numbers, out)
+}
+
+// What the work area must hold after extending: it stays where the call is refused.
+fn held_after(refusal: u32) -> i32 {
+    if refusal != 0 {
+        return MARK;
+    }
+    0
+}
+
+// Whether extending by an order is refused as expected, or writes so many points, the ones expected.
+fn extend_agrees(
+    profile: &[i32],
+    bytes: &[u8],
+    refusal: u32,
+    points: usize,
+    expected: &[i32],
+) -> bool {
+    let mut out = [MARK; 604];
+    let mut work = [MARK; 14_750];
+    let agrees = match planner::extend(profile, bytes, &mut out, &mut work) {
+        Extended::Refused(number, place) => number == refusal && place == 0,
+        Extended::Points(many) => refusal == 0 && many == points,
+    };
+    agrees && same(&out, expected) && leaves(&work, held_after(refusal))
+}
+
+// A profile extended by an order; the extended profile is looked up.
+pub fn check_extend(profile: &[i32], numbers: &[i32], t0: i32, counts: &mut [u64]) {
+    let mut space = [0; 84];
+    let packed = pack_order(t0, numbers, &mut space);
+    let bytes = front_bytes(&space, packed);
+    let refusal = extend_refusal(profile, numbers);
+    let mut expected = [MARK; 604];
+    let points = expect_extended(profile, numbers, refusal, &mut expected);
+    let size = 2 * points;
+    let agrees = extend_agrees(profile, bytes, refusal, points, &expected);
+    expect(counts, agrees);
+    count(counts, POINTS, points as u64);
+    check_lookups(front(&expected, size), counts);
+}
+
+// The points that better-of must write, none where one profile is not valid. Returns how many.
+fn expect_joined(one: &[i32], other: &[i32], valid: bool, out: &mut [i32]) -> usize
+    ensures { λ r. ⌜ r ≤ 301 ⌝ }
+{
+    if valid {
+        return by_hand::join(one, other, out);
+    }
+    0
+}
+
+// Whether better-of is refused as expected, or writes so many points, the ones expected.
+fn join_agrees(one: &[i32], other: &[i32], valid: bool, points: usize, expected: &[i32]) -> bool {
+    let mut out = [MARK; 604];
+    let agrees = match better::better_of(one, other, &mut out) {
+        Joined::NotValid => !valid,
+        Joined::NoRoom => false,
+        Joined::Points(many) => valid && many == points,
+    };
+    agrees && same(&out, expected)
+}
+
+// The better of two profiles, which is looked up.
+pub fn check_join(one: &[i32], other: &[i32], counts: &mut [u64]) {
+    let valid = by_hand::is_profile(one) && by_hand::is_profile(other);
+    let mut expected = [MARK; 604];
+    let points = expect_joined(one, other, valid, &mut expected);
+    let size = 2 * points;
+    expect(counts, join_agrees(one, other, valid, points, &expected));
+    count(counts, POINTS, points as u64);
+    check_lookups(front(&expected, size), counts);
+}
+
+// A profile looked up at a time.
+fn check_lookup(profile: &[i32], t: i32, counts: &mut [u64]) {
+    let valid = by_hand::is_profile(profile);
+    let weight = by_hand::look_up(profile, t);
+    let agrees = match profiles::lookup(profile, t) {
+        Finding::NotValid => !valid,
+        Finding::Found(found) => valid && is_count(found as u64, weight),
+        Finding::NotFound => valid && weight < 0,
+    };
+    expect(counts, agrees);
+    count(counts, LOOKUPS, 1);
+}
+
+// A profile looked up at the time of each point and the second before, and past the last.
+pub fn check_lookups(profile: &[i32], counts: &mut [u64]) {
+    let mut i = 0;
+    while i < profile.len() {
+        check_lookup(profile, at(profile, i), counts);
+        check_lookup(profile, plus(at(profile, i), -1), counts);
+        i += 2;
+    }
+    check_lookup(profile, 150_000, counts);
+}
+
+// Whether the answer to the question is that of what each opening is worth, -1 for nothing.
+fn is_answer(answer: Chosen, one: i32, other: i32) -> bool {
+    match answer {
+        Chosen::Refused(number) => number == 11 && one < 0 && other < 0,
+        Chosen::First => one >= 0 && other <= one,
+        Chosen::Second => one < other,
+    }
+}
+
+// Whether the question on two openings agrees with what each is worth at a time.
+fn question_agrees(first: &[u8], one: i32, second: &[u8], other: i32, t: i32) -> bool {
+    let mut work = [MARK; 14_750];
+    let answer = openings::question(first, second, t, &mut work);
+    is_answer(answer, one, other) && leaves(&work, 0)
+}
+
+// The records of a packed order.
+fn records(bytes: &[u8]) -> &[u8] {
+    if bytes.len() < 4 {
+        return bytes;
+    }
+    &bytes[4..]
+}
+
+// Whether a part is the records of the opening that is worth more, or empty where neither is worth
+// anything.
+fn is_part(part: &[u8], first: &[u8], one: i32, second: &[u8], other: i32) -> bool {
+    if one < 0 && other < 0 {
+        return part.len() == 0;
+    }
+    if one < other {
+        return check::same(part, records(second));
+    }
+    check::same(part, records(first))
+}
+
+// Whether the choice between two openings hands back the part that what each is worth asks for.
+fn choice_agrees<'a>(first: &'a [u8], one: i32, second: &'a [u8], other: i32, t: i32) -> bool {
+    let mut work = [MARK; 14_750];
+    let part = openings::choose(first, second, t, &mut work);
+    is_part(part, first, one, second, other) && leaves(&work, 0)
+}
+
+// The question and the choice between two openings that are worth so much at a time.
+fn check_openings<'a>(
+    first: &'a [u8],
+    one: i32,
+    second: &'a [u8],
+    other: i32,
+    t: i32,
+    counts: &mut [u64],
+) {
+    expect(counts, question_agrees(first, one, second, other, t));
+    expect(counts, choice_agrees(first, one, second, other, t));
+    count(counts, QUESTIONS, 1);
+}
+
+// The choice between two orders at a time, both ways round.
+pub fn check_choice(
+    one: &[i32],
+    one_t0: i32,
+    other: &[i32],
+    other_t0: i32,
+    t: i32,
+    counts: &mut [u64],
+) {
+    let mut one_space = [0; 84];
+    let mut other_space = [0; 84];
+    let one_size = pack_order(one_t0, one, &mut one_space);
+    let other_size = pack_order(other_t0, other, &mut other_space);
+    let first = front_bytes(&one_space, one_size);
+    let second = front_bytes(&other_space, other_size);
+    let one_worth = by_hand::worth(one, one_t0, t);
+    let other_worth = by_hand::worth(other, other_t0, t);
+    check_openings(first, one_worth, second, other_worth, t, counts);
+    check_openings(second, other_worth, first, one_worth, t, counts);
+}

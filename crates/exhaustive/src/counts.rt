@@ -1,0 +1,52 @@
+// The counts of a run: what was met, what was compared, and how often an answer differed.
+use careful::more;
+
+// Where each count stands.
+pub const ORDERS: usize = 0;
+
+pub const FEASIBLE: usize = 1;
+
+pub const TIES: usize = 2;
+
+pub const POINTS: usize = 3;
+
+pub const LOOKUPS: usize = 4;
+
+pub const QUESTIONS: usize = 5;
+
+pub const MISMATCHES: usize = 6;
+
+// Adds to a count.
+pub fn count(counts: &mut [u64], which: usize, by: u64) {
+    if which < counts.len() {
+        let sum = more(counts[which], by);
+        counts[which] = sum;
+    }
+}
+
+// Counts a mismatch where an answer differs.
+pub fn expect(counts: &mut [u64], agrees: bool) {
+    if !agrees {
+        count(counts, MISMATCHES, 1);
+    }
+}
+
+// Writes a count on a line of its own, behind a word.
+fn write_count(counts: &[u64], which: usize, word: &[u8]) {
+    if which < counts.len() {
+        io::write_all(1, word);
+        io::print_decimal(1, counts[which]);
+        io::write_all(1, b"\n");
+    }
+}
+
+// Writes all counts.
+pub fn write_counts(counts: &[u64]) {
+    write_count(counts, ORDERS, b"orders ");
+    write_count(counts, FEASIBLE, b"feasible ");
+    write_count(counts, TIES, b"ties ");
+    write_count(counts, POINTS, b"points ");
+    write_count(counts, LOOKUPS, b"lookups ");
+    write_count(counts, QUESTIONS, b"questions ");
+    write_count(counts, MISMATCHES, b"mismatches ");
+}

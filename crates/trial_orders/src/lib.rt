@@ -1,0 +1,223 @@
+// Orders and profiles for trials, drawn by a fixed generator: one seed gives the same orders on every
+// machine. Every order is well formed; one profile in sixteen may be spoiled. Assumes nothing.
+use careful::number_of;
+use careful::plus;
+use careful::put;
+
+// The generator: the next seed is the last one times FACTOR, less all whole PRIMEs.
+const FACTOR: u64 = 48_271;
+
+const PRIME: u64 = 2_147_483_647;
+
+// How many kinds of orders there are.
+pub const KINDS: u64 = 10;
+
+// The first and the last second that a job may be ready at or due by.
+const EARLIEST: i32 = -100_000;
+
+const LATEST: i32 = 100_000;
+
+// Where the last of ten jobs and the last of four points stand.
+const LAST_JOB: usize = 54;
+
+const LAST_POINT: usize = 6;
+
+// How the orders of a kind are drawn: how many counts of jobs there are from 0 up, how many jobs in ten
+// are critical, how many weights there are from 1 up and how many lengths from `shortest` up. The first
+// job is ready within `spread` seconds from `base` on, each later one within as many from `pace` seconds
+// later on; it is due within `slack` seconds from `least` seconds after its earliest end on.
+pub struct Kind {
+    pub counts: u64,
+    pub critical: u64,
+    pub weights: u64,
+    pub shortest: i32,
+    pub lengths: u64,
+    pub base: i32,
+    pub pace: i32,
+    pub spread: u64,
+    pub least: i32,
+    pub slack: u64,
+}
+
+// A kind, its figures in that sequence.
+fn new_kind(
+    counts: u64,
+    critical: u64,
+    weights: u64,
+    shortest: i32,
+    lengths: u64,
+    base: i32,
+    pace: i32,
+    spread: u64,
+    least: i32,
+    slack: u64,
+) -> Kind {
+    Kind {
+        counts: counts,
+        critical: critical,
+        weights: weights,
+        shortest: shortest,
+        lengths: lengths,
+        base: base,
+        pace: pace,
+        spread: spread,
+        least: least,
+        slack: slack,
+    }
+}
+
+// A kind of orders by its number: windows of every sort; one weight and one length; few of each; tight
+// windows; all critical; critical jobs in tight windows; at the first second; at the last second; long
+// and heavy; none or one job.
+pub fn kind_of(number: u64) -> Kind {
+    match number {
+        0 => new_kind(11, 1, 30, 1, 20, 0, 4, 30, -3, 80),
+        1 => new_kind(11, 0, 1, 5, 1, 0, 2, 5, 0, 18),
+        2 => new_kind(11, 1, 2, 1, 2, -6, 1, 2, 0, 7),
+        3 => new_kind(11, 0, 3, 2, 3, 0, 2, 5, -1, 5),
+        4 => new_kind(11, 10, 1, 1, 6, -20, 3, 10, 2, 30),
+        5 => new_kind(11, 3, 4, 1, 4, 0, 2, 6, -1, 14),
+        6 => new_kind(11, 1, 30, 1, 60, -100_000, 10, 120, -10, 300),
+        7 => new_kind(11, 1, 20, 1, 200, 99_000, 60, 400, 0, 900),
+        8 => new_kind(7, 1, 50, 9_000, 1_001, -50_000, 5_000, 20_000, 0, 30_000),
+        _ => new_kind(2, 3, 2, 1, 3, -2, 0, 4, -2, 5),
+    }
+}
+
+// The next number drawn, one of so many from 0 up.
+fn draw(seed: &mut u64, many: u64) -> u64 {
+    let next = *seed % PRIME * FACTOR % PRIME;
+    *seed = next;
+    if many == 0 {
+        return 0;
+    }
+    next / 64 % many
+}
+
+// The next number drawn, one of so many from a number up.
+fn draw_from(seed: &mut u64, low: i32, many: u64) -> i32 {
+    let by = draw(seed, many);
+    plus(low, number_of(by))
+}
+
+// A time, or the nearest that an order may have.
+fn in_time(time: i32) -> i32 {
+    if time < EARLIEST {
+        return EARLIEST;
+    }
+    if time > LATEST {
+        return LATEST;
+    }
+    time
+}
+
+// The time from which on the bus is free: not long after the kind's first.
+pub fn draw_free(seed: &mut u64, kind: Kind) -> i32 {
+    in_time(draw_from(seed, kind.base, kind.lengths))
+}
+
+// A time at which to look: from the kind's first on, beyond the first deadlines.
+pub fn draw_look(seed: &mut u64, kind: Kind) -> i32 {
+    let from = draw_from(seed, kind.base, kind.spread);
+    draw_from(seed, from, kind.slack)
+}
+
+// The weight of a job, 0 where it is critical.
+fn draw_weight(seed: &mut u64, kind: Kind) -> i32 {
+    if draw(seed, 10) < kind.critical {
+        return 0;
+    }
+    draw_from(seed, 1, kind.weights)
+}
+
+// Puts a job's six numbers from a place on; a job that weighs nothing is critical. Returns the place
+// behind them.
+fn put_job(
+    numbers: &mut [i32],
+    place: usize,
+    number: i32,
+    weight: i32,
+    ready: i32,
+    length: i32,
+    deadline: i32,
+) -> usize {
+    if place > LAST_JOB {
+        return place;
+    }
+    put(numbers, place, number);
+    put(numbers, place + 1, (weight == 0) as i32);
+    put(numbers, place + 2, weight);
+    put(numbers, place + 3, ready);
+    put(numbers, place + 4, length);
+    put(numbers, place + 5, deadline);
+    place + 6
+}
+
+// A job drawn and put at a place, ready from a time on; its number is one of six that no other job has.
+// Returns the place behind it.
+fn draw_job(seed: &mut u64, kind: Kind, from: i32, numbers: &mut [i32], place: usize) -> usize {
+    let number = draw_from(seed, number_of(place as u64), 6);
+    let weight = draw_weight(seed, kind);
+    let ready = in_time(draw_from(seed, from, kind.spread));
+    let length = draw_from(seed, kind.shortest, kind.lengths);
+    let least = plus(plus(ready, length), kind.least);
+    let deadline = in_time(draw_from(seed, least, kind.slack));
+    put_job(numbers, place, number, weight, ready, length, deadline)
+}
+
+// The jobs of an order drawn, six numbers each. Returns how many numbers there are.
+pub fn draw_order(seed: &mut u64, kind: Kind, numbers: &mut [i32]) -> usize {
+    let jobs = draw(seed, kind.counts);
+    let mut from = kind.base;
+    let mut place = 0;
+    let mut k = 0;
+    while k < jobs {
+        place = draw_job(seed, kind, from, numbers, place);
+        from = plus(from, kind.pace);
+        k += 1;
+    }
+    place
+}
+
+// By how much the times and weights of a profile rise at least: one profile in sixteen may stand still.
+fn draw_rise(seed: &mut u64) -> i32 {
+    if draw(seed, 16) == 0 {
+        return 0;
+    }
+    1
+}
+
+// The first weight of a profile: one in sixteen is too heavy to add much.
+fn draw_first_weight(seed: &mut u64) -> i32 {
+    if draw(seed, 16) == 0 {
+        return 280;
+    }
+    draw_from(seed, 0, 4)
+}
+
+// Puts a point at a place. Returns the place behind it.
+fn put_point(profile: &mut [i32], place: usize, time: i32, weight: i32) -> usize {
+    if place > LAST_POINT {
+        return place;
+    }
+    put(profile, place, time);
+    put(profile, place + 1, weight);
+    place + 2
+}
+
+// A profile of at most four points drawn, as alternating numbers. Returns how many numbers there are.
+pub fn draw_profile(seed: &mut u64, kind: Kind, profile: &mut [i32]) -> usize {
+    let points = draw(seed, 5);
+    let rise = draw_rise(seed);
+    let mut time = draw_free(seed, kind);
+    let mut weight = draw_first_weight(seed);
+    let mut place = 0;
+    let mut k = 0;
+    while k < points {
+        place = put_point(profile, place, time, weight);
+        time = plus(time, draw_from(seed, rise, kind.lengths));
+        weight = plus(weight, draw_from(seed, rise, kind.weights));
+        k += 1;
+    }
+    place
+}
