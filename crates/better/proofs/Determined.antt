@@ -3,7 +3,7 @@ use mathlib.Core.Path.{ap₂}
 use mathlib.Core.List.{List}
 use contract.Lifetimes.{Lfts}
 use lib.IntN.{ℤ}
-use Rattle.profiles.specs.Determined.{Determines, determined}
+use Rattle.seconds.specs.Determined.{Determines, determined}
 use Rattle.better.specs.Answer.{joinedOf, outAfter}
 use Rattle.better.specs.declared.Joined.{Joined}
 use Rattle.better.proofs.better_of.Reads as better-of

@@ -5,10 +5,10 @@ use mathlib.Core.List.{List}
 use lib.IntN.{ℤ}
 use lib.ListN.{length}
 use Rattle.rows.specs.Row.{startRow, pointsByRows}
-use Rattle.packed.specs.Packed.{countOf, t0Of}
+use Rattle.packed.specs.Packed.{countOf, t0Of, jobsIn}
 use Rattle.packed.specs.Accepted.{OrderFine}
 use Rattle.cells.specs.Work.{area}
-use Rattle.filling.specs.Rows.{jobsIn, topAfter, Rows}
+use Rattle.filling.specs.Rows.{topAfter, Rows}
 
 -- A job's weight can be read: the order is accepted, and it has a job at the place.
 pub record CanWeigh (bytes : List ℕ) (k : ℕ) : Type 0 where

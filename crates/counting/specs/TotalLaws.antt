@@ -12,10 +12,10 @@ use Rattle.order.specs.Job.{Job}
 use Rattle.profile.specs.Profile.{pointsUpTo, pointTotal}
 use Rattle.rows.specs.Row.{Row, startRow, rowAfter, pointsIn}
 use Rattle.rows.specs.ReadLaws.{points-by-rows}
-use Rattle.packed.specs.Packed.{countOf, t0Of, jobIn}
+use Rattle.packed.specs.Packed.{countOf, t0Of, jobIn, jobsIn}
 use Rattle.cells.specs.Work.{rowAt}
 use Rattle.cells.specs.Reading.{points-few}
-use Rattle.filling.specs.Rows.{jobsIn, rowPlace, topAfter}
+use Rattle.filling.specs.Rows.{rowPlace, topAfter}
 use Rattle.filling.specs.RowsLaws.{jobs-count, jobs-next, top-next, weight-first, row-path, rows-none-past}
 use Rattle.counting.specs.Total.{CanTotal, pointsTo, Totalled}
 

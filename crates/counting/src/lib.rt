@@ -7,9 +7,8 @@ ghost use mathlib.Core.Path.{_≡_};
 ghost use Prim.Native.Nat.{_+_, _*_, _<_};
 ghost use lib.ListN.{length, set};
 ghost use Rattle.profile.specs.Profile.{pointTotal};
-ghost use Rattle.packed.specs.Packed.{t0Of, jobIn};
+ghost use Rattle.packed.specs.Packed.{t0Of, jobIn, jobsIn};
 ghost use Rattle.cells.specs.Work.{rowAt};
-ghost use Rattle.filling.specs.Rows.{jobsIn};
 ghost use Rattle.counting.specs.Total.{CanWeigh, CanTotal};
 ghost use Rattle.counting.specs.Profile.{CanWrite, CanWritePoints, profileOver, ProfileWritten};
 

@@ -8,13 +8,9 @@ use lib.ListN.{length, take, drop}
 use Rattle.seconds.specs.Limits.{mostWeight}
 use Rattle.order.specs.Job.{Job, weightOf}
 use Rattle.rows.specs.Row.{Row, nextRow, rowAfter}
-use Rattle.packed.specs.Packed.{countOf, numbersOf, jobIn, jobsOf}
+use Rattle.packed.specs.Packed.{countOf, numbersOf, jobIn, jobsOf, jobsIn}
 use Rattle.packed.specs.Accepted.{OrderFine}
 use Rattle.cells.specs.Work.{rowSize, area, rowAt, RowWritten}
-
--- The jobs of a packed order.
-abbrev pub jobsIn : List ℕ → List Job
-jobsIn bytes = jobsOf (numbersOf bytes)
 
 -- Where the row after the first k jobs begins.
 abbrev pub rowPlace : ℕ → ℕ

@@ -19,11 +19,11 @@ use Rattle.rows.specs.Row.{Row, earliestOf, nextRow, rowAfter, NonePast, readOf
 use Rattle.rows.specs.ReadLaws.{extend-by-rows}
 use Rattle.packed.specs.Places.{each}
 use Rattle.packed.specs.PlacesLaws.{length-each, getD-each}
-use Rattle.packed.specs.Packed.{countOf, jobIn, orderOf}
+use Rattle.packed.specs.Packed.{countOf, jobIn, orderOf, jobsIn}
 use Rattle.packed.specs.PackedLaws.{order-jobs}
 use Rattle.cells.specs.Work.{rowSize, area, seen, rowAt, RowWritten}
 use Rattle.cells.specs.Writing.{row-past}
-use Rattle.filling.specs.Rows.{jobsIn, rowPlace, topAfter, Rows, Stands, CanFillOne, FilledOne, CanFill, Filled, Filling}
+use Rattle.filling.specs.Rows.{rowPlace, topAfter, Rows, Stands, CanFillOne, FilledOne, CanFill, Filled, Filling}
 
 -- ---- the first k jobs
 

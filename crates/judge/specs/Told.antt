@@ -103,13 +103,15 @@ told-fine cs e = go (judge cs) e
     go fine h = refl
     go (refused n p) h = let z : _≡_ {A = ℕ} 0 1 = cc in absurd (omega arith)
 
+-- Refused.
+pub refusal-told : (v : Judged) (n p : ℕ) → verdictOf v ≡ Refused n p → v ≡ refused n p
+refusal-told fine n p e = let z : _≡_ {A = ℕ} 0 1 = cc in absurd (omega arith)
+refusal-told (refused m q) n p e = cc
+
 -- Refused by the first of two stages.
 pub told-refused : (cs ds : List Check) (n p : ℕ) → verdictOf (judge cs) ≡ Refused n p → verdictOf (judge (cs ++ ds)) ≡ Refused n p
-told-refused cs ds n p e = ap verdictOf (judge-append cs ds) ∙ go (judge cs) e
-  where
-    go : (v : Judged) → verdictOf v ≡ Refused n p → verdictOf (orElse v (judge ds)) ≡ Refused n p
-    go fine h = let z : _≡_ {A = ℕ} 0 1 = cc in absurd (omega arith)
-    go (refused m q) h = h
+told-refused cs ds n p e =
+    ap verdictOf (judge-append cs ds ∙ ap (λ (v : Judged). orElse v (judge ds)) (refusal-told (judge cs) n p e))
 
 -- Past the first of two stages, the second tells.
 pub told-next : (cs ds : List Check) → judge cs ≡ fine → judge (cs ++ ds) ≡ judge ds

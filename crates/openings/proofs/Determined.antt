@@ -6,7 +6,7 @@ use mathlib.Core.List.{List}
 use contract.Lifetimes.{Lfts}
 use denote.Ref.{RefT, now}
 use lib.IntN.{ℤ}
-use Rattle.profiles.specs.Determined.{Determines, determined}
+use Rattle.seconds.specs.Determined.{Determines, determined}
 use Rattle.openings.specs.Choosing.{chosenOf, workAfter, partOf, placeOf}
 use Rattle.openings.specs.ChoosingLaws.{question-choice}
 use Rattle.openings.specs.declared.Chosen.{Chosen}

@@ -19,7 +19,7 @@ use Rattle.profile.specs.Points.{profileOf-same}
 use Rattle.profile.specs.Worth.{same-worth}
 use Rattle.rows.specs.Row.{Row, startRow}
 use Rattle.rows.specs.RowLaws.{rows-say}
-use Rattle.packed.specs.Packed.{t0Of, orderOf}
+use Rattle.packed.specs.Packed.{t0Of, orderOf, jobsIn}
 use Rattle.packed.specs.Accepted.{OrderFine, order-fine}
 use Rattle.fields.specs.Facts.{HeaderRead}
 use Rattle.fields.specs.declared.Header.{Header}
@@ -28,7 +28,7 @@ use Rattle.cells.specs.Keeping.{area-kept}
 use Rattle.cells.specs.Found.{heaviestBy, found}
 use Rattle.cells.specs.declared.Found.{Found}
 use Rattle.cells.specs.FoundLaws.{weightBy, weight-worth}
-use Rattle.filling.specs.Rows.{jobsIn, rowPlace, CanFill, Filled}
+use Rattle.filling.specs.Rows.{rowPlace, CanFill, Filled}
 use Rattle.filling.specs.RowsLaws.{last-row, last-none-past}
 use Rattle.openings.specs.Choosing.{openingWorth}
 use Rattle.openings.specs.Weighing.{weightIn, CanWeigh, WeighedIn}

@@ -1,13 +1,17 @@
 -- The contract of packing determines its answer and the lent bytes at exit, for every input: two outcomes that it allows are
 -- equal.
-use mathlib.Core.Path.{_≡_, sym, _∙_}
+use Prim.Native.Nat.{ℕ}
+use mathlib.Core.Path.{ap₂}
+use mathlib.Core.List.{List}
+use lib.ListN.{length}
 use contract.Lifetimes.{Lfts}
-use denote.Triple.Clauses.{AtExit}
-use denote.Triple.Entry.{Args}
+use Rattle.seconds.specs.Determined.{Determines, determined}
+use Rattle.pack.specs.Answer.{packOf, bytesAfter}
 use Rattle.pack.specs.declared.Packed.{Packed}
-use Rattle.pack.proofs.pack as pack
-use Rattle.pack.proofs.pack.Reads as pack-reads
+use Rattle.pack.proofs.pack.Reads as pack
 
-pub pack-determined : (κs : Lfts 2) (a : Args pack.signature κs) (r s : Packed) (x y : AtExit pack.ended κs)
-    → pack-reads.Post κs a r x → pack-reads.Post κs a s y → (r ≡ s) × (x .1 .1 .0 .now ≡ y .1 .1 .0 .now)
-pack-determined κs a r s x y h k = (h .0 ∙ sym (k .0), h .1 ∙ sym (k .1))
+pub pack-determined : (κs : Lfts 2) → Determines {Z = Packed × List ℕ} (pack.Post κs) (λ r x. (r, x .1 .1 .0 .now))
+pack-determined κs =
+    determined (pack.Post κs) (λ r x. (r, x .1 .1 .0 .now))
+    (λ a. (packOf (a .0) (a .1 .0 .now) (length (a .1 .1 .0 .now)), bytesAfter (a .0) (a .1 .0 .now) (a .1 .1 .0 .now)))
+    (λ a r x h. ap₂ (λ (u : Packed) (l : List ℕ). (u, l)) (h .0) (h .1))

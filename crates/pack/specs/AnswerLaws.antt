@@ -15,16 +15,12 @@ use Rattle.packed.specs.RefusalLaws.{within-is, room-fine}
 use Rattle.packed.specs.Accepted.{numbers-fine}
 use Rattle.fields.specs.Fields.{HeaderRoom}
 use Rattle.judge.specs.Verdicts.{verdictOf}
+use Rattle.judge.specs.Told.{refusal-told}
 use Rattle.judge.specs.declared.Verdict.the-variants.{Refused as Said}
 use Rattle.pack.specs.Answer.{packedBy, bytesBy, packOf, bytesAfter}
 use Rattle.pack.specs.Writing.{Packable, firstRecords, all-written}
 use Rattle.pack.specs.declared.Packed.{Packed}
 use Rattle.pack.specs.declared.Packed.the-variants.{Refused, Bytes}
-
--- A refusal that was told is one that was judged.
-refusal-told : (v : Judged) (n p : ℕ) → verdictOf v ≡ Said n p → v ≡ refused n p
-refusal-told fine n p e = let z : _≡_ {A = ℕ} 0 1 = cc in absurd (omega arith)
-refusal-told (refused m q) n p e = cc
 
 module _ (t0 : ℤ) (numbers : List ℤ) (was : List ℕ) where
   -- The answer and the lent bytes after the call are as they should be.

@@ -114,6 +114,10 @@ jobIn bytes k = jobOf (jobFields bytes k)
 unfoldable pub jobsOf : List ℤ → List Job
 jobsOf zs = each (jobAt zs) 0 (jobCount zs)
 
+-- All jobs of an order in bytes.
+abbrev pub jobsIn : List ℕ → List Job
+jobsIn bytes = jobsOf (numbersOf bytes)
+
 -- The order of a bus-free time and numbers.
 abbrev pub orderFrom : ℤ → List ℤ → Order
 orderFrom t0 zs = record { t0 = t0; jobs = jobsOf zs }

@@ -3,7 +3,7 @@ use mathlib.Core.Path.{_≡_}
 use mathlib.Core.List.{List}
 use contract.Lifetimes.{Lfts}
 use lib.IntN.{ℤ}
-use Rattle.profiles.specs.Determined.{Determines, determined}
+use Rattle.seconds.specs.Determined.{Determines, determined}
 use Rattle.planner.specs.Calls.{plannedOf, startsAfter, planWorkAfter, extendedOf, outAfter, extendWorkAfter}
 use Rattle.planner.specs.declared.Planned.{Planned}
 use Rattle.planner.specs.declared.Extended.{Extended}

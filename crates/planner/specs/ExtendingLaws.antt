@@ -14,7 +14,7 @@ use Rattle.profile.specs.Profile.{extend, lastWeight}
 use Rattle.rows.specs.Row.{readOff}
 use Rattle.packed.specs.Judge.{fine, judge}
 use Rattle.packed.specs.JudgeLaws.{stages-fine, judge-at}
-use Rattle.packed.specs.Packed.{countOf, numbersOf, orderOf}
+use Rattle.packed.specs.Packed.{countOf, numbersOf, orderOf, jobsIn}
 use Rattle.packed.specs.Refusals.{headerChecks, jobChecks}
 use Rattle.packed.specs.RefusalLaws.{HeaderFine, header-fine, JobsFine, jobs-fine, weight-fine}
 use Rattle.packed.specs.Accepted.{OrderFine}
@@ -22,7 +22,7 @@ use Rattle.profiles.specs.Numbers.{alternating, holdsProfile, writtenOver}
 use Rattle.profiles.specs.NumbersLaws.{pointsOf}
 use Rattle.cells.specs.Work.{rowAt}
 use Rattle.cells.specs.Keeping.{area-kept}
-use Rattle.filling.specs.Rows.{jobsIn, CanFill, Filled}
+use Rattle.filling.specs.Rows.{CanFill, Filled}
 use Rattle.filling.specs.RowsLaws.{last-profile}
 use Rattle.filling.specs.FirstRow.{CanStartProfile, ProfileStarted}
 use Rattle.counting.specs.Profile.{CanWrite, ProfileWritten}

@@ -6,5 +6,3 @@ pub mod CallLaws
 pub mod PlanningLaws
 pub mod ExtendingLaws
 pub mod Answers
-pub mod TwoWays
-pub mod Joining

@@ -9,10 +9,10 @@ use Rattle.order.specs.Job.{weightOf}
 use Rattle.plan.specs.Plan.{Ended, plan, planAnswer}
 use Rattle.rows.specs.Row.{startRow}
 use Rattle.packed.specs.Judge.{fine}
-use Rattle.packed.specs.Packed.{countOf, t0Of, orderOf}
+use Rattle.packed.specs.Packed.{countOf, t0Of, orderOf, jobsIn}
 use Rattle.packed.specs.Accepted.{OrderFine}
 use Rattle.cells.specs.Work.{area}
-use Rattle.filling.specs.Rows.{jobsIn, Rows}
+use Rattle.filling.specs.Rows.{Rows}
 use Rattle.planner.specs.Calls.{plannedBy, startsBy}
 use Rattle.planner.specs.declared.Planned.{Planned}
 

@@ -19,7 +19,7 @@ use Rattle.plan.specs.Plan.{Ended, plan, Answer, answerOf, planAnswer}
 use Rattle.plan.specs.Figures.{Figures as Fitting, plan-figures}
 use Rattle.rows.specs.Row.{Row, point, startRow, heaviest}
 use Rattle.rows.specs.PlanLaws.{plan-end-heaviest}
-use Rattle.packed.specs.Packed.{countOf, t0Of, numbersOf, orderFrom, orderOf}
+use Rattle.packed.specs.Packed.{countOf, t0Of, numbersOf, orderFrom, orderOf, jobsIn}
 use Rattle.packed.specs.Accepted.{OrderFine, order-numbers, numbers-within}
 use Rattle.profiles.specs.Numbers.{writtenOver}
 use Rattle.cells.specs.Work.{area, never, rowAt, RowWritten, CanStart}
@@ -27,7 +27,7 @@ use Rattle.cells.specs.Keeping.{area-kept}
 use Rattle.cells.specs.Found.{heaviestBy, found}
 use Rattle.cells.specs.FoundLaws.{found-nothing, found-at, heaviest-by-never}
 use Rattle.cells.specs.declared.Found.the-variants.{Nothing, At}
-use Rattle.filling.specs.Rows.{jobsIn, CanFill, Filled}
+use Rattle.filling.specs.Rows.{CanFill, Filled}
 use Rattle.filling.specs.RowsLaws.{jobs-count, weight-first, rows-from, rows-from-none, last-row, last-none-past}
 use Rattle.walking.specs.Trail.{Walks, walkMask}
 use Rattle.walking.specs.Picks.{picksOf, WritesStarts, startsWritten}

@@ -13,7 +13,7 @@ use denote.Ref.{now}
 use denote.Triple.Clauses.{AtExit}
 use denote.Triple.Entry.{Args}
 use Rattle.profiles.specs.Answer.{lookupOf}
-use Rattle.profiles.specs.Determined.{Determines, determined}
+use Rattle.seconds.specs.Determined.{Determines, determined}
 use Rattle.profiles.specs.declared.Finding.{Finding}
 use Rattle.point_records.specs.Records.{flattened}
 use Rattle.point_records.proofs.lookup_records as lookup-records

@@ -2,7 +2,7 @@
 use contract.Lifetimes.{Lfts}
 use Rattle.profiles.specs.Numbers.{holdsProfile}
 use Rattle.profiles.specs.Answer.{lookupOf}
-use Rattle.profiles.specs.Determined.{Determines, determined}
+use Rattle.seconds.specs.Determined.{Determines, determined}
 use Rattle.profiles.proofs.valid.Reads as valid
 use Rattle.profiles.proofs.lookup.Reads as lookup
 

@@ -7,4 +7,3 @@ pub mod ByTime
 pub mod AnswerLaws
 pub mod Places
 pub mod Writing
-pub mod Determined

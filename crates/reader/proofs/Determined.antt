@@ -1,21 +1,12 @@
 -- The contract of each call determines its answer, for every input: two outcomes that it allows are equal.
-use mathlib.Core.Path.{_≡_, sym, _∙_}
 use contract.Lifetimes.{Lfts}
-use denote.Triple.Clauses.{AtExit}
-use denote.Triple.Entry.{Args}
-use Rattle.reader.specs.declared.Opened.{Opened}
-use Rattle.reader.specs.declared.Moved.{Moved}
-use Rattle.reader.proofs.open as opens
-use Rattle.reader.proofs.open.Reads as open-reads
-use Rattle.reader.proofs.step as step
-use Rattle.reader.proofs.step.Reads as step-reads
+use Rattle.seconds.specs.Determined.{Determines, determined}
+use Rattle.reader.specs.Reading.{openOf, stepOf}
+use Rattle.reader.proofs.open.Reads as opens
+use Rattle.reader.proofs.step.Reads as step
 
--- Opening.
-pub open-determined : (κs : Lfts 1) (a : Args opens.signature κs) (r s : Opened) (x y : AtExit opens.ended κs)
-    → open-reads.Post κs a r x → open-reads.Post κs a s y → r ≡ s
-open-determined κs a r s x y h k = h ∙ sym k
+pub open-determined : (κs : Lfts 1) → Determines (opens.Post κs) (λ r x. r)
+open-determined κs = determined (opens.Post κs) (λ r x. r) (λ a. openOf (a .0 .now)) (λ a r x h. h)
 
--- A step.
-pub step-determined : (κs : Lfts 1) (a : Args step.signature κs) (r s : Moved) (x y : AtExit step.ended κs)
-    → step-reads.Post κs a r x → step-reads.Post κs a s y → r ≡ s
-step-determined κs a r s x y h k = h ∙ sym k
+pub step-determined : (κs : Lfts 1) → Determines (step.Post κs) (λ r x. r)
+step-determined κs = determined (step.Post κs) (λ r x. r) (λ a. stepOf (a .0 .now) (a .1 .0)) (λ a r x h. h)

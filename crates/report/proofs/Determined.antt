@@ -4,7 +4,7 @@ use mathlib.Core.Path.{ap₂}
 use mathlib.Core.List.{List, _++_}
 use contract.Lifetimes.{Lfts}
 use lib.ListN.{length, drop}
-use Rattle.profiles.specs.Determined.{Determines, determined}
+use Rattle.seconds.specs.Determined.{Determines, determined}
 use Rattle.report.specs.Report.{printed}
 use Rattle.report.proofs.report.Reads as report
 

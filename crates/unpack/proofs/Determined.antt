@@ -1,13 +1,17 @@
 -- The contract of unpacking determines its answer and the lent numbers at exit, for every input: two outcomes that it allows
 -- are equal.
-use mathlib.Core.Path.{_≡_, sym, _∙_}
+use mathlib.Core.Path.{ap₂}
+use mathlib.Core.List.{List}
 use contract.Lifetimes.{Lfts}
-use denote.Triple.Clauses.{AtExit}
-use denote.Triple.Entry.{Args}
+use lib.IntN.{ℤ}
+use lib.ListN.{length}
+use Rattle.seconds.specs.Determined.{Determines, determined}
+use Rattle.unpack.specs.Answer.{unpackOf, numbersAfter}
 use Rattle.unpack.specs.declared.Unpacked.{Unpacked}
-use Rattle.unpack.proofs.unpack as unpack
-use Rattle.unpack.proofs.unpack.Reads as unpack-reads
+use Rattle.unpack.proofs.unpack.Reads as unpack
 
-pub unpack-determined : (κs : Lfts 2) (a : Args unpack.signature κs) (r s : Unpacked) (x y : AtExit unpack.ended κs)
-    → unpack-reads.Post κs a r x → unpack-reads.Post κs a s y → (r ≡ s) × (x .1 .0 .now ≡ y .1 .0 .now)
-unpack-determined κs a r s x y h k = (h .0 ∙ sym (k .0), h .1 ∙ sym (k .1))
+pub unpack-determined : (κs : Lfts 2) → Determines {Z = Unpacked × List ℤ} (unpack.Post κs) (λ r x. (r, x .1 .0 .now))
+unpack-determined κs =
+    determined (unpack.Post κs) (λ r x. (r, x .1 .0 .now))
+    (λ a. (unpackOf (a .0 .now) (length (a .1 .0 .now)), numbersAfter (a .0 .now) (a .1 .0 .now)))
+    (λ a r x h. ap₂ (λ (u : Unpacked) (l : List ℤ). (u, l)) (h .0) (h .1))

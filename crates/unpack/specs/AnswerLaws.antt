@@ -16,16 +16,12 @@ use Rattle.fields.specs.Fields.{headerFields}
 use Rattle.fields.specs.Facts.{header-read}
 use Rattle.fields.specs.declared.Header.{Header}
 use Rattle.judge.specs.Verdicts.{verdictOf}
+use Rattle.judge.specs.Told.{refusal-told}
 use Rattle.judge.specs.declared.Verdict.the-variants.{Refused as Said}
 use Rattle.unpack.specs.Answer.{unpackedBy, numbersBy, unpackOf, numbersAfter}
 use Rattle.unpack.specs.Writing.{Unpackable, firstJobs, all-written}
 use Rattle.unpack.specs.declared.Unpacked.{Unpacked}
 use Rattle.unpack.specs.declared.Unpacked.the-variants.{Refused, Jobs}
-
--- A refusal that was told is one that was judged.
-refusal-told : (v : Judged) (n p : ℕ) → verdictOf v ≡ Said n p → v ≡ refused n p
-refusal-told fine n p e = let z : _≡_ {A = ℕ} 0 1 = cc in absurd (omega arith)
-refusal-told (refused m q) n p e = cc
 
 module _ (bytes : List ℕ) (was : List ℤ) where
   -- The answer and the lent numbers after the call are as they should be.

@@ -8,13 +8,13 @@ use lib.ListN.{length, drop}
 use Rattle.seconds.specs.Ranges.{InFree}
 use Rattle.order.specs.Job.{Job, allowed, busFree}
 use Rattle.order.specs.Choice.{Choice, feasible, startOf, starts}
-use Rattle.packed.specs.Packed.{countOf}
+use Rattle.packed.specs.Packed.{countOf, jobsIn}
 use Rattle.packed.specs.Refusals.{fieldsWithin}
 use Rattle.packed.specs.Accepted.{OrderFine}
 use Rattle.fields.specs.declared.Job.{Job as Numbers}
 use Rattle.fields.specs.Fields.{fieldsOf}
 use Rattle.walking.specs.declared.Turn.{Turn}
-use Rattle.walking.specs.Trail.{asJob, jobsIn}
+use Rattle.walking.specs.Trail.{asJob}
 
 -- The first n picks that a mask says: the highest bit is the first pick, and the other bits move up one place.
 unfoldable pub picksOf : ℕ → ℕ → Choice

@@ -14,14 +14,14 @@ use Rattle.order.specs.Within.{JobWithin, job-within, weightOf-append}
 use Rattle.packed.specs.Layout.{decode, numberOf, jobLayout}
 use Rattle.packed.specs.Places.{eachOf, each}
 use Rattle.packed.specs.PlacesLaws.{length-each}
-use Rattle.packed.specs.Packed.{countOf, numbersOf, jobCount, fieldsAt, jobFields, jobOf, jobIn, orderOf}
+use Rattle.packed.specs.Packed.{countOf, numbersOf, jobCount, fieldsAt, jobFields, jobOf, jobIn, orderOf, jobsIn}
 use Rattle.packed.specs.PackedLaws.{word-is, fields-is, numbers-count, fields-of-numbers, order-jobs}
 use Rattle.packed.specs.Refusals.{fieldsWithin}
 use Rattle.packed.specs.RefusalLaws.{within-is, fields-within}
 use Rattle.packed.specs.Accepted.{OrderFine}
 use Rattle.fields.specs.declared.Job.{Job as Numbers}
 use Rattle.fields.specs.Fields.{fieldsOf}
-use Rattle.walking.specs.Trail.{asJob, jobsIn}
+use Rattle.walking.specs.Trail.{asJob}
 use Rattle.walking.specs.PicksLaws.{OneRate}
 
 -- ---- the job at a place

@@ -15,7 +15,7 @@ use Rattle.order.specs.Choice.{feasible, starts, mask, numberKept}
 use Rattle.order.specs.Within.{order-within}
 use Rattle.order.specs.Runs.{run-length, run-in-range, ran}
 use Rattle.order.specs.Outcomes.{outcome-in}
-use Rattle.packed.specs.Packed.{countOf, t0Of, numbersOf, orderFrom}
+use Rattle.packed.specs.Packed.{countOf, t0Of, numbersOf, orderFrom, jobsIn}
 use Rattle.packed.specs.Accepted.{OrderFine, order-numbers, numbers-within}
 use Rattle.profile.specs.Profile.{startPoint}
 use Rattle.plan.specs.Plan.{Ended, plan}
@@ -24,7 +24,7 @@ use Rattle.rows.specs.Row.{startRow, rowAfter, By, reach, heaviest}
 use Rattle.rows.specs.RowLaws.{nothing-there, rows-say}
 use Rattle.rows.specs.Walk.{onward, walkBack, walkFrom}
 use Rattle.rows.specs.PlanLaws.{plan-by-rows}
-use Rattle.walking.specs.Trail.{jobsIn, RowsFilled, Walks, walkMask}
+use Rattle.walking.specs.Trail.{RowsFilled, Walks, walkMask}
 use Rattle.walking.specs.Picks.{picksOf, WritesStarts, startsWritten}
 use Rattle.walking.specs.PicksLaws.{OneRate, picks-feasible, kept-of-mask}
 use Rattle.walking.specs.Places.{jobs-count, jobs-one-rate}

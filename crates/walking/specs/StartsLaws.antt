@@ -19,13 +19,13 @@ use Rattle.order.specs.Choice.{Choice, feasible, startOf, starts}
 use Rattle.order.specs.Within.{JobWithin}
 use Rattle.order.specs.Moves.{busFree-in-range}
 use Rattle.packed.specs.Layout.{decode, numberOf, jobLayout}
-use Rattle.packed.specs.Packed.{countOf, jobOf}
+use Rattle.packed.specs.Packed.{countOf, jobOf, jobsIn}
 use Rattle.packed.specs.Accepted.{OrderFine}
 use Rattle.fields.specs.declared.Job.{Job as Numbers}
 use Rattle.fields.specs.Fields.{fieldsOf}
 use Rattle.fields.specs.Facts.{JobFacts}
 use Rattle.walking.specs.declared.Turn.{Turn}
-use Rattle.walking.specs.Trail.{asJob, jobsIn}
+use Rattle.walking.specs.Trail.{asJob}
 use Rattle.walking.specs.Picks.{picksOf, TakesTurn, turnOf}
 use Rattle.walking.specs.PicksLaws.{picks-more, first-mark, left-fits}
 use Rattle.walking.specs.Places.{drop-more, job-there, job-fine, job-limits}

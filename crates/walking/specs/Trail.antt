@@ -12,7 +12,7 @@ use Rattle.seconds.specs.Ranges.{Between, InTime, InFree}
 use Rattle.seconds.specs.Signed.{minZ}
 use Rattle.order.specs.Job.{Job, gainOf, picks, weightOf}
 use Rattle.order.specs.Choice.{bitOf, mask}
-use Rattle.packed.specs.Packed.{countOf, t0Of, numbersOf, jobOf, jobsOf}
+use Rattle.packed.specs.Packed.{countOf, t0Of, numbersOf, jobOf, jobsOf, jobsIn}
 use Rattle.packed.specs.Refusals.{fieldsWithin}
 use Rattle.packed.specs.Accepted.{OrderFine}
 use Rattle.fields.specs.declared.Job.{Job as Numbers}
@@ -25,10 +25,6 @@ use Rattle.walking.specs.declared.Trail.{Trail}
 -- The job that six numbers mean.
 abbrev pub asJob : Numbers → Job
 asJob numbers = jobOf (fieldsOf numbers)
-
--- The jobs that packed bytes mean.
-abbrev pub jobsIn : List ℕ → List Job
-jobsIn bytes = jobsOf (numbersOf bytes)
 
 -- ---- the work area
 

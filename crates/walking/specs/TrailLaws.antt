@@ -15,7 +15,7 @@ use Rattle.order.specs.Choice.{Choice, bitOf, maskOf, mask}
 use Rattle.order.specs.Within.{JobWithin}
 use Rattle.order.specs.Runs.{run-length}
 use Rattle.packed.specs.Layout.{decode, numberOf, jobLayout}
-use Rattle.packed.specs.Packed.{countOf, t0Of}
+use Rattle.packed.specs.Packed.{countOf, t0Of, jobsIn}
 use Rattle.packed.specs.Accepted.{OrderFine}
 use Rattle.fields.specs.declared.Job.{Job as Numbers}
 use Rattle.fields.specs.Fields.{fieldsOf}
@@ -26,7 +26,7 @@ use Rattle.rows.specs.RowLaws.{earliest-says, back-is}
 use Rattle.rows.specs.Walk.{Source, firstSource, foldBack, walkBack, Bits, withPick}
 use Rattle.rows.specs.WalkLaws.{HasSource, source-found, fold-step, Walked, walk-first, walk-bits, bitsOf, bits-mask}
 use Rattle.walking.specs.declared.Trail.{Trail}
-use Rattle.walking.specs.Trail.{asJob, jobsIn, RowsFilled, StepsBack, trailBefore, stepBack, walkMask}
+use Rattle.walking.specs.Trail.{asJob, RowsFilled, StepsBack, trailBefore, stepBack, walkMask}
 use Rattle.walking.specs.Places.{place-below, back-more, weight-more, weight-up-to}
 use Rattle.walking.specs.Places.{jobs-count, job-there, job-fine, job-limits}
 use Rattle.walking.specs.Sources.{latest-in-range, job-written}

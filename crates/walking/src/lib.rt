@@ -12,9 +12,9 @@ ghost use lib.ListN.{length};
 ghost use Rattle.seconds.specs.Limits.{mostJobs};
 ghost use Rattle.seconds.specs.Signed.{maxZ, minZ};
 ghost use Rattle.order.specs.Choice.{numberKept};
-ghost use Rattle.packed.specs.Packed.{t0Of};
+ghost use Rattle.packed.specs.Packed.{t0Of, jobsIn};
 ghost use Rattle.cells.specs.Work.{seen, rowAt, leaves};
-ghost use Rattle.walking.specs.Trail.{asJob, jobsIn, Timely, lastStartOf, StepsBack, stepBack, Walks, walkMask};
+ghost use Rattle.walking.specs.Trail.{asJob, Timely, lastStartOf, StepsBack, stepBack, Walks, walkMask};
 ghost use Rattle.walking.specs.Picks.{picksOf, TakesTurn, turnOf, WritesStarts, startsWritten};
 
 // How many numbers after a row the next row stands.

@@ -6,8 +6,7 @@ use native.Mathlib.Omega.{arith}
 use denote.Ref.{now}
 use mir.Facts.{toZ-ofZ}
 use borrow.Author.Needs.{needs}
-use Rattle.packed.specs.Packed.{t0Of}
-use Rattle.filling.specs.Rows.{jobsIn}
+use Rattle.packed.specs.Packed.{t0Of, jobsIn}
 use Rattle.walking.specs.Trail.{walkMask}
 use Rattle.planner.specs.PlanningLaws.{total-few, can-walk, weight-light, top-light, can-write, plan-made}
 use Rattle.planner.proofs.make_plan.Statement.{statement}

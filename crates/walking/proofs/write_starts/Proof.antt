@@ -8,8 +8,8 @@ use lib.ListN.{length}
 use mir.Syntax.{w32}
 use mir.Val.{toZ, ofZ}
 use mir.Facts.{toZ-ofZ}
+use Rattle.packed.specs.Packed.{jobsIn}
 use Rattle.cells.specs.CellLaws.{read-back}
-use Rattle.walking.specs.Trail.{jobsIn}
 use Rattle.walking.specs.PicksLaws.{left-fits}
 use Rattle.walking.specs.Places.{jobs-count}
 use Rattle.walking.specs.StartsLaws.{Writing, writing-none, writing-all, CanTurn, can-turn}

@@ -22,7 +22,7 @@ use Rattle.profile.specs.Last.{last-member, last-heaviest}
 use Rattle.profile.specs.Joining.{extend-extend, extend-betterOf}
 use Rattle.profile.specs.Closure.{valid-holds, extend-light, valid-extend, valid-betterOf}
 use Rattle.packed.specs.Judge.{fine, judge}
-use Rattle.packed.specs.Packed.{countOf, t0Of, numbersOf, jobCount, fieldsAt, orderOf}
+use Rattle.packed.specs.Packed.{countOf, t0Of, numbersOf, jobCount, fieldsAt, orderOf, jobsIn}
 use Rattle.packed.specs.PlacesLaws.{part-first, part-second}
 use Rattle.packed.specs.PackedLaws.{length-numbers, numbers-count, count-append, jobs-append}
 use Rattle.packed.specs.Refusals.{orderChecks, numberAt}
@@ -33,15 +33,14 @@ use Rattle.profiles.specs.Numbers.{mostNumbers, alternating, holdsProfile, writ
 use Rattle.profiles.specs.NumbersLaws.{alternating-length, profile-back, held, profile-there}
 use Rattle.better.specs.declared.Joined.{Joined}
 use Rattle.better.specs.declared.Joined.the-variants.{Points as JoinedPoints}
-use Rattle.filling.specs.Rows.{jobsIn}
 use Rattle.planner.specs.Calls.{profileGiven, extension, ExtendCall}
 use Rattle.planner.specs.CallLaws.{given-read, extend-fine}
 use Rattle.planner.specs.PlanningLaws.{jobs-fit}
 use Rattle.planner.specs.ExtendingLaws.{Accepted, accepted, accepted-order}
 use Rattle.planner.specs.declared.Extended.{Extended}
 use Rattle.planner.specs.declared.Extended.the-variants.{Points}
-use Rattle.planner.specs.TwoWays.{Room, AcceptedAfter, wrote, BetterCall, wroteJoined, joinedBytes}
-use Rattle.planner.specs.TwoWays.{Joinable, OneByOne, BetterFirst}
+use Rattle.joining.specs.TwoWays.{Room, AcceptedAfter, wrote, BetterCall, wroteJoined, joinedBytes}
+use Rattle.joining.specs.TwoWays.{Joinable, OneByOne, BetterFirst}
 
 -- ---- profiles as numbers
 
