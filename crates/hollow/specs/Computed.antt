@@ -1,0 +1,71 @@
+-- What the definitions say at the named inputs, by computation, as far as it depends on the bytes: the orders that they
+-- mean, and that all checks are passed.
+use Prim.Native.Nat.{ℕ, suc}
+use mathlib.Core.Path.{_≡_, refl}
+use mathlib.Core.Bool.{true}
+use mathlib.Core.List.{List, [], _∷_}
+use lib.IntN.{ℤ, pos}
+use lib.ListN.{length, length-replicate}
+use Rattle.seconds.specs.Limits.{rest}
+use Rattle.seconds.specs.Twos.{bitsTo}
+use Rattle.order.specs.Job.{Order, oneRate}
+use Rattle.packed.specs.Judge.{fine}
+use Rattle.packed.specs.Layout.{decode, numberOf}
+use Rattle.packed.specs.Places.{part, flat, each, first}
+use Rattle.packed.specs.Packed.{headerWord, headerOf, countOf, t0Of, spareOf, recordAt, jobWord, jobFields, numbersOf}
+use Rattle.packed.specs.Packed.{jobCount, fieldsAt, jobOf, jobsOf, orderOf}
+use Rattle.packed.specs.Refusals.{fieldsWithin, firstBad, numberAt, firstRepeat, headerChecks, jobChecks, weightChecks}
+use Rattle.profiles.specs.Numbers.{mostNumbers}
+use Rattle.cells.specs.Work.{area, cleared, clearedTo}
+use Rattle.planner.specs.Calls.{planChecks, planVerdict, extendJudged, extendChecks, extendVerdict}
+use Rattle.openings.specs.Choosing.{choosingChecks, choosingVerdict}
+use Rattle.report.specs.AsPrinted.{morningBytes}
+use Rattle.worked.specs.Examples.{morning}
+use Rattle.hollow.specs.Named.{ones, front, room, rows, oneJobBytes, start}
+
+-- P4 as an order.
+abbrev pub oneJob : Order
+oneJob = record { t0 = pos 0; jobs = oneRate 0 true 0 (pos 0) 10 (pos 10) ∷ [] }
+
+-- With room for a profile and for the rows,
+pub record Accepted (out work : List ℤ) : Type 0 where
+  pub plan-morning : planVerdict morningBytes (ones 5) work ≡ fine
+  pub plan-one-job : planVerdict oneJobBytes (ones 1) work ≡ fine
+  pub extend-morning : extendVerdict start morningBytes out work ≡ fine
+  pub extend-one-job : extendVerdict start oneJobBytes out work ≡ fine
+  pub choose : choosingVerdict morningBytes oneJobBytes work ≡ fine
+  pub morning-order : orderOf morningBytes ≡ morning
+  pub one-job-order : orderOf oneJobBytes ≡ oneJob
+
+-- whatever the buffers hold.
+with-room : (out work : List ℤ) → length out ≡ mostNumbers → length work ≡ area → Accepted out work
+unfolding rest bitsTo decode numberOf part flat each first headerWord headerOf countOf t0Of spareOf recordAt jobWord
+    jobFields numbersOf jobCount fieldsAt jobOf jobsOf orderOf fieldsWithin firstBad numberAt firstRepeat headerChecks jobChecks
+    weightChecks planChecks extendJudged extendChecks choosingChecks ones
+with-room out work d e =
+    record {
+      plan-morning = rw e;
+      plan-one-job = rw e;
+      extend-morning = rw (d, e);
+      extend-one-job = rw (d, e);
+      choose = rw e;
+      morning-order = refl;
+      one-job-order = refl;
+    }
+
+-- The named buffers are long enough.
+pub length-ones : (n : ℕ) → length (ones n) ≡ n
+unfolding ones
+length-ones n = length-replicate n (pos 1)
+
+pub accepted : Accepted room rows
+accepted = with-room room rows (length-ones mostNumbers) (length-ones area)
+
+-- What stands in front of them, and of any work area that is cleared.
+pub front-ones : (n : ℕ) → front (ones (suc n)) ≡ pos 1
+unfolding ones
+front-ones n = refl
+
+pub front-cleared : (work : List ℤ) → front (cleared work) ≡ pos 0
+unfolding cleared clearedTo
+front-cleared work = refl

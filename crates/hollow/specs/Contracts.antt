@@ -1,0 +1,254 @@
+-- The contract of each public call as a relation of its inputs and outcomes. Definitions only; that these relations are the
+-- contracts of the code is shown in Generated.
+use Prim.Native.Nat.{ℕ}
+use mathlib.Core.Path.{_≡_, refl}
+use mathlib.Core.Bool.{Bool, true, false}
+use mathlib.Core.List.{List}
+use base.Fml.{GName}
+use denote.Ref.{RefT, now}
+use lib.Dec.{eqb}
+use lib.IntN.{ℤ}
+use lib.ListN.{length}
+use Rattle.profiles.specs.Answer.{lookupOf}
+use Rattle.profiles.specs.declared.Finding.{Finding}
+use Rattle.profiles.specs.declared.Finding.the-variants as finding
+use Rattle.point_records.specs.Records.{flattened}
+use Rattle.point_records.specs.declared.Point.{Point}
+use Rattle.better.specs.Answer.{joinedOf, outAfter as joinedAfter}
+use Rattle.better.specs.declared.Joined.{Joined}
+use Rattle.better.specs.declared.Joined.the-variants as joined
+use Rattle.unpack.specs.Answer.{unpackOf, numbersAfter}
+use Rattle.unpack.specs.declared.Unpacked.{Unpacked}
+use Rattle.unpack.specs.declared.Unpacked.the-variants as unpacked
+use Rattle.pack.specs.Answer.{packOf, bytesAfter}
+use Rattle.pack.specs.declared.Packed.{Packed}
+use Rattle.pack.specs.declared.Packed.the-variants as packed
+use Rattle.reader.specs.Reading.{openOf, stepOf}
+use Rattle.reader.specs.declared.Opened.{Opened}
+use Rattle.reader.specs.declared.Opened.the-variants as opened
+use Rattle.reader.specs.declared.Read.{Read}
+use Rattle.reader.specs.declared.Read.the-variants as read
+use Rattle.reader.specs.declared.Moved.{Moved}
+use Rattle.heat.specs.Answer.{heatingOf}
+use Rattle.heat.specs.declared.Heating.{Heating}
+use Rattle.heat.specs.declared.Heating.the-variants as heating
+use Rattle.planner.specs.Calls.{plannedOf, startsAfter, planWorkAfter, PlanCall}
+use Rattle.planner.specs.Calls.{extendedOf, outAfter, extendWorkAfter, ExtendCall}
+use Rattle.planner.specs.declared.Planned.{Planned}
+use Rattle.planner.specs.declared.Planned.the-variants as planned
+use Rattle.planner.specs.declared.Extended.{Extended}
+use Rattle.planner.specs.declared.Extended.the-variants as extended
+use Rattle.openings.specs.Choosing.{chosenOf, workAfter, Asked, partOf, placeOf, Handed}
+use Rattle.openings.specs.declared.Chosen.{Chosen}
+use Rattle.openings.specs.declared.Chosen.the-variants as chosen
+use Rattle.hollow.specs.Contract.{Contract, over}
+
+-- ---- which answers are refusals
+
+abbrev planRefused : Planned → Bool
+planRefused (planned.Refused n p) = true
+planRefused (planned.Made f) = false
+
+abbrev extendRefused : Extended → Bool
+extendRefused (extended.Refused n p) = true
+extendRefused (extended.Points n) = false
+
+abbrev joinRefused : Joined → Bool
+joinRefused joined.NotValid = true
+joinRefused joined.NoRoom = true
+joinRefused (joined.Points n) = false
+
+abbrev lookupRefused : Finding → Bool
+lookupRefused finding.NotValid = true
+lookupRefused (finding.Found w) = false
+lookupRefused finding.NotFound = false
+
+abbrev unpackRefused : Unpacked → Bool
+unpackRefused (unpacked.Refused n p) = true
+unpackRefused (unpacked.Jobs n t0) = false
+
+abbrev packRefused : Packed → Bool
+packRefused (packed.Refused n p) = true
+packRefused (packed.Bytes n) = false
+
+abbrev openRefused : Opened → Bool
+openRefused (opened.Refused n) = true
+openRefused (opened.Accepted count) = false
+
+abbrev stepRefused : Read → Bool
+stepRefused (read.Refused n p) = true
+stepRefused (read.Job job) = false
+stepRefused read.End = false
+
+abbrev heatRefused : Heating → Bool
+heatRefused heating.TooCold = true
+heatRefused (heating.Seconds l) = false
+
+abbrev questionRefused : Chosen → Bool
+questionRefused (chosen.Refused n) = true
+questionRefused chosen.First = false
+questionRefused chosen.Second = false
+
+-- ---- planning and profiles
+
+-- What planning is given: bytes, starts and work area. Of the last two, what it leaves.
+abbrev pub PlanInput : Type 0
+PlanInput = List ℕ × List ℤ × List ℤ
+
+abbrev pub planning : Contract PlanInput Planned (List ℤ × List ℤ)
+planning =
+    record {
+      allows = λ x r b. PlanCall (x .0) (x .1) (x .2) r (b .0) (b .1);
+      answer = λ x. plannedOf (x .0) (x .1) (x .2);
+      left = λ x. (startsAfter (x .0) (x .1) (x .2), planWorkAfter (x .0) (x .1) (x .2));
+      met = λ x. record { answer = refl; written = refl; area = refl };
+      only = λ x r b h. (h .answer, λ i. (h .written i, h .area i));
+      lent = λ x. (x .1, x .2);
+      refusal = planRefused;
+    }
+
+-- What extending is given: profile, bytes, numbers to write to, and work area. Of the last two, what it leaves.
+abbrev pub ExtendInput : Type 0
+ExtendInput = List ℤ × List ℕ × List ℤ × List ℤ
+
+abbrev pub extending : Contract ExtendInput Extended (List ℤ × List ℤ)
+extending =
+    record {
+      allows = λ x r b. ExtendCall (x .0) (x .1) (x .2) (x .3) r (b .0) (b .1);
+      answer = λ x. extendedOf (x .0) (x .1) (x .2) (x .3);
+      left = λ x. (outAfter (x .0) (x .1) (x .2) (x .3), extendWorkAfter (x .0) (x .1) (x .2) (x .3));
+      met = λ x. record { answer = refl; written = refl; area = refl };
+      only = λ x r b h. (h .answer, λ i. (h .written i, h .area i));
+      lent = λ x. (x .2, x .3);
+      refusal = extendRefused;
+    }
+
+-- Two profiles, and numbers to write to.
+abbrev pub joiningProfiles : Contract (List ℤ × List ℤ × List ℤ) Joined (List ℤ)
+joiningProfiles =
+    record {
+      allows = λ x r b. (r ≡ joinedOf (x .0) (x .1) (x .2)) × (b ≡ joinedAfter (x .0) (x .1) (x .2));
+      answer = λ x. joinedOf (x .0) (x .1) (x .2);
+      left = λ x. joinedAfter (x .0) (x .1) (x .2);
+      met = λ x. (refl, refl);
+      only = λ x r b h. h;
+      lent = λ x. x .2;
+      refusal = joinRefused;
+    }
+
+-- A profile and a time; nothing is lent to write to.
+abbrev pub lookingUp : Contract (List ℤ × ℤ) Finding (Unit {0})
+lookingUp =
+    record {
+      allows = λ x r b. r ≡ lookupOf (x .0) (x .1);
+      answer = λ x. lookupOf (x .0) (x .1);
+      left = λ x. tt;
+      met = λ x. refl;
+      only = λ x r b h. (h, refl);
+      lent = λ x. tt;
+      refusal = lookupRefused;
+    }
+
+-- The same over point records.
+abbrev pub lookingUpRecords : Contract (List Point × ℤ) Finding (Unit {0})
+lookingUpRecords = over (λ x. (flattened (x .0), x .1)) lookingUp
+
+-- ---- packed orders
+
+-- Bytes, and numbers to write to.
+abbrev pub unpacking : Contract (List ℕ × List ℤ) Unpacked (List ℤ)
+unpacking =
+    record {
+      allows = λ x r b. (r ≡ unpackOf (x .0) (length (x .1))) × (b ≡ numbersAfter (x .0) (x .1));
+      answer = λ x. unpackOf (x .0) (length (x .1));
+      left = λ x. numbersAfter (x .0) (x .1);
+      met = λ x. (refl, refl);
+      only = λ x r b h. h;
+      lent = λ x. x .1;
+      refusal = unpackRefused;
+    }
+
+-- A bus-free time, numbers, and bytes to write to.
+abbrev pub packing : Contract (ℤ × List ℤ × List ℕ) Packed (List ℕ)
+packing =
+    record {
+      allows = λ x r b. (r ≡ packOf (x .0) (x .1) (length (x .2))) × (b ≡ bytesAfter (x .0) (x .1) (x .2));
+      answer = λ x. packOf (x .0) (x .1) (length (x .2));
+      left = λ x. bytesAfter (x .0) (x .1) (x .2);
+      met = λ x. (refl, refl);
+      only = λ x r b h. h;
+      lent = λ x. x .2;
+      refusal = packRefused;
+    }
+
+-- Bytes to read from.
+abbrev pub openingReader : Contract (List ℕ) Opened (Unit {0})
+openingReader =
+    record {
+      allows = λ x r b. r ≡ openOf x;
+      answer = openOf;
+      left = λ x. tt;
+      met = λ x. refl;
+      only = λ x r b h. (h, refl);
+      lent = λ x. tt;
+      refusal = openRefused;
+    }
+
+-- Bytes and a place. The place stands for a buffer: it is handed in, and handed back moved on.
+abbrev pub stepping : Contract (List ℕ × ℕ) Read ℕ
+stepping =
+    record {
+      allows = λ x r b. _≡_ {A = Moved} (record { answer = r; place = b }) (stepOf (x .0) (x .1));
+      answer = λ x. stepOf (x .0) (x .1) .answer;
+      left = λ x. stepOf (x .0) (x .1) .place;
+      met = λ x. refl;
+      only = λ x r b h. (λ i. h i .answer, λ i. h i .place);
+      lent = λ x. x .1;
+      refusal = stepRefused;
+    }
+
+-- ---- heat-up lengths
+
+-- A byte.
+abbrev pub heatingUp : Contract ℕ Heating (Unit {0})
+heatingUp =
+    record {
+      allows = λ x r b. r ≡ heatingOf x;
+      answer = heatingOf;
+      left = λ x. tt;
+      met = λ x. refl;
+      only = λ x r b h. (h, refl);
+      lent = λ x. tt;
+      refusal = heatRefused;
+    }
+
+-- ---- openings
+
+-- Two packed orders, a time and the work area.
+abbrev pub asking : Contract (List ℕ × List ℕ × ℤ × List ℤ) Chosen (List ℤ)
+asking =
+    record {
+      allows = λ x r b. Asked (x .0) (x .1) (x .2) (x .3) r b;
+      answer = λ x. chosenOf (x .0) (x .1) (x .2) (x .3);
+      left = λ x. workAfter (x .0) (x .1) (x .2) (x .3);
+      met = λ x. record { answer = refl; area = refl };
+      only = λ x r b h. (h .answer, h .area);
+      lent = λ x. x .3;
+      refusal = questionRefused;
+    }
+
+-- The same, with the orders where they stand. What is handed back is a part, by its bytes and its place, under whatever
+-- ghost name; an empty one stands for a refusal.
+abbrev pub choosing : Contract (RefT (List ℕ) × RefT (List ℕ) × ℤ × List ℤ) (List ℕ × (ℕ × ℕ)) (List ℤ)
+choosing =
+    record {
+      allows = λ x r b. (n : GName) × Handed (x .0) (x .1) (x .2) (x .3) (record { ptr = r .1; name = n; now = r .0 }) b;
+      answer = λ x.
+          let c = chosenOf (now (x .0)) (now (x .1)) (x .2) (x .3) in
+          (partOf c (now (x .0)) (now (x .1)), placeOf c (x .0 .ptr) (x .1 .ptr));
+      left = λ x. workAfter (now (x .0)) (now (x .1)) (x .2) (x .3);
+      met = λ x. (x .0 .name, record { bytes = refl; place = refl; area = refl });
+      only = λ x r b h. (λ i. (h .1 .bytes i, h .1 .place i), h .1 .area);
+      lent = λ x. x .3;
+      refusal = λ r. eqb (length (r .0)) 0;
+    }

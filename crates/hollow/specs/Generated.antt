@@ -1,0 +1,100 @@
+-- The relations of Contracts are the contracts of the code: for each call, what its generated contract claims of the
+-- arguments, the answer and the parameters at exit is what the relation says. A contract that changes is refused here.
+use mathlib.Core.Path.{_≡_, refl}
+use contract.Lifetimes.{Lfts}
+use denote.Ref.{RefT, now}
+use denote.Triple.Clauses.{AtExit}
+use denote.Triple.Entry.{Args}
+use mathlib.Core.List.{List}
+use Prim.Native.Nat.{ℕ}
+use Rattle.profiles.specs.declared.Finding.{Finding}
+use Rattle.profiles.proofs.lookup as lookup
+use Rattle.profiles.proofs.lookup.Reads as lookup-reads
+use Rattle.point_records.proofs.lookup_records as lookup-records
+use Rattle.point_records.proofs.Determined as records
+use Rattle.better.specs.declared.Joined.{Joined}
+use Rattle.better.proofs.better_of as better-of
+use Rattle.better.proofs.better_of.Reads as better-of-reads
+use Rattle.unpack.specs.declared.Unpacked.{Unpacked}
+use Rattle.unpack.proofs.unpack as unpack
+use Rattle.unpack.proofs.unpack.Reads as unpack-reads
+use Rattle.pack.specs.declared.Packed.{Packed}
+use Rattle.pack.proofs.pack as pack
+use Rattle.pack.proofs.pack.Reads as pack-reads
+use Rattle.reader.specs.declared.Opened.{Opened}
+use Rattle.reader.specs.declared.Moved.{Moved}
+use Rattle.reader.proofs.open as opens
+use Rattle.reader.proofs.open.Reads as open-reads
+use Rattle.reader.proofs.step as step
+use Rattle.reader.proofs.step.Reads as step-reads
+use Rattle.heat.specs.declared.Heating.{Heating}
+use Rattle.heat.proofs.heat_up as heat-up
+use Rattle.heat.proofs.heat_up.Reads as heat-up-reads
+use Rattle.planner.specs.declared.Planned.{Planned}
+use Rattle.planner.specs.declared.Extended.{Extended}
+use Rattle.planner.proofs.plan as plan
+use Rattle.planner.proofs.plan.Reads as plan-reads
+use Rattle.planner.proofs.extend as extend
+use Rattle.planner.proofs.extend.Reads as extend-reads
+use Rattle.openings.specs.declared.Chosen.{Chosen}
+use Rattle.openings.proofs.question as question
+use Rattle.openings.proofs.question.Reads as question-reads
+use Rattle.openings.proofs.choose as choose
+use Rattle.openings.proofs.choose.Reads as choose-reads
+use Rattle.hollow.specs.Contracts.{planning, extending, joiningProfiles, lookingUp, lookingUpRecords, unpacking, packing}
+use Rattle.hollow.specs.Contracts.{openingReader, stepping, heatingUp, asking, choosing}
+
+pub plan-is : (κs : Lfts 3) (a : Args plan.signature κs) (r : Planned) (x : AtExit plan.ended κs)
+    → plan-reads.Post κs a r x
+    ≡ planning .allows (a .0 .now, a .1 .0 .now, a .1 .1 .0 .now) r (x .1 .0 .now, x .1 .1 .0 .now)
+plan-is κs a r x = refl
+
+pub extend-is : (κs : Lfts 4) (a : Args extend.signature κs) (r : Extended) (x : AtExit extend.ended κs)
+    → extend-reads.Post κs a r x
+    ≡ extending .allows (a .0 .now, a .1 .0 .now, a .1 .1 .0 .now, a .1 .1 .1 .0 .now) r
+    (x .1 .1 .0 .now, x .1 .1 .1 .0 .now)
+extend-is κs a r x = refl
+
+pub better-of-is : (κs : Lfts 3) (a : Args better-of.signature κs) (r : Joined) (x : AtExit better-of.ended κs)
+    → better-of-reads.Post κs a r x ≡ joiningProfiles .allows (a .0 .now, a .1 .0 .now, a .1 .1 .0 .now) r (x .1 .1 .0 .now)
+better-of-is κs a r x = refl
+
+pub lookup-is : (κs : Lfts 1) (a : Args lookup.signature κs) (r : Finding) (x : AtExit lookup.ended κs)
+    → lookup-reads.Post κs a r x ≡ lookingUp .allows (a .0 .now, a .1 .0) r tt
+lookup-is κs a r x = refl
+
+-- Over records the claim is written out where it is tied to the contract.
+pub lookup-records-is : (κs : Lfts 1) (a : Args lookup-records.signature κs) (r : Finding) (x : AtExit lookup-records.ended κs)
+    → records.Post κs a r x ≡ lookingUpRecords .allows (a .0 .now, a .1 .0) r tt
+lookup-records-is κs a r x = refl
+
+pub unpack-is : (κs : Lfts 2) (a : Args unpack.signature κs) (r : Unpacked) (x : AtExit unpack.ended κs)
+    → unpack-reads.Post κs a r x ≡ unpacking .allows (a .0 .now, a .1 .0 .now) r (x .1 .0 .now)
+unpack-is κs a r x = refl
+
+pub pack-is : (κs : Lfts 2) (a : Args pack.signature κs) (r : Packed) (x : AtExit pack.ended κs)
+    → pack-reads.Post κs a r x ≡ packing .allows (a .0, a .1 .0 .now, a .1 .1 .0 .now) r (x .1 .1 .0 .now)
+pack-is κs a r x = refl
+
+pub open-is : (κs : Lfts 1) (a : Args opens.signature κs) (r : Opened) (x : AtExit opens.ended κs)
+    → open-reads.Post κs a r x ≡ openingReader .allows (a .0 .now) r tt
+open-is κs a r x = refl
+
+pub step-is : (κs : Lfts 1) (a : Args step.signature κs) (r : Moved) (x : AtExit step.ended κs)
+    → step-reads.Post κs a r x ≡ stepping .allows (a .0 .now, a .1 .0) (r .answer) (r .place)
+step-is κs a r x = refl
+
+pub heat-up-is : (κs : Lfts 0) (a : Args heat-up.signature κs) (r : Heating) (x : AtExit heat-up.ended κs)
+    → heat-up-reads.Post κs a r x ≡ heatingUp .allows (a .0) r tt
+heat-up-is κs a r x = refl
+
+pub question-is : (κs : Lfts 3) (a : Args question.signature κs) (r : Chosen) (x : AtExit question.ended κs)
+    → question-reads.Post κs a r x
+    ≡ asking .allows (a .0 .now, a .1 .0 .now, a .1 .1 .0, a .1 .1 .1 .0 .now) r (x .1 .1 .1 .0 .now)
+question-is κs a r x = refl
+
+-- Of the choice the ghost name of the part is not seen: the relation holds wherever the contract does.
+pub choose-says : (κs : Lfts 2) (a : Args choose.signature κs) (r : RefT (List ℕ)) (x : AtExit choose.ended κs)
+    → choose-reads.Post κs a r x
+    → choosing .allows (a .0, a .1 .0, a .1 .1 .0, a .1 .1 .1 .0 .now) (now r, r .ptr) (x .1 .1 .1 .0 .now)
+choose-says κs a r x h = (r .name, h)

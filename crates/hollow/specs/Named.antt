@@ -1,0 +1,98 @@
+-- The inputs at which hollow versions are tried: P1, P2, P4 and P9 of document 01, with lent buffers that hold a 1 everywhere,
+-- so that what is written or cleared shows. Definitions only.
+use Prim.Native.Nat.{ℕ}
+use mathlib.Core.List.{List, [], _∷_}
+use denote.Ref.{RefT}
+use lib.IntN.{ℤ, pos, negsuc}
+use lib.ListN.{getD, replicate}
+use Rattle.packed.specs.Packed.{numbersOf}
+use Rattle.profiles.specs.Numbers.{mostNumbers}
+use Rattle.point_records.specs.declared.Point.{Point}
+use Rattle.cells.specs.Work.{area}
+use Rattle.report.specs.AsPrinted.{morningBytes}
+use Rattle.hollow.specs.Contracts.{PlanInput, ExtendInput}
+
+-- ---- lent buffers
+
+-- So many ones. Shut: the work area is never written out.
+unfoldable pub ones : ℕ → List ℤ
+ones n = replicate n (pos 1)
+
+-- The number in front of a buffer.
+abbrev pub front : List ℤ → ℤ
+front l = getD l 0 (pos 0)
+
+-- Room for a profile, and for the rows.
+abbrev pub room : List ℤ
+room = ones mostNumbers
+
+abbrev pub rows : List ℤ
+rows = ones area
+
+-- ---- orders and profiles
+
+-- P4: one critical job, ready at 0, of 10 seconds and with the deadline 10; the bus is free at 0.
+abbrev pub oneJobBytes : List ℕ
+oneJobBytes = 0x04 ∷ 0x00 ∷ 0x00 ∷ 0x00 ∷ 0x02 ∷ 0x00 ∷ 0x00 ∷ 0x00 ∷ 0x00 ∷ 0x28 ∷ 0x00 ∷ 0x0A ∷ []
+
+-- The profile (-600, 0), which P1 extends to its own.
+abbrev pub start : List ℤ
+start = negsuc 599 ∷ pos 0 ∷ []
+
+-- A point record.
+abbrev point : ℕ → ℕ → Point
+point t w = record { time = pos t; weight = pos w }
+
+-- ---- what the calls are given
+
+-- Planning P1, and P4.
+abbrev pub planMorning : PlanInput
+planMorning = (morningBytes, ones 5, rows)
+
+abbrev pub planOneJob : PlanInput
+planOneJob = (oneJobBytes, ones 1, rows)
+
+-- Extending by P1, and by P4.
+abbrev pub extendMorning : ExtendInput
+extendMorning = (start, morningBytes, room, rows)
+
+abbrev pub extendOneJob : ExtendInput
+extendOneJob = (start, oneJobBytes, room, rows)
+
+-- Better-of as in P9, and with nothing for the first.
+abbrev pub joinTwo : List ℤ × List ℤ × List ℤ
+joinTwo = (pos 0 ∷ pos 0 ∷ pos 20 ∷ pos 7 ∷ [], pos 5 ∷ pos 7 ∷ [], room)
+
+abbrev pub joinOne : List ℤ × List ℤ × List ℤ
+joinOne = ([], pos 5 ∷ pos 7 ∷ [], room)
+
+-- Lookups in P2's profile, as numbers and as records.
+abbrev pub lookupAt : ℤ → List ℤ × ℤ
+lookupAt t = (pos 200 ∷ pos 0 ∷ pos 295 ∷ pos 20 ∷ pos 395 ∷ pos 35 ∷ [], t)
+
+abbrev pub lookupRecordsAt : ℤ → List Point × ℤ
+lookupRecordsAt t = (point 200 0 ∷ point 295 20 ∷ point 395 35 ∷ [], t)
+
+-- Unpacking P1, and P4; and packing them again.
+abbrev pub unpackMorning : List ℕ × List ℤ
+unpackMorning = (morningBytes, ones 30)
+
+abbrev pub unpackOneJob : List ℕ × List ℤ
+unpackOneJob = (oneJobBytes, ones 6)
+
+abbrev pub packMorning : ℤ × List ℤ × List ℕ
+packMorning = (negsuc 599, numbersOf morningBytes, replicate 44 1)
+
+abbrev pub packOneJob : ℤ × List ℤ × List ℕ
+packOneJob = (pos 0, numbersOf oneJobBytes, replicate 12 1)
+
+-- Two openings, P1 and P4, at a time: P4 has a point long before P1, which has the heavier one in the end.
+abbrev pub askAt : ℤ → List ℕ × List ℕ × ℤ × List ℤ
+askAt t = (morningBytes, oneJobBytes, t, rows)
+
+-- Bytes that stand at the beginning of a block of memory, and the same openings in two blocks.
+abbrev pub block : ℕ → List ℕ → RefT (List ℕ)
+block b bytes = record { ptr = (b, 0); name = b; now = bytes }
+
+abbrev pub chooseAt : ℤ → RefT (List ℕ) × RefT (List ℕ) × ℤ × List ℤ
+chooseAt t = (block 0 morningBytes, block 1 oneJobBytes, t, rows)

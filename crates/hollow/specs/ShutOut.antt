@@ -1,0 +1,127 @@
+-- Of every call, a version that refuses everything, one with a constant answer and one that writes nothing are shut out, at
+-- inputs that the call accepts, by what the definitions answer and write there.
+use mathlib.Core.Path.{refl}
+use mathlib.Core.List.{List}
+use native.Mathlib.Omega.{arith}
+use lib.IntN.{ℤ, pos, natAbs}
+use lib.ListN.{length, getD}
+use Rattle.seconds.specs.Limits.{rest}
+use Rattle.seconds.specs.Signed.{signed}
+use Rattle.seconds.specs.Twos.{bitsTo, toBits}
+use Rattle.packed.specs.Layout.{decode, encode, numberOf, bytesOf}
+use Rattle.packed.specs.Places.{part, flat, each, first}
+use Rattle.packed.specs.Packed.{headerWord, headerOf, countOf, t0Of, spareOf, recordAt, jobWord, jobFields, numbersOf}
+use Rattle.packed.specs.Packed.{jobCount, fieldsAt, packedHeader, packedJob, packOrder, jobOf, jobsOf}
+use Rattle.packed.specs.Refusals.{fieldsWithin, firstBad, numberAt, firstRepeat, headerChecks, listChecks, jobChecks}
+use Rattle.packed.specs.Refusals.{weightChecks}
+use Rattle.profiles.specs.Numbers.{mostNumbers}
+use Rattle.profiles.specs.Answer.{foundOf}
+use Rattle.better.specs.Answer.{pointsWritten as pointsJoined}
+use Rattle.unpack.specs.Answer.{jobsUnpacked}
+use Rattle.pack.specs.Answer.{bytesWritten}
+use Rattle.reader.specs.Reading.{openCount, readNumbers}
+use Rattle.heat.specs.Answer.{lengthOf}
+use Rattle.planner.specs.Calls.{planNumbers, pointsWritten}
+use Rattle.planner.specs.declared.Planned.{Planned}
+use Rattle.planner.specs.declared.Extended.{Extended}
+use Rattle.openings.specs.Choosing.{winnerOf}
+use Rattle.report.specs.AsPrinted.{morningBytes}
+use Rattle.hollow.specs.Contract.{ShutOut, Leaves, NotHollow, NotHollowIn}
+use Rattle.hollow.specs.Contracts.{PlanInput, planning, ExtendInput, extending, joiningProfiles, lookingUp, lookingUpRecords}
+use Rattle.hollow.specs.Contracts.{unpacking, packing, openingReader, stepping, heatingUp, asking, choosing}
+use Rattle.hollow.specs.Laws.{unwritten, not-hollow, not-hollow-in}
+use Rattle.hollow.specs.Named.{ones, front, rows, oneJobBytes, planMorning, planOneJob, extendMorning, extendOneJob}
+use Rattle.hollow.specs.Named.{joinTwo, joinOne, lookupAt, lookupRecordsAt, unpackMorning, unpackOneJob}
+use Rattle.hollow.specs.Named.{packMorning, packOneJob, askAt, chooseAt}
+use Rattle.hollow.specs.Computed.{accepted, length-ones, front-ones, front-cleared}
+
+-- ---- planning and extending, on P1 and P4
+
+-- By the number of jobs kept, and the first start;
+pub plan-not-hollow : NotHollowIn planning (λ b. b .0) planMorning planOneJob
+unfolding rest
+plan-not-hollow =
+    not-hollow-in planning (rw (accepted .plan-morning, accepted .morning-order)) (λ r. planNumbers r .kept)
+    (rw (accepted .plan-morning, accepted .morning-order, accepted .plan-one-job, accepted .one-job-order) (omega arith))
+    (λ b. b .0) front (rw (accepted .plan-morning, accepted .morning-order, front-ones 4) (omega signed))
+
+-- by the number of points written, and the first point's time.
+pub extend-not-hollow : NotHollowIn extending (λ b. b .0) extendMorning extendOneJob
+unfolding rest
+extend-not-hollow =
+    not-hollow-in extending (rw (accepted .extend-morning)) pointsWritten
+    (rw (accepted .extend-morning, accepted .morning-order, accepted .extend-one-job, accepted .one-job-order) (omega arith))
+    (λ b. b .0) front (rw (accepted .extend-morning, accepted .morning-order, front-ones 601) (omega signed))
+
+-- Neither may leave the work area as it was.
+pub plan-clears : (f : PlanInput → Planned × (List ℤ × List ℤ)) → Leaves planning (λ b. b .1) f
+    → ShutOut planning f planMorning
+plan-clears f leaves =
+    unwritten planning (λ b. b .1) f planMorning front
+    (rw (accepted .plan-morning, front-cleared rows, front-ones 14748) (omega signed)) (leaves planMorning)
+
+pub extend-clears : (f : ExtendInput → Extended × (List ℤ × List ℤ)) → Leaves extending (λ b. b .1) f
+    → ShutOut extending f extendMorning
+extend-clears f leaves =
+    unwritten extending (λ b. b .1) f extendMorning front
+    (rw (accepted .extend-morning, front-cleared rows, front-ones 14748) (omega signed)) (leaves extendMorning)
+
+-- ---- better-of on P9, lookup as in P3, heat-up as in P10
+
+pub better-of-not-hollow : NotHollowIn joiningProfiles (λ b. b) joinTwo joinOne
+unfolding rest
+better-of-not-hollow =
+    not-hollow-in joiningProfiles (rw (length-ones mostNumbers)) pointsJoined (rw (length-ones mostNumbers) (omega arith))
+    (λ b. b) front (rw (length-ones mostNumbers, front-ones 601) (omega signed))
+
+pub lookup-not-hollow : NotHollow lookingUp (lookupAt (pos 200)) (lookupAt (pos 199))
+unfolding rest
+lookup-not-hollow = not-hollow lookingUp refl foundOf (omega arith)
+
+pub lookup-records-not-hollow : NotHollow lookingUpRecords (lookupRecordsAt (pos 200)) (lookupRecordsAt (pos 199))
+unfolding rest
+lookup-records-not-hollow = not-hollow lookingUpRecords refl foundOf (omega arith)
+
+pub heat-up-not-hollow : NotHollow heatingUp 255 0
+unfolding bitsTo
+heat-up-not-hollow = not-hollow heatingUp refl lengthOf (omega arith)
+
+-- ---- openings: P1 wins at 1,000, and P4 at 100, when P1 has no point yet
+
+pub question-not-hollow : NotHollowIn asking (λ b. b) (askAt (pos 1000)) (askAt (pos 100))
+unfolding rest
+question-not-hollow =
+    not-hollow-in asking (rw (accepted .choose, accepted .morning-order, accepted .one-job-order)) winnerOf
+    (rw (accepted .choose, accepted .morning-order, accepted .one-job-order) (omega arith)) (λ b. b) front
+    (rw (accepted .choose, accepted .morning-order, accepted .one-job-order, front-cleared rows, front-ones 14748)
+    (omega signed))
+
+pub choose-not-hollow : NotHollowIn choosing (λ b. b) (chooseAt (pos 1000)) (chooseAt (pos 100))
+unfolding rest
+choose-not-hollow =
+    not-hollow-in choosing (rw (accepted .choose, accepted .morning-order, accepted .one-job-order)) (λ r. length (r .0))
+    (rw (accepted .choose, accepted .morning-order, accepted .one-job-order) (omega arith)) (λ b. b) front
+    (rw (accepted .choose, accepted .morning-order, accepted .one-job-order, front-cleared rows, front-ones 14748)
+    (omega signed))
+
+-- ---- packed orders, on P1 and P4
+
+-- By the number of jobs or bytes, and the first number written; of a step, by the job's number and the place.
+pub record PackedNotHollow : Type 0 where
+  pub unpacks : NotHollowIn unpacking (λ b. b) unpackMorning unpackOneJob
+  pub packs : NotHollowIn packing (λ b. b) packMorning packOneJob
+  pub opens : NotHollow openingReader morningBytes oneJobBytes
+  pub steps : NotHollowIn stepping (λ b. b) (morningBytes, 0) (morningBytes, 1)
+
+pub packed-not-hollow : PackedNotHollow
+unfolding bitsTo toBits decode encode numberOf bytesOf part flat each first headerWord headerOf countOf t0Of spareOf
+    recordAt jobWord jobFields numbersOf jobCount fieldsAt packedHeader packedJob packOrder jobOf jobsOf
+    fieldsWithin firstBad numberAt firstRepeat headerChecks listChecks jobChecks weightChecks ones
+packed-not-hollow =
+    record {
+      unpacks = not-hollow-in unpacking refl jobsUnpacked (omega arith) (λ b. b) front (omega signed);
+      packs = not-hollow-in packing refl bytesWritten (omega arith) (λ b. b) (λ l. pos (getD l 0 0)) (omega signed);
+      opens = not-hollow openingReader refl openCount (omega arith);
+      steps =
+          not-hollow-in stepping refl (λ r. natAbs (front (readNumbers r))) (omega arith) (λ b. b) (λ p. pos p) (omega signed);
+    }
