@@ -1,0 +1,82 @@
+-- The choice for C and the choice that hands a part back agree: the part is what the offset and the length of the numbers
+-- say, in the winner's bytes; and offset and length stay within these bytes.
+use Prim.Native.Nat.{ℕ, _+_, _≤_}
+use mathlib.Core.Path.{_≡_, refl, sym, ap, _∙_}
+use mathlib.Core.Bool.{cond}
+use mathlib.Core.List.{List}
+use native.Mathlib.Omega.{arith}
+use contract.Lifetimes.{Lfts}
+use denote.Ref.{RefT, now}
+use lib.Dec.{eqb, lit<}
+use lib.IntN.{ℤ}
+use lib.ListN.{length, take, drop}
+use borrow.Rule.Slice.PartAt.{part-to-end}
+use Rattle.packed.specs.Layout.{headerBytes}
+use Rattle.openings.specs.Choosing.{Asked, chosenOf, workAfter, partOf, placeOf}
+use Rattle.openings.specs.ChoosingLaws.{headers-there}
+use Rattle.openings.specs.declared.Chosen.{Chosen}
+use Rattle.openings.specs.declared.Chosen.the-variants.{Refused, First, Second}
+use Rattle.openings.proofs.choose.Reads as handing
+use Rattle.plan_answers.specs.Numbers.{chooseNumbers}
+use Rattle.plan_answers.specs.declared.ChooseAnswer.{ChooseAnswer}
+use Rattle.leafanchor.proofs.leafanchor_choose.Reads as choose
+
+-- What either call is handed, and what it has at exit: two openings, a time and the work area.
+abbrev Given : Type 0
+Given = RefT (List ℕ) × (RefT (List ℕ) × (ℤ × (RefT (List ℤ) × Unit {0})))
+
+-- The opening that a winner's number names: 2 is the second; 1, and 0 where refused, the first.
+abbrev named : {X : Type 0} → ℕ → X → X → X
+named n first second = cond (eqb n 2) second first
+
+-- The place so many bytes on; a place is a block of memory and how far into it.
+abbrev onBy : ℕ → ℕ × ℕ → ℕ × ℕ
+onBy n place = (place .0, n + place .1)
+
+-- A part is the one that some numbers say, of two openings.
+pub record IsPart (r : ChooseAnswer) (first second part : RefT (List ℕ)) : Type 0 where
+  pub bytes : now part ≡ take (r .length) (drop (r .offset) (named (r .winner) (now first) (now second)))
+  pub place : part .ptr ≡ onBy (r .offset) (named (r .winner) (first .ptr) (second .ptr))
+
+-- So is the part of each answer of the question.
+bytes-said : (c : Chosen) (first second : List ℕ) → let r = chooseNumbers c (length first) (length second) in
+    partOf c first second ≡ take (r .length) (drop (r .offset) (named (r .winner) first second))
+bytes-said (Refused n) first second = refl
+bytes-said First first second = sym (part-to-end first headerBytes)
+bytes-said Second first second = sym (part-to-end second headerBytes)
+
+place-said : (c : Chosen) (first second : ℕ × ℕ) (m n : ℕ) → let r = chooseNumbers c m n in
+    placeOf c first second ≡ onBy (r .offset) (named (r .winner) first second)
+place-said (Refused k) first second m n = let e : first .1 ≡ 0 + first .1 = omega arith in ap (λ (o : ℕ). (first .0, o)) e
+place-said First first second m n = refl
+place-said Second first second m n = refl
+
+-- On the same inputs the part that is handed back is the one that the numbers say, and the work area is left the same.
+pub part-handed : (κs : Lfts 3) (μs : Lfts 2) (a x y : Given) (r : ChooseAnswer) (part : RefT (List ℕ))
+    → choose.Post κs a r x → handing.Post μs a part y
+    → IsPart r (a .0) (a .1 .0) part × (now (y .1 .1 .1 .0) ≡ now (x .1 .1 .1 .0))
+part-handed κs μs a x y r part h k =
+    let chosen : Chosen = chosenOf (now (a .0)) (now (a .1 .0)) (a .1 .1 .0) (now (a .1 .1 .1 .0)) in
+    let bytes = k .bytes ∙ bytes-said chosen (now (a .0)) (now (a .1 .0)) in
+    let place = k .place ∙ place-said chosen (a .0 .ptr) (a .1 .0 .ptr) (length (now (a .0))) (length (now (a .1 .0))) in
+    (rw (h .0) (record { bytes = bytes; place = place }), k .area ∙ sym (h .1))
+
+module _ (first second : RefT (List ℕ)) (t : ℤ) (work : List ℤ) where
+  -- The question's answer, as the definitions say it.
+  abbrev answer : Chosen
+  answer = chosenOf (now first) (now second) t work
+
+  asked : Asked (now first) (now second) t work answer (workAfter (now first) (now second) t work)
+  asked = record { answer = refl; area = refl }
+
+  -- Offset and length stay within the bytes of the winner, for a winner has a header; they are 0 if refused.
+  inside : (c : Chosen) → answer ≡ c → let r = chooseNumbers c (length (now first)) (length (now second)) in
+      r .offset + r .length ≤ length (named (r .winner) (now first) (now second))
+  inside (Refused n) e = omega arith
+  inside First e = let h = headers-there first second t work asked e (lit< tt) in omega arith
+  inside Second e = let h = headers-there first second t work asked e (lit< tt) in omega arith
+
+-- So they do in the answer of the call.
+pub part-inside : (κs : Lfts 3) (a x : Given) (r : ChooseAnswer) → choose.Post κs a r x
+    → r .offset + r .length ≤ length (named (r .winner) (now (a .0)) (now (a .1 .0)))
+part-inside κs a x r h = rw (h .0) (inside (a .0) (a .1 .0) (a .1 .1 .0) (now (a .1 .1 .1 .0)) _ refl)

@@ -1,0 +1,165 @@
+// The calls of document 01 for programs in C: each calls the proved call of its crate and hands its answer over as numbers.
+// Any bytes, numbers and rooms have an answer. What the caller owes, and nothing checks: no pointer is null, each has room
+// for its length, and lent buffers do not overlap.
+ghost use mathlib.Core.Path.{_≡_};
+ghost use lib.ListN.{length};
+ghost use Rattle.heat.specs.Answer.{heatingOf};
+ghost use Rattle.unpack.specs.Answer.{unpackOf, numbersAfter};
+ghost use Rattle.pack.specs.Answer.{packOf, bytesAfter};
+ghost use Rattle.reader.specs.Reading.{openOf, stepOf};
+ghost use Rattle.profiles.specs.Answer.{lookupOf};
+ghost use Rattle.point_records.specs.Records.{flattened};
+ghost use Rattle.better.specs.Answer.{joinedOf, outAfter as joinedAfter};
+ghost use Rattle.planner.specs.Calls.{plannedOf, startsAfter, planWorkAfter, extendedOf, outAfter, extendWorkAfter};
+ghost use Rattle.openings.specs.Choosing.{chosenOf, workAfter};
+ghost use Rattle.packed_answers.specs.Numbers.{heatNumbers, unpackNumbers, packNumbers, openNumbers, stepNumbers};
+ghost use Rattle.plan_answers.specs.Numbers.{lookupNumbers, betterNumbers, extendNumbers, planFigures};
+ghost use Rattle.plan_answers.specs.Numbers.{questionNumbers, chooseNumbers};
+use packed_answers::HeatAnswer;
+use packed_answers::OpenAnswer;
+use packed_answers::PackAnswer;
+use packed_answers::StepAnswer;
+use packed_answers::UnpackAnswer;
+use plan_answers::BetterAnswer;
+use plan_answers::ChooseAnswer;
+use plan_answers::ExtendAnswer;
+use plan_answers::LookupAnswer;
+use plan_answers::PlanAnswer;
+use plan_answers::QuestionAnswer;
+use point_records::Point;
+
+// The heat-up length for the sampler's byte.
+#[no_mangle]
+pub extern "C" fn leafanchor_heat_up(byte: u8) -> HeatAnswer
+    ensures { λ r. ⌜ r ≡ heatNumbers (heatingOf byte) ⌝ }
+{
+    packed_answers::heat_answer(heat::heat_up(byte))
+}
+
+// The numbers of a packed order, six a job, written to the front of `numbers`.
+#[no_mangle]
+pub extern "C" fn leafanchor_unpack(order: &[u8], numbers: &mut [i32]) -> UnpackAnswer
+    ensures answer { λ r. ⌜ r ≡ unpackNumbers (unpackOf (now (order .entry)) (length (now (numbers .entry)))) ⌝ }
+    ensures lent { λ r. ⌜ now (numbers .exit) ≡ numbersAfter (now (order .entry)) (now (numbers .entry)) ⌝ }
+{
+    packed_answers::unpack_answer(unpack::unpack(order, numbers))
+}
+
+// The packed order of a bus-free time and numbers, six a job, written to the front of `order`.
+#[no_mangle]
+pub extern "C" fn leafanchor_pack(t0: i32, numbers: &[i32], order: &mut [u8]) -> PackAnswer
+    ensures answer { λ r. ⌜ r ≡ packNumbers (packOf t0 (now (numbers .entry)) (length (now (order .entry)))) ⌝ }
+    ensures lent { λ r. ⌜ now (order .exit) ≡ bytesAfter t0 (now (numbers .entry)) (now (order .entry)) ⌝ }
+{
+    packed_answers::pack_answer(pack::pack(t0, numbers, order))
+}
+
+// Whether the reader accepts some bytes, and their count of jobs.
+#[no_mangle]
+pub extern "C" fn leafanchor_open(order: &[u8]) -> OpenAnswer
+    ensures { λ r. ⌜ r ≡ openNumbers (openOf (now (order .entry))) ⌝ }
+{
+    packed_answers::open_answer(reader::open(order))
+}
+
+// The job at a place, and the place at which the reader then stands.
+#[no_mangle]
+pub extern "C" fn leafanchor_step(order: &[u8], place: usize) -> StepAnswer
+    ensures { λ r. ⌜ r ≡ stepNumbers (stepOf (now (order .entry)) place) ⌝ }
+{
+    packed_answers::step_answer(reader::step(order, place))
+}
+
+// The weight of the last point of a profile at or before t.
+#[no_mangle]
+pub extern "C" fn leafanchor_lookup(profile: &[i32], t: i32) -> LookupAnswer
+    ensures { λ r. ⌜ r ≡ lookupNumbers (lookupOf (now (profile .entry)) t) ⌝ }
+{
+    plan_answers::lookup_answer(profiles::lookup(profile, t))
+}
+
+// The same lookup over a lent list of point records. The borrow checker does not cover a slice of structs, so this is proved
+// by hand and does nothing but call.
+#[no_mangle]
+pub extern "C" fn leafanchor_lookup_records(points: &[Point], t: i32) -> LookupAnswer
+    ensures { λ r. ⌜ r ≡ lookupNumbers (lookupOf (flattened (now (points .entry))) t) ⌝ }
+{
+    plan_answers::lookup_answer(point_records::lookup_records(points, t))
+}
+
+// The better of two profiles, written to the front of `out`.
+#[no_mangle]
+pub extern "C" fn leafanchor_better_of(p: &[i32], q: &[i32], out: &mut [i32]) -> BetterAnswer
+    ensures answer { λ r. ⌜ r ≡ betterNumbers (joinedOf (now (p .entry)) (now (q .entry)) (now (out .entry))) ⌝ }
+    ensures lent { λ r. ⌜ now (out .exit) ≡ joinedAfter (now (p .entry)) (now (q .entry)) (now (out .entry)) ⌝ }
+{
+    plan_answers::better_answer(better::better_of(p, q, out))
+}
+
+// A profile extended by a packed order, written to the front of `out`.
+#[no_mangle]
+pub extern "C" fn leafanchor_extend(
+    profile: &[i32],
+    order: &[u8],
+    out: &mut [i32],
+    work: &mut [i32],
+) -> ExtendAnswer
+    ensures answer { λ r. ⌜
+        r
+        ≡ extendNumbers (extendedOf (now (profile .entry)) (now (order .entry)) (now (out .entry)) (now (work .entry))) ⌝ }
+    ensures lent { λ r. ⌜
+        now (out .exit) ≡ outAfter (now (profile .entry)) (now (order .entry)) (now (out .entry)) (now (work .entry)) ⌝ }
+    ensures area { λ r. ⌜
+        now (work .exit)
+        ≡ extendWorkAfter (now (profile .entry)) (now (order .entry)) (now (out .entry)) (now (work .entry)) ⌝ }
+{
+    plan_answers::extend_answer(planner::extend(profile, order, out, work))
+}
+
+// The plan of a packed order; the starts are written in place order to the front of `starts`.
+#[no_mangle]
+pub extern "C" fn leafanchor_plan(order: &[u8], starts: &mut [i32], work: &mut [i32]) -> PlanAnswer
+    ensures answer { λ r. ⌜
+        r ≡ planFigures (plannedOf (now (order .entry)) (now (starts .entry)) (now (work .entry))) ⌝ }
+    ensures lent { λ r. ⌜
+        now (starts .exit) ≡ startsAfter (now (order .entry)) (now (starts .entry)) (now (work .entry)) ⌝ }
+    ensures area { λ r. ⌜
+        now (work .exit) ≡ planWorkAfter (now (order .entry)) (now (starts .entry)) (now (work .entry)) ⌝ }
+{
+    plan_answers::plan_answer(planner::plan(order, starts, work))
+}
+
+// Which of two openings wins at a time.
+#[no_mangle]
+pub extern "C" fn leafanchor_question(
+    first: &[u8],
+    second: &[u8],
+    t: i32,
+    work: &mut [i32],
+) -> QuestionAnswer
+    ensures answer { λ r. ⌜
+        r ≡ questionNumbers (chosenOf (now (first .entry)) (now (second .entry)) t (now (work .entry))) ⌝ }
+    ensures area { λ r. ⌜
+        now (work .exit) ≡ workAfter (now (first .entry)) (now (second .entry)) t (now (work .entry)) ⌝ }
+{
+    plan_answers::question_answer(openings::question(first, second, t, work))
+}
+
+// The choice: which of two openings wins at a time, and where in its bytes the records stand. C takes no slice back.
+#[no_mangle]
+pub extern "C" fn leafanchor_choose(
+    first: &[u8],
+    second: &[u8],
+    t: i32,
+    work: &mut [i32],
+) -> ChooseAnswer
+    ensures answer { λ r. ⌜
+        r
+        ≡ chooseNumbers (chosenOf (now (first .entry)) (now (second .entry)) t (now (work .entry)))
+        (length (now (first .entry))) (length (now (second .entry))) ⌝ }
+    ensures area { λ r. ⌜
+        now (work .exit) ≡ workAfter (now (first .entry)) (now (second .entry)) t (now (work .entry)) ⌝ }
+{
+    let chosen = openings::question(first, second, t, work);
+    plan_answers::choose_answer(chosen, first.len(), second.len())
+}

@@ -1,0 +1,29 @@
+-- `plan_answers::question_answer` meets its contract: each arm is a case of the answer.
+-- Assumes nothing.
+use mathlib.Core.Path.{sym, ap}
+use borrow.Author.Needs.{needs}
+use Rattle.plan_answers.specs.Numbers.{questionNumbers}
+use Rattle.plan_answers.proofs.question_answer.Statement.{statement}
+use Rattle.plan_answers.proofs.question_answer.Tie as tie
+
+enum-known-chosen : tie.Need-enum-known-chosen
+enum-known-chosen c = search needs
+
+enum-told : tie.Need-enum-told
+enum-told c = search needs
+
+enum-told-2 : tie.Need-enum-told-2
+enum-told-2 c = search needs
+
+returns : tie.Need-returns
+returns c = sym (ap questionNumbers (c .before .chosen .given .1))
+
+returns-2 : tie.Need-returns-2
+returns-2 c = sym (ap questionNumbers (c .enum-told .given .1))
+
+returns-3 : tie.Need-returns-3
+returns-3 c = sym (ap questionNumbers (c .enum-told2 .given .1))
+
+pub question-answer-spec : {M : Type 1} → statement M
+question-answer-spec =
+    tie.close (tie.spec enum-known-chosen enum-told enum-told-2 returns returns-2 returns-3)

@@ -1,0 +1,68 @@
+-- For each answer on profiles, plans and openings the struct that says it: document 01's refusal number and values. In a refused
+-- answer all but the refusal and its place are 0. Definitions only.
+use Prim.Native.Nat.{ℕ, _-_}
+use Rattle.packed.specs.Layout.{headerBytes}
+use Rattle.profiles.specs.Answer.{lookupRefusal, foundOf, weightFound}
+use Rattle.profiles.specs.declared.Finding.{Finding}
+use Rattle.better.specs.Answer.{joinRefusal, pointsWritten as pointsJoined}
+use Rattle.better.specs.declared.Joined.{Joined}
+use Rattle.planner.specs.Calls.{planNumbers, extendRefusal, extendPlace, pointsWritten}
+use Rattle.planner.specs.declared.Planned.{Planned}
+use Rattle.planner.specs.declared.Extended.{Extended}
+use Rattle.openings.specs.Choosing.{refusalOf as choiceRefusal, winnerOf}
+use Rattle.openings.specs.declared.Chosen.{Chosen}
+use Rattle.openings.specs.declared.Chosen.the-variants as chosen
+use Rattle.plan_answers.specs.declared.LookupAnswer.{LookupAnswer}
+use Rattle.plan_answers.specs.declared.BetterAnswer.{BetterAnswer}
+use Rattle.plan_answers.specs.declared.ExtendAnswer.{ExtendAnswer}
+use Rattle.plan_answers.specs.declared.PlanAnswer.{PlanAnswer}
+use Rattle.plan_answers.specs.declared.QuestionAnswer.{QuestionAnswer}
+use Rattle.plan_answers.specs.declared.ChooseAnswer.{ChooseAnswer}
+
+-- ---- profiles
+
+abbrev pub lookupNumbers : Finding → LookupAnswer
+lookupNumbers f = record { refusal = lookupRefusal f; found = foundOf f; weight = weightFound f }
+
+abbrev pub betterNumbers : Joined → BetterAnswer
+betterNumbers j = record { refusal = joinRefusal j; points = pointsJoined j }
+
+abbrev pub extendNumbers : Extended → ExtendAnswer
+extendNumbers e = record { refusal = extendRefusal e; place = extendPlace e; points = pointsWritten e }
+
+-- ---- plans
+
+abbrev pub planFigures : Planned → PlanAnswer
+planFigures p =
+    let n = planNumbers p in
+    record {
+      refusal = n .refusal;
+      place = n .place;
+      mask = n .mask;
+      kept = n .kept;
+      «kept_weight» = n .keptWeight;
+      «lost_weight» = n .lostWeight;
+      finish = n .finish;
+      points = n .points;
+    }
+
+-- ---- openings
+
+abbrev pub questionNumbers : Chosen → QuestionAnswer
+questionNumbers c = record { refusal = choiceRefusal c; winner = winnerOf c }
+
+-- Where the winner's records begin in its bytes, and how many bytes they are; 0 if refused.
+abbrev pub offsetOf : Chosen → ℕ
+offsetOf (chosen.Refused n) = 0
+offsetOf chosen.First = headerBytes
+offsetOf chosen.Second = headerBytes
+
+abbrev pub lengthChosen : Chosen → ℕ → ℕ → ℕ
+lengthChosen (chosen.Refused n) first second = 0
+lengthChosen chosen.First first second = first - headerBytes
+lengthChosen chosen.Second first second = second - headerBytes
+
+-- The choice between two openings of so many bytes.
+abbrev pub chooseNumbers : Chosen → ℕ → ℕ → ChooseAnswer
+chooseNumbers c first second =
+    record { refusal = choiceRefusal c; winner = winnerOf c; offset = offsetOf c; length = lengthChosen c first second }
