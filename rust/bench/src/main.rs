@@ -1,0 +1,104 @@
+//! Times the library's planner against a plain Rust one on the same packed orders and buffers: 1,000 orders
+//! of 48 jobs whose weights sum to 300, and 1,000 of 8 jobs. Both judge the order and clear the work area.
+//! Times mean nothing under an emulator; tools/speed.sh runs this on the machine at hand.
+
+mod ours;
+mod plain;
+
+use leafanchor::ffi::PlanAnswer;
+use leafanchor::{MOST_JOBS, WORK_AREA};
+use std::time::Instant;
+use trials::{full_order, packed, Random};
+
+const ORDERS: usize = 1_000;
+const ROUNDS: usize = 11;
+
+/// A planner over packed bytes, starts and work area.
+type Planner = fn(&[u8], &mut [i32], &mut [i32]) -> PlanAnswer;
+
+/// The buffers that both planners are lent.
+struct Buffers {
+    starts: [i32; MOST_JOBS],
+    work: Vec<i32>,
+}
+
+fn main() {
+    let mut random = Random::new(0x1EAF_A4C4_0BE4_C400);
+    let mut buffers = Buffers { starts: [0; MOST_JOBS], work: vec![0; WORK_AREA] };
+    for jobs in [48, 8] {
+        let orders: Vec<Vec<u8>> = (0..ORDERS).map(|_| packed(&full_order(&mut random, jobs))).collect();
+        let kept = compare(&orders, &mut buffers);
+        let damaged: Vec<Vec<u8>> = orders.iter().map(|order| damage(&mut random, order)).collect();
+        compare(&damaged, &mut buffers);
+        println!("{ORDERS} orders of {jobs} jobs: all answers equal, damaged ones too; {kept} jobs kept");
+        time_both(&orders, &mut buffers);
+    }
+}
+
+/// The order with one bit turned round, and at times a byte short.
+fn damage(random: &mut Random, order: &[u8]) -> Vec<u8> {
+    let mut bytes = order.to_vec();
+    let at = random.below(bytes.len());
+    bytes[at] ^= 1 << random.below(8);
+    if random.once_in(10) {
+        bytes.pop();
+    }
+    bytes
+}
+
+/// Compares answers, starts and work areas of both planners on every order; gives the jobs kept in all plans.
+fn compare(orders: &[Vec<u8>], buffers: &mut Buffers) -> u32 {
+    let mut kept = 0;
+    for order in orders {
+        buffers.work.fill(7);
+        let ours = ours::plan(order, &mut buffers.starts, &mut buffers.work);
+        let (starts, work) = (buffers.starts, buffers.work.clone());
+        buffers.work.fill(7);
+        let plain = plain::plan(order, &mut buffers.starts, &mut buffers.work);
+        assert_eq!((ours, starts), (plain, buffers.starts), "the planners differ on {order:?}");
+        assert!(work == buffers.work, "the work areas differ");
+        kept += ours.kept;
+    }
+    kept
+}
+
+/// Prints median and spread of both planners and the ratio of the medians.
+fn time_both(orders: &[Vec<u8>], buffers: &mut Buffers) {
+    let planners: [(&str, Planner); 2] = [("leafanchor", ours::plan), ("plain Rust", plain::plan)];
+    let mut times = [Vec::new(), Vec::new()];
+    for round in 0..=ROUNDS {
+        for turn in 0..2 {
+            // Each goes first in every other round; the first round only warms up.
+            let which = (round + turn) % 2;
+            let time = time_once(planners[which].1, orders, buffers);
+            if round > 0 {
+                times[which].push(time);
+            }
+        }
+    }
+    let medians = [0, 1].map(|which| report(planners[which].0, &mut times[which]));
+    println!("  leafanchor takes {:.2} times as long", medians[0] / medians[1]);
+}
+
+/// The nanoseconds per order of one pass over all orders.
+fn time_once(planner: Planner, orders: &[Vec<u8>], buffers: &mut Buffers) -> f64 {
+    // Every figure that takes work is used, so that none can be left out.
+    let mut figures = 0;
+    let began = Instant::now();
+    for order in orders {
+        let answer = planner(order, &mut buffers.starts, &mut buffers.work);
+        figures += answer.kept + answer.points;
+    }
+    let took = began.elapsed();
+    assert!(figures > 0, "no plan keeps a job");
+    took.as_nanos() as f64 / orders.len() as f64
+}
+
+/// Prints one planner's line and gives its median.
+fn report(name: &str, times: &mut [f64]) -> f64 {
+    times.sort_by(|a, b| a.total_cmp(b));
+    let median = times[times.len() / 2];
+    let (least, most) = (times[0], times[times.len() - 1]);
+    println!("  {name}: median {median:.0} ns an order, {least:.0} to {most:.0} in {} rounds", times.len());
+    median
+}

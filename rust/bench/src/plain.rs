@@ -1,0 +1,197 @@
+//! A plain Rust planner with weight rows: for each prefix of the order and each weight the earliest finish.
+//! It takes the same buffers as the library's planner, judges as it does and gives the same answers; it
+//! allocates nothing.
+
+use leafanchor::ffi::PlanAnswer;
+use leafanchor::{LEFT_OUT, MOST_JOBS, WORK_AREA};
+
+/// Cells of a row.
+const ROW: usize = 301;
+/// The cell of a weight that no feasible choice has; later than every deadline.
+const NONE: i32 = 200_000;
+const LATEST: i32 = 100_000;
+
+#[derive(Clone, Copy, Default)]
+struct Job {
+    critical: bool,
+    weight: usize,
+    ready: i32,
+    length: i32,
+    deadline: i32,
+}
+
+/// The jobs of an order in range.
+struct Order {
+    t0: i32,
+    count: usize,
+    jobs: [Job; MOST_JOBS],
+}
+
+/// Plans an order: the same call as the library's.
+pub fn plan(bytes: &[u8], starts: &mut [i32], work: &mut [i32]) -> PlanAnswer {
+    let refused = |refusal, place| PlanAnswer { refusal, place, ..Default::default() };
+    let order = match judged(bytes) {
+        Ok(order) => order,
+        Err((number, place)) => return refused(number, place),
+    };
+    if starts.len() < order.count || work.len() < WORK_AREA {
+        return refused(10, 0);
+    }
+    let work = &mut work[..WORK_AREA];
+    let jobs = &order.jobs[..order.count];
+    let (top, points) = fill_rows(order.t0, jobs, work);
+    let last = &work[ROW * jobs.len()..][..=top];
+    let answer = match last.iter().rposition(|&finish| finish < NONE) {
+        None => refused(11, 0),
+        Some(weight) => {
+            let finish = last[weight];
+            let mask = walk_back(jobs, work, weight, finish);
+            write_starts(order.t0, jobs, mask, starts);
+            PlanAnswer {
+                mask,
+                kept: mask.count_ones(),
+                kept_weight: weight as u32,
+                lost_weight: (top - weight) as u32,
+                finish,
+                points,
+                ..Default::default()
+            }
+        }
+    };
+    work.fill(0);
+    answer
+}
+
+/// The order in packed bytes, or the lowest refusal with its place.
+fn judged(bytes: &[u8]) -> Result<Order, (u32, usize)> {
+    let header: [u8; 4] = bytes.get(..4).and_then(|head| head.try_into().ok()).ok_or((1, 0))?;
+    let header = u32::from_be_bytes(header);
+    let count = (header >> 26) as usize;
+    let t0 = (header << 6) as i32 >> 14;
+    if header & 0xFF != 0 {
+        return Err((2, 0));
+    }
+    if count > MOST_JOBS {
+        return Err((3, 0));
+    }
+    if bytes.len() != 4 + 8 * count {
+        return Err((4, 0));
+    }
+    if !is_time(t0) {
+        return Err((5, 0));
+    }
+    let mut jobs = [Job::default(); MOST_JOBS];
+    judge_jobs(&bytes[4..], &mut jobs[..count])?;
+    Ok(Order { t0, count, jobs })
+}
+
+/// Decodes the jobs' records and judges 6, 7 and 9.
+fn judge_jobs(records: &[u8], jobs: &mut [Job]) -> Result<(), (u32, usize)> {
+    let (mut seen, mut repeated, mut total) = (0_u64, None, 0);
+    for (place, (record, job)) in records.chunks_exact(8).zip(jobs).enumerate() {
+        let record = u64::from_be_bytes(record.try_into().unwrap());
+        *job = Job {
+            critical: record >> 57 & 1 == 1,
+            weight: (record >> 50 & 0x7F) as usize,
+            ready: ((record << 14) as i64 >> 46) as i32,
+            length: (record >> 18 & 0x3FFF) as i32,
+            deadline: ((record << 46) as i64 >> 46) as i32,
+        };
+        if !is_job(job) {
+            return Err((6, place));
+        }
+        let bit = 1 << (record >> 58);
+        if seen & bit != 0 && repeated.is_none() {
+            repeated = Some(place);
+        }
+        seen |= bit;
+        total += job.weight;
+    }
+    match repeated {
+        Some(place) => Err((7, place)),
+        None if total > 300 => Err((9, 0)),
+        None => Ok(()),
+    }
+}
+
+fn is_time(t: i32) -> bool {
+    (-LATEST..=LATEST).contains(&t)
+}
+
+fn is_job(job: &Job) -> bool {
+    let weighed = if job.critical { job.weight == 0 } else { (1..=50).contains(&job.weight) };
+    weighed && (1..=10_000).contains(&job.length) && is_time(job.ready) && is_time(job.deadline)
+}
+
+/// Fills the rows of all prefixes, each up to its reachable weight, and gives the last row's and the points
+/// of all.
+fn fill_rows(t0: i32, jobs: &[Job], work: &mut [i32]) -> (usize, u32) {
+    let (mut top, mut points) = (0, 0);
+    work[0] = t0;
+    for (k, job) in jobs.iter().enumerate() {
+        let (rows, rest) = work.split_at_mut(ROW * (k + 1));
+        let old = &rows[ROW * k..][..=top];
+        top += job.weight;
+        let new = &mut rest[..=top];
+        next_row(job, old, new);
+        points += count_points(new);
+    }
+    (top, points)
+}
+
+/// One row to the next: the job left out, then the job kept after each choice that leaves it time.
+fn next_row(job: &Job, old: &[i32], new: &mut [i32]) {
+    if job.critical {
+        new.fill(NONE);
+    } else {
+        let (same, beyond) = new.split_at_mut(old.len());
+        same.copy_from_slice(old);
+        beyond.fill(NONE);
+    }
+    let latest = job.deadline - job.length;
+    if job.ready > latest {
+        return;
+    }
+    for (cell, &bus_free) in new[job.weight..].iter_mut().zip(old) {
+        let finish = bus_free.max(job.ready) + job.length;
+        let finish = if bus_free <= latest { finish } else { NONE };
+        *cell = finish.min(*cell);
+    }
+}
+
+/// The points of a row's profile: the cells earlier than every heavier one.
+fn count_points(row: &[i32]) -> u32 {
+    let (mut points, mut earliest) = (0, NONE);
+    for &finish in row.iter().rev() {
+        points += u32::from(finish < earliest);
+        earliest = earliest.min(finish);
+    }
+    points
+}
+
+/// The plan's mask: from the last job back, left out wherever the weight can still be had in time without it.
+fn walk_back(jobs: &[Job], work: &[i32], mut weight: usize, mut by: i32) -> u64 {
+    let mut mask = 0;
+    let mut top: usize = jobs.iter().map(|job| job.weight).sum();
+    for (k, job) in jobs.iter().enumerate().rev() {
+        top -= job.weight;
+        if job.critical || weight > top || work[ROW * k + weight] > by {
+            mask |= 1 << (63 - k);
+            weight -= job.weight;
+            by = by.min(job.deadline) - job.length;
+        }
+    }
+    mask
+}
+
+/// Writes the starts of the jobs in the mask.
+fn write_starts(t0: i32, jobs: &[Job], mask: u64, starts: &mut [i32]) {
+    let mut bus_free = t0;
+    for (k, (job, start)) in jobs.iter().zip(starts).enumerate() {
+        *start = LEFT_OUT;
+        if mask << k >> 63 == 1 {
+            *start = bus_free.max(job.ready);
+            bus_free = *start + job.length;
+        }
+    }
+}

@@ -1,0 +1,239 @@
+//! The C boundary: the answers as C lays them out, the calls of libleafanchor.a, and one safe function over
+//! slices for each of them. This is the only module with unsafe code.
+//!
+//! Why every call here is sound: the library's contracts ask for pointers that are not null, lengths that are
+//! true, and that a buffer which a call writes overlaps no other. A slice's pointer is never null and its
+//! length is true, and a `&mut` slice overlaps no other slice that is lent beside it. Given that, each call
+//! is proved to stay in its slices and to end, whatever they hold; it keeps no pointer, and never unwinds.
+#![allow(unsafe_code)]
+
+use crate::order::Job;
+use crate::JOB_NUMBERS;
+
+/// Declares an answer: plain figures in the order of the C header.
+macro_rules! answers {
+    ($($(#[$doc:meta])* $name:ident { $($field:ident: $kind:ty),* $(,)? })*) => {
+        $(
+            $(#[$doc])*
+            #[repr(C)]
+            #[derive(Clone, Copy, Debug, Default, PartialEq, Eq)]
+            #[allow(missing_docs)]
+            pub struct $name {
+                $(pub $field: $kind,)*
+            }
+        )*
+    };
+}
+
+answers! {
+    /// The answer of [`heat_up`].
+    HeatAnswer { refusal: u32, seconds: u32 }
+    /// The answer of [`unpack`].
+    UnpackAnswer { refusal: u32, place: usize, jobs: usize, t0: i32 }
+    /// The answer of [`pack`].
+    PackAnswer { refusal: u32, place: usize, bytes: usize }
+    /// The answer of [`open`].
+    OpenAnswer { refusal: u32, jobs: usize }
+    /// The answer of [`step`].
+    StepAnswer {
+        refusal: u32, place: usize, end: u32, number: i32, critical: i32, weight: i32, ready: i32, length: i32,
+        deadline: i32, next: usize,
+    }
+    /// One point of a profile: from this time on, this weight can have been kept.
+    Point { time: i32, weight: i32 }
+    /// The answer of [`lookup`] and [`lookup_records`].
+    LookupAnswer { refusal: u32, found: u32, weight: u32 }
+    /// The answer of [`better_of`].
+    BetterAnswer { refusal: u32, points: usize }
+    /// The answer of [`extend`].
+    ExtendAnswer { refusal: u32, place: usize, points: usize }
+    /// The answer of [`plan`].
+    PlanAnswer {
+        refusal: u32, place: usize, mask: u64, kept: u32, kept_weight: u32, lost_weight: u32, finish: i32,
+        points: u32,
+    }
+    /// The answer of [`question`].
+    QuestionAnswer { refusal: u32, winner: u32 }
+    /// The answer of [`choose`].
+    ChooseAnswer { refusal: u32, winner: u32, offset: usize, length: usize }
+}
+
+impl StepAnswer {
+    /// The six numbers of the job.
+    pub(crate) fn job(&self) -> Job {
+        Job {
+            number: self.number,
+            critical: self.critical,
+            weight: self.weight,
+            ready: self.ready,
+            length: self.length,
+            deadline: self.deadline,
+        }
+    }
+}
+
+#[rustfmt::skip]
+extern "C" {
+    fn leafanchor_heat_up(byte: u8) -> HeatAnswer;
+    fn leafanchor_unpack(
+        order: *const u8, order_len: usize, numbers: *mut i32, numbers_len: usize,
+    ) -> UnpackAnswer;
+    fn leafanchor_pack(
+        t0: i32, numbers: *const i32, numbers_len: usize, order: *mut u8, order_len: usize,
+    ) -> PackAnswer;
+    fn leafanchor_open(order: *const u8, order_len: usize) -> OpenAnswer;
+    fn leafanchor_step(order: *const u8, order_len: usize, place: usize) -> StepAnswer;
+    fn leafanchor_lookup(profile: *const i32, profile_len: usize, t: i32) -> LookupAnswer;
+    fn leafanchor_lookup_records(points: *const Point, points_len: usize, t: i32) -> LookupAnswer;
+    fn leafanchor_better_of(
+        p: *const i32, p_len: usize, q: *const i32, q_len: usize, out: *mut i32, out_len: usize,
+    ) -> BetterAnswer;
+    fn leafanchor_extend(
+        profile: *const i32, profile_len: usize, order: *const u8, order_len: usize,
+        out: *mut i32, out_len: usize, work: *mut i32, work_len: usize,
+    ) -> ExtendAnswer;
+    fn leafanchor_plan(
+        order: *const u8, order_len: usize, starts: *mut i32, starts_len: usize,
+        work: *mut i32, work_len: usize,
+    ) -> PlanAnswer;
+    fn leafanchor_question(
+        first: *const u8, first_len: usize, second: *const u8, second_len: usize, t: i32,
+        work: *mut i32, work_len: usize,
+    ) -> QuestionAnswer;
+    fn leafanchor_choose(
+        first: *const u8, first_len: usize, second: *const u8, second_len: usize, t: i32,
+        work: *mut i32, work_len: usize,
+    ) -> ChooseAnswer;
+}
+
+/// The heat-up length for a byte of the sampler.
+pub fn heat_up(byte: u8) -> HeatAnswer {
+    // SAFETY: it takes no memory.
+    unsafe { leafanchor_heat_up(byte) }
+}
+
+/// Unpacks an order into six numbers a job.
+pub fn unpack(order: &[u8], numbers: &mut [i32]) -> UnpackAnswer {
+    // SAFETY: the bytes are only read, the numbers are lent alone; both lengths are the slices' own.
+    unsafe { leafanchor_unpack(order.as_ptr(), order.len(), numbers.as_mut_ptr(), numbers.len()) }
+}
+
+/// Unpacks an order into jobs.
+pub(crate) fn unpack_jobs(order: &[u8], jobs: &mut [Job]) -> UnpackAnswer {
+    // SAFETY: as for `unpack`. A job is six i32 and nothing else (repr(C)), so the slice is as many numbers;
+    // the product is at most the slice's size in bytes and does not overflow.
+    unsafe {
+        leafanchor_unpack(order.as_ptr(), order.len(), jobs.as_mut_ptr().cast(), JOB_NUMBERS * jobs.len())
+    }
+}
+
+/// Packs six numbers a job.
+pub fn pack(t0: i32, numbers: &[i32], order: &mut [u8]) -> PackAnswer {
+    // SAFETY: the numbers are only read, the bytes are lent alone; both lengths are the slices' own.
+    unsafe { leafanchor_pack(t0, numbers.as_ptr(), numbers.len(), order.as_mut_ptr(), order.len()) }
+}
+
+/// Packs jobs.
+pub(crate) fn pack_jobs(t0: i32, jobs: &[Job], order: &mut [u8]) -> PackAnswer {
+    // SAFETY: as for `pack`, and jobs are numbers as in `unpack_jobs`.
+    unsafe {
+        leafanchor_pack(t0, jobs.as_ptr().cast(), JOB_NUMBERS * jobs.len(), order.as_mut_ptr(), order.len())
+    }
+}
+
+/// Whether a reader may stand over these bytes.
+pub fn open(order: &[u8]) -> OpenAnswer {
+    // SAFETY: the bytes are only read; the length is the slice's own.
+    unsafe { leafanchor_open(order.as_ptr(), order.len()) }
+}
+
+/// One step of the reader.
+pub fn step(order: &[u8], place: usize) -> StepAnswer {
+    // SAFETY: the bytes are only read; the length is the slice's own. The place is any number.
+    unsafe { leafanchor_step(order.as_ptr(), order.len(), place) }
+}
+
+/// Looks a time up in alternating numbers.
+pub fn lookup(profile: &[i32], t: i32) -> LookupAnswer {
+    // SAFETY: the numbers are only read; the length is the slice's own.
+    unsafe { leafanchor_lookup(profile.as_ptr(), profile.len(), t) }
+}
+
+/// Looks a time up in point records.
+pub fn lookup_records(points: &[Point], t: i32) -> LookupAnswer {
+    // SAFETY: the records are only read and laid out as in C; the length is the slice's own.
+    unsafe { leafanchor_lookup_records(points.as_ptr(), points.len(), t) }
+}
+
+/// Better-of two profiles.
+pub fn better_of(p: &[i32], q: &[i32], out: &mut [i32]) -> BetterAnswer {
+    // SAFETY: p and q are only read, and may be one slice; out is lent alone; the lengths are the slices'
+    // own.
+    unsafe { leafanchor_better_of(p.as_ptr(), p.len(), q.as_ptr(), q.len(), out.as_mut_ptr(), out.len()) }
+}
+
+/// Extends a profile by an order.
+pub fn extend(profile: &[i32], order: &[u8], out: &mut [i32], work: &mut [i32]) -> ExtendAnswer {
+    // SAFETY: profile and order are only read; out and work are each lent alone; the lengths are the slices'
+    // own.
+    unsafe {
+        leafanchor_extend(
+            profile.as_ptr(),
+            profile.len(),
+            order.as_ptr(),
+            order.len(),
+            out.as_mut_ptr(),
+            out.len(),
+            work.as_mut_ptr(),
+            work.len(),
+        )
+    }
+}
+
+/// Plans an order.
+pub fn plan(order: &[u8], starts: &mut [i32], work: &mut [i32]) -> PlanAnswer {
+    // SAFETY: the order is only read; starts and work are each lent alone; the lengths are the slices' own.
+    unsafe {
+        leafanchor_plan(
+            order.as_ptr(),
+            order.len(),
+            starts.as_mut_ptr(),
+            starts.len(),
+            work.as_mut_ptr(),
+            work.len(),
+        )
+    }
+}
+
+/// Asks which opening is worth more.
+pub fn question(first: &[u8], second: &[u8], t: i32, work: &mut [i32]) -> QuestionAnswer {
+    // SAFETY: the openings are only read, and may be one slice; work is lent alone; the lengths are the
+    // slices' own.
+    unsafe {
+        leafanchor_question(
+            first.as_ptr(),
+            first.len(),
+            second.as_ptr(),
+            second.len(),
+            t,
+            work.as_mut_ptr(),
+            work.len(),
+        )
+    }
+}
+
+/// Chooses an opening.
+pub fn choose(first: &[u8], second: &[u8], t: i32, work: &mut [i32]) -> ChooseAnswer {
+    // SAFETY: as for `question`.
+    unsafe {
+        leafanchor_choose(
+            first.as_ptr(),
+            first.len(),
+            second.as_ptr(),
+            second.len(),
+            t,
+            work.as_mut_ptr(),
+            work.len(),
+        )
+    }
+}

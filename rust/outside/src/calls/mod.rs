@@ -1,0 +1,70 @@
+//! One comparison for each call: an input is made, the library is called over the C boundary, and its answer
+//! and all lent memory are held against the reference.
+
+mod openings;
+mod packing;
+mod planning;
+mod profiles;
+
+use crate::lent::Work;
+use crate::reference::{self, Point, Refused};
+use crate::tally::Tally;
+use leafanchor::ffi::{self, HeatAnswer};
+use trials::Random;
+
+/// What the comparisons share: the generator, the counts and the work area.
+pub struct Trial {
+    pub random: Random,
+    pub tally: Tally,
+    work: Work,
+}
+
+impl Trial {
+    /// A trial from a seed.
+    pub fn new(seed: u64) -> Self {
+        let mut random = Random::new(seed);
+        let work = Work::new(&mut random);
+        Trial { random, tally: Tally::default(), work }
+    }
+
+    /// Heat-up lengths of every byte.
+    pub fn heat_up(&mut self) {
+        for byte in 0..=255 {
+            let given = ffi::heat_up(byte);
+            let wanted = match reference::heat_up(byte) {
+                Ok(seconds) => HeatAnswer { refusal: 0, seconds },
+                Err(refused) => HeatAnswer { refusal: refused.number, ..Default::default() },
+            };
+            self.tally.compare("heat_up", (given.refusal, given, true), wanted, &byte);
+        }
+    }
+
+    /// A number that memory may hold before a call.
+    fn junk(&mut self) -> i32 {
+        self.random.bits() as i32
+    }
+}
+
+/// Alternating numbers as points.
+fn points_of(numbers: &[i32]) -> Vec<Point> {
+    numbers.chunks_exact(2).map(|pair| (pair[0], pair[1])).collect()
+}
+
+/// Points as alternating numbers.
+fn numbers_of(points: &[Point]) -> Vec<i32> {
+    points.iter().flat_map(|&(time, weight)| [time, weight]).collect()
+}
+
+/// The jobs of an order as its length tells them. A refused one is lent as much room, so that a write would show.
+fn jobs_by_length(bytes: &[u8]) -> usize {
+    bytes.len() / 8
+}
+
+/// Refusal `number` where a condition does not hold.
+fn unless(holds: bool, number: u32) -> Result<(), Refused> {
+    if holds {
+        Ok(())
+    } else {
+        Err(Refused::new(number))
+    }
+}

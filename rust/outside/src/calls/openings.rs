@@ -1,0 +1,68 @@
+//! The question and the choice between two openings.
+
+use super::{unless, Trial};
+use crate::inputs;
+use crate::lent::After;
+use crate::reference::{self, Point, Refused};
+use leafanchor::ffi::{self, ChooseAnswer, QuestionAnswer};
+use trials::Order;
+
+impl Trial {
+    /// Asks and chooses between bytes of any kind, at times the same bytes twice.
+    pub fn openings(&mut self) {
+        let first = inputs::bytes(&mut self.random);
+        let other = inputs::bytes(&mut self.random);
+        let second = if self.random.once_in(20) { &first } else { &other };
+        let t = self.time_for(&first, second);
+
+        let given = ffi::question(&first, second, t, self.work.lend(&mut self.random));
+        let wanted = match winner(&first, second, t, self.work.is_enough()) {
+            Ok((winner, _)) => QuestionAnswer { refusal: 0, winner },
+            Err(refused) => QuestionAnswer { refusal: refused.number, winner: 0 },
+        };
+        let memory = self.work.holds(after(wanted.refusal));
+        self.tally.compare("question", (given.refusal, given, memory), wanted, &(&first, second, t));
+
+        let given = ffi::choose(&first, second, t, self.work.lend(&mut self.random));
+        let wanted = match winner(&first, second, t, self.work.is_enough()) {
+            Ok((winner, jobs)) => ChooseAnswer { refusal: 0, winner, offset: 4, length: 8 * jobs },
+            Err(refused) => ChooseAnswer { refusal: refused.number, ..Default::default() },
+        };
+        let memory = self.work.holds(after(wanted.refusal));
+        self.tally.compare("choose", (given.refusal, given, memory), wanted, &(&first, second, t));
+    }
+
+    /// A time near the points of one of the openings.
+    fn time_for(&mut self, first: &[u8], second: &[u8]) -> i32 {
+        let mut times = Vec::new();
+        for bytes in [first, second] {
+            if let Ok(order) = reference::judged(bytes) {
+                times.extend(profile_of(&order).iter().map(|point| point.0));
+            }
+        }
+        inputs::time_near(&mut self.random, &times)
+    }
+}
+
+fn after(refusal: u32) -> After {
+    match refusal {
+        0 | 11 => After::Cleared,
+        _ => After::Untouched,
+    }
+}
+
+fn profile_of(order: &Order) -> Vec<Point> {
+    reference::extended(&[(order.t0, 0)], &order.jobs)
+}
+
+/// The winner and its number of jobs, or the lowest refusal of the first, then of the second, then 10 and 11.
+fn winner(first: &[u8], second: &[u8], t: i32, rooms: bool) -> Result<(u32, usize), Refused> {
+    let (first, second) = (reference::judged(first)?, reference::judged(second)?);
+    unless(rooms, 10)?;
+    let worth = |order: &Order| reference::lookup(&profile_of(order), t);
+    match (worth(&first), worth(&second)) {
+        (None, None) => Err(Refused::new(11)),
+        (one, two) if one >= two => Ok((1, first.jobs.len())),
+        _ => Ok((2, second.jobs.len())),
+    }
+}

@@ -1,0 +1,86 @@
+//! Packing, unpacking and the reader.
+
+use super::{jobs_by_length, unless, Trial};
+use crate::inputs;
+use crate::lent::Lent;
+use crate::reference::{self, Refused};
+use leafanchor::ffi::{self, OpenAnswer, PackAnswer, StepAnswer, UnpackAnswer};
+use trials::{packed, Order};
+
+impl Trial {
+    /// Unpacks bytes of any kind.
+    pub fn unpack(&mut self) {
+        let bytes = inputs::bytes(&mut self.random);
+        let needed = 6 * jobs_by_length(&bytes);
+        let mut lent = Lent::new(inputs::room(&mut self.random, needed), || self.junk());
+        let given = ffi::unpack(&bytes, lent.lend());
+        let judged = reference::judged(&bytes)
+            .and_then(|order| unless(lent.lend().len() >= needed, 10).map(|()| order));
+        let (wanted, written) = match judged {
+            Ok(Order { t0, jobs }) => {
+                let written = jobs.iter().flat_map(|job| job.numbers()).collect();
+                (UnpackAnswer { refusal: 0, place: 0, jobs: jobs.len(), t0 }, written)
+            }
+            Err(Refused { number, place }) => {
+                (UnpackAnswer { refusal: number, place, ..Default::default() }, vec![])
+            }
+        };
+        self.tally.compare("unpack", (given.refusal, given, lent.holds(&written)), wanted, &bytes);
+    }
+
+    /// Packs numbers of any kind.
+    pub fn pack(&mut self) {
+        let (t0, numbers) = inputs::numbers(&mut self.random);
+        let needed = 4 + 8 * (numbers.len() / 6);
+        let mut lent = Lent::new(inputs::room(&mut self.random, needed), || self.junk() as u8);
+        let given = ffi::pack(t0, &numbers, lent.lend());
+        let judged = reference::judged_numbers(t0, &numbers)
+            .and_then(|order| unless(lent.lend().len() >= needed, 10).map(|()| order));
+        let (wanted, written) = match judged {
+            Ok(order) => (PackAnswer { refusal: 0, place: 0, bytes: needed }, packed(&order)),
+            Err(Refused { number, place }) => {
+                (PackAnswer { refusal: number, place, ..Default::default() }, vec![])
+            }
+        };
+        self.tally.compare("pack", (given.refusal, given, lent.holds(&written)), wanted, &(t0, numbers));
+    }
+
+    /// Opens bytes of any kind and steps at places of any kind.
+    pub fn read(&mut self) {
+        let bytes = inputs::bytes(&mut self.random);
+        let given = ffi::open(&bytes);
+        let wanted = match reference::header(&bytes) {
+            Ok((jobs, _)) => OpenAnswer { refusal: 0, jobs },
+            Err(refused) => OpenAnswer { refusal: refused.number, ..Default::default() },
+        };
+        self.tally.compare("open", (given.refusal, given, true), wanted, &bytes);
+        let refused = (0..given.jobs).find(|&place| reference::reader_job(&bytes, place).is_err());
+        let anywhere = self.random.below(given.jobs + 2);
+        for place in [refused.unwrap_or(0), anywhere, self.random.one_of(&[given.jobs, 48, 64, usize::MAX])] {
+            let given = ffi::step(&bytes, place);
+            let wanted = wanted_step(&bytes, place);
+            self.tally.compare("step", (given.refusal, given, true), wanted, &(place, &bytes));
+        }
+    }
+}
+
+fn wanted_step(bytes: &[u8], at: usize) -> StepAnswer {
+    match reference::reader_job(bytes, at) {
+        Ok(Some(job)) => StepAnswer {
+            refusal: 0,
+            place: 0,
+            end: 0,
+            number: job.number,
+            critical: job.critical,
+            weight: job.weight,
+            ready: job.ready,
+            length: job.length,
+            deadline: job.deadline,
+            next: at + 1,
+        },
+        Ok(None) => StepAnswer { end: 1, next: at, ..Default::default() },
+        Err(Refused { number, place }) => {
+            StepAnswer { refusal: number, place, next: at, ..Default::default() }
+        }
+    }
+}

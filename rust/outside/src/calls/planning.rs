@@ -1,0 +1,104 @@
+//! Planning.
+
+use super::{jobs_by_length, unless, Trial};
+use crate::inputs;
+use crate::lent::{After, Lent};
+use crate::reference::{self, Best, Keep, Refused, MOST_JOBS_OF_ALL_CHOICES};
+use leafanchor::ffi::{self, PlanAnswer};
+use leafanchor::LEFT_OUT;
+use trials::{packed, Order, Style};
+
+impl Trial {
+    /// Plans bytes of any kind.
+    pub fn plan(&mut self) {
+        let bytes = inputs::bytes(&mut self.random);
+        self.plan_bytes(&bytes);
+    }
+
+    /// Plans an order in range.
+    pub fn plan_order(&mut self) {
+        let order = inputs::order(&mut self.random);
+        self.plan_bytes(&packed(&order));
+    }
+
+    /// Plans a long order in range, half of the time one of 48 jobs.
+    pub fn plan_long_order(&mut self) {
+        let n = if self.random.once_in(2) { 48 } else { 12 + self.random.below(36) };
+        let style = self.random.one_of(&[Style::Tight, Style::Gaps, Style::Morning, Style::Morning]);
+        let order = inputs::order_with(&mut self.random, style, n);
+        self.plan_bytes(&packed(&order));
+    }
+
+    fn plan_bytes(&mut self, bytes: &[u8]) {
+        let needed = jobs_by_length(bytes);
+        let mut lent = Lent::new(inputs::room(&mut self.random, needed), || self.junk());
+        let given = ffi::plan(bytes, lent.lend(), self.work.lend(&mut self.random));
+        let rooms = lent.lend().len() >= needed && self.work.is_enough();
+        let planned = reference::judged(bytes)
+            .and_then(|order| unless(rooms, 10).map(|()| order))
+            .and_then(|order| self.best(&order).map(|best| (best, order)).ok_or(Refused::new(11)));
+        let (wanted, written, after) = match planned {
+            Ok((best, order)) => (wanted_plan(&order, best), starts_of(&order, best), After::Cleared),
+            Err(Refused { number, place }) => {
+                let after = if number == 11 { After::Cleared } else { After::Untouched };
+                (PlanAnswer { refusal: number, place, ..Default::default() }, vec![], after)
+            }
+        };
+        let memory = lent.holds(&written) && self.work.holds(after);
+        self.tally.compare("plan", (given.refusal, given, memory), wanted, &bytes);
+    }
+
+    /// The plan's choice, over all choices where there are few enough, and what was met on the way.
+    fn best(&mut self, order: &Order) -> Option<Best> {
+        let best = reference::best_forward(order, Keep::Needed);
+        if order.jobs.len() <= MOST_JOBS_OF_ALL_CHOICES {
+            let over_all = reference::best_by_all_choices(order);
+            assert_eq!(best, over_all.map(|(best, _)| best), "the two references differ on {order:?}");
+            self.tally.tried += 1;
+            self.tally.tied += usize::from(over_all.map_or(false, |(_, rivals)| rivals > 1));
+        }
+        self.tally.slips += usize::from(reference::best_forward(order, Keep::Earliest) != best);
+        let longest = usize::from(order.jobs.len() == 48);
+        self.tally.longest += longest;
+        if best.is_some() {
+            self.tally.feasible += 1;
+            self.tally.longest_feasible += longest;
+        } else {
+            self.tally.infeasible += 1;
+        }
+        best
+    }
+}
+
+fn keeps(best: Best, place: usize) -> bool {
+    best.choice >> place & 1 == 1
+}
+
+/// The plan's figures, each from its sentence in document 01.
+fn wanted_plan(order: &Order, best: Best) -> PlanAnswer {
+    let left_out = order.jobs.iter().enumerate().filter(|&(place, _)| !keeps(best, place));
+    PlanAnswer {
+        refusal: 0,
+        place: 0,
+        mask: (0..64).filter(|&place| keeps(best, place)).map(|place| 1 << (63 - place)).sum(),
+        kept: (0..order.jobs.len()).filter(|&place| keeps(best, place)).count() as u32,
+        kept_weight: best.weight as u32,
+        lost_weight: left_out.map(|(_, job)| job.weight as u32).sum(),
+        finish: best.finish,
+        points: reference::point_total(order) as u32,
+    }
+}
+
+/// The starts in place order.
+fn starts_of(order: &Order, best: Best) -> Vec<i32> {
+    let mut bus_free = order.t0;
+    let mut start = |place: usize| {
+        if !keeps(best, place) {
+            return LEFT_OUT;
+        }
+        let start = bus_free.max(order.jobs[place].ready);
+        bus_free = start + order.jobs[place].length;
+        start
+    };
+    (0..order.jobs.len()).map(&mut start).collect()
+}

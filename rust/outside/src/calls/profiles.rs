@@ -1,0 +1,98 @@
+//! Lookup, better-of and extending.
+
+use super::{numbers_of, points_of, unless, Trial};
+use crate::inputs;
+use crate::lent::{After, Lent};
+use crate::reference::{self, Point, Refused};
+use leafanchor::ffi::{self, BetterAnswer, ExtendAnswer, LookupAnswer};
+use leafanchor::PROFILE_ROOM;
+
+impl Trial {
+    /// Looks times up in numbers of any kind.
+    pub fn lookup(&mut self) {
+        let profile = inputs::profile(&mut self.random);
+        let times: Vec<i32> = profile.iter().step_by(2).copied().collect();
+        let t = inputs::time_near(&mut self.random, &times);
+        let given = ffi::lookup(&profile, t);
+        self.tally.compare(
+            "lookup",
+            (given.refusal, given, true),
+            wanted_lookup(&profile, t),
+            &(t, &profile),
+        );
+    }
+
+    /// Looks times up in records of any kind.
+    pub fn lookup_records(&mut self) {
+        let records = inputs::records(&mut self.random);
+        let times: Vec<i32> = records.iter().map(|point| point.time).collect();
+        let t = inputs::time_near(&mut self.random, &times);
+        let given = ffi::lookup_records(&records, t);
+        let numbers: Vec<i32> = records.iter().flat_map(|point| [point.time, point.weight]).collect();
+        let wanted = wanted_lookup(&numbers, t);
+        self.tally.compare("lookup_records", (given.refusal, given, true), wanted, &(t, &records));
+    }
+
+    /// Better-of two lists of numbers of any kind, at times one list twice.
+    pub fn better_of(&mut self) {
+        let p = inputs::profile(&mut self.random);
+        let other = inputs::profile(&mut self.random);
+        let q = if self.random.once_in(20) { &p } else { &other };
+        let mut lent = Lent::new(inputs::room(&mut self.random, PROFILE_ROOM), || self.junk());
+        let given = ffi::better_of(&p, q, lent.lend());
+        let judged = unless(reference::is_valid(&p) && reference::is_valid(q), 8)
+            .and_then(|()| unless(lent.lend().len() >= PROFILE_ROOM, 10));
+        let (wanted, written) = match judged {
+            Ok(()) => {
+                let better = reference::better_of(&points_of(&p), &points_of(q));
+                (BetterAnswer { refusal: 0, points: better.len() }, numbers_of(&better))
+            }
+            Err(refused) => (BetterAnswer { refusal: refused.number, ..Default::default() }, vec![]),
+        };
+        self.tally.compare("better_of", (given.refusal, given, lent.holds(&written)), wanted, &(&p, q));
+    }
+
+    /// Extends numbers of any kind by bytes of any kind.
+    pub fn extend(&mut self) {
+        let profile = inputs::profile(&mut self.random);
+        let bytes = inputs::bytes(&mut self.random);
+        let mut lent = Lent::new(inputs::room(&mut self.random, PROFILE_ROOM), || self.junk());
+        let given = ffi::extend(&profile, &bytes, lent.lend(), self.work.lend(&mut self.random));
+        let rooms = lent.lend().len() >= PROFILE_ROOM && self.work.is_enough();
+        let (wanted, written, after) = match wanted_extension(&profile, &bytes, rooms) {
+            Ok(points) => {
+                let answer = ExtendAnswer { refusal: 0, place: 0, points: points.len() };
+                (answer, numbers_of(&points), After::Cleared)
+            }
+            Err(Refused { number, place }) => {
+                (ExtendAnswer { refusal: number, place, ..Default::default() }, vec![], After::Untouched)
+            }
+        };
+        let memory = lent.holds(&written) && self.work.holds(after);
+        self.tally.compare("extend", (given.refusal, given, memory), wanted, &(&profile, &bytes));
+    }
+}
+
+fn wanted_lookup(profile: &[i32], t: i32) -> LookupAnswer {
+    if !reference::is_valid(profile) {
+        return LookupAnswer { refusal: 8, ..Default::default() };
+    }
+    match reference::lookup(&points_of(profile), t) {
+        Some(weight) => LookupAnswer { refusal: 0, found: 1, weight: weight as u32 },
+        None => LookupAnswer::default(),
+    }
+}
+
+/// The extended profile, or the lowest refusal that applies.
+fn wanted_extension(profile: &[i32], bytes: &[u8], rooms: bool) -> Result<Vec<Point>, Refused> {
+    let judged = reference::judged(bytes);
+    match judged {
+        Err(refused) if refused.number < 8 => return Err(refused),
+        _ => unless(reference::is_valid(profile), 8)?,
+    }
+    let order = judged?;
+    let last = profile.last().copied().unwrap_or(0);
+    unless(last + order.jobs.iter().map(|job| job.weight).sum::<i32>() <= 300, 9)?;
+    unless(rooms, 10)?;
+    Ok(reference::extended(&points_of(profile), &order.jobs))
+}

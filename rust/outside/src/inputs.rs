@@ -1,0 +1,204 @@
+//! Inputs of every kind: orders and profiles that are in range, and the same with one or two damages.
+
+use leafanchor::ffi::Point;
+use trials::{order_of, packed, profile_of, Order, Random, Style};
+
+/// Numbers at and past the ends of ranges.
+const STRANGE: [i32; 16] = [
+    i32::MIN,
+    -131_072,
+    -100_001,
+    -100_000,
+    -1,
+    0,
+    1,
+    50,
+    51,
+    63,
+    64,
+    10_000,
+    10_001,
+    100_000,
+    100_001,
+    i32::MAX,
+];
+
+/// How many jobs an order has: mostly few, so that all choices can be tried.
+fn count_of(random: &mut Random) -> usize {
+    match random.below(200) {
+        0 => 48,
+        1..=3 => random.below(49),
+        4..=9 => 9 + random.below(3),
+        _ => random.below(9),
+    }
+}
+
+/// An order in range, of any style.
+pub fn order(random: &mut Random) -> Order {
+    let n = count_of(random);
+    let style = random.one_of(&Style::ALL);
+    order_with(random, style, n)
+}
+
+/// An order in range of a given style and number of jobs.
+pub fn order_with(random: &mut Random, style: Style, n: usize) -> Order {
+    let most = if random.once_in(4) { 300 } else { random.within(n as i32, 300) };
+    order_of(random, style, n, most)
+}
+
+/// An order whose jobs may repeat numbers, weigh too much or have a field out of range.
+fn damaged_order(random: &mut Random) -> Order {
+    let mut order = order(random);
+    for _ in 0..1 + random.below(2) {
+        match random.below(4) {
+            0 => order.t0 = random.one_of(&STRANGE),
+            1 => overweigh(random, &mut order),
+            _ if order.jobs.is_empty() => {}
+            2 => {
+                let (to, from) = (random.below(order.jobs.len()), random.below(order.jobs.len()));
+                order.jobs[to].number = order.jobs[from].number;
+            }
+            _ => {
+                let place = random.below(order.jobs.len());
+                let strange = random.one_of(&STRANGE);
+                let job = &mut order.jobs[place];
+                match random.below(6) {
+                    0 => job.number = strange,
+                    1 => job.critical = strange,
+                    2 => job.weight = strange,
+                    3 => job.ready = strange,
+                    4 => job.length = strange,
+                    _ => job.deadline = strange,
+                }
+            }
+        }
+    }
+    order
+}
+
+/// Makes the weights sum to 301 or more, in an order of at least seven jobs.
+fn overweigh(random: &mut Random, order: &mut Order) {
+    let n = 7 + random.below(3);
+    *order = order_of(random, Style::Morning, n, 300);
+    for job in &mut order.jobs {
+        job.critical = 0;
+        job.weight = 50;
+    }
+    order.jobs[6].weight = random.one_of(&[1, 2, 50]);
+    if random.once_in(2) {
+        order.jobs.truncate(7);
+    }
+}
+
+/// Packed bytes, half of them in order.
+pub fn bytes(random: &mut Random) -> Vec<u8> {
+    match random.below(20) {
+        0..=9 => packed(&order(random)),
+        10..=13 => packed(&damaged_order(random)),
+        14 => {
+            let length = random.one_of(&[0, 1, 2, 3, 4, 5, 12, 44, 388, 389, 2000]);
+            (0..length).map(|_| random.bits() as u8).collect()
+        }
+        _ => damaged_bytes(random),
+    }
+}
+
+/// Packed bytes with one or two damages.
+fn damaged_bytes(random: &mut Random) -> Vec<u8> {
+    let mut bytes = packed(&order(random));
+    for _ in 0..1 + random.below(2) {
+        match random.below(6) {
+            0 => bytes.truncate(random.below(bytes.len() + 1)),
+            1 => {
+                let more = random.one_of(&[1, 4, 8, 400]);
+                bytes.extend((0..more).map(|_| random.bits() as u8));
+            }
+            _ if bytes.len() < 4 => {}
+            2 => bytes[0] = bytes[0] & 3 | (random.one_of(&[0, 1, 5, 47, 48, 49, 50, 63]) << 2),
+            3 => bytes[3] = random.one_of(&[1, 2, 64, 128, 255]),
+            4 => bytes[random.below(4)] ^= 1 << random.below(8),
+            _ => {
+                let at = random.below(bytes.len());
+                bytes[at] ^= 1 << random.below(8);
+            }
+        }
+    }
+    bytes
+}
+
+/// A bus-free time and numbers for packing, half of them in order.
+pub fn numbers(random: &mut Random) -> (i32, Vec<i32>) {
+    let order = if random.once_in(2) { order(random) } else { damaged_order(random) };
+    let mut numbers = order.numbers();
+    if random.once_in(8) {
+        numbers.truncate(random.below(numbers.len() + 1));
+    }
+    if random.once_in(12) {
+        let length = random.one_of(&[282, 287, 288, 289, 290, 294, 600]);
+        numbers.resize_with(length, || random.one_of(&STRANGE));
+    }
+    (order.t0, numbers)
+}
+
+/// A profile as alternating numbers, two thirds of them valid.
+pub fn profile(random: &mut Random) -> Vec<i32> {
+    let points = match random.below(40) {
+        0 => 301,
+        1 => 300,
+        2..=5 => random.below(302),
+        _ => random.below(9),
+    };
+    let style = random.one_of(&Style::ALL);
+    let heaviest = if random.once_in(3) { 300 } else { random.within(points as i32 + 3, 305).min(300) };
+    let mut numbers = profile_of(random, style, points, heaviest);
+    if random.once_in(3) {
+        damage_profile(random, &mut numbers);
+    }
+    numbers
+}
+
+fn damage_profile(random: &mut Random, numbers: &mut Vec<i32>) {
+    match random.below(5) {
+        0 => {
+            numbers.pop();
+        }
+        1 => numbers.push(random.one_of(&STRANGE)),
+        2 => numbers.extend([100_000, 300]),
+        3 if numbers.len() > 2 => {
+            let at = random.below(numbers.len() - 2);
+            numbers[at + 2] = numbers[at] - random.within(0, 1);
+        }
+        _ if numbers.is_empty() => {}
+        _ => {
+            let at = random.below(numbers.len());
+            numbers[at] = random.one_of(&[-100_001, -100_000, -1, 0, 300, 301, 100_000, 100_001, i32::MAX]);
+        }
+    }
+}
+
+/// A list of point records; records past a valid list's end and records out of range come too.
+pub fn records(random: &mut Random) -> Vec<Point> {
+    let mut numbers = profile(random);
+    if random.once_in(20) {
+        numbers.resize(2 * random.one_of(&[302, 303, 700]), 300);
+    }
+    numbers.chunks_exact(2).map(|pair| Point { time: pair[0], weight: pair[1] }).collect()
+}
+
+/// A time to ask for: near a time that matters, or anything.
+pub fn time_near(random: &mut Random, times: &[i32]) -> i32 {
+    if times.is_empty() || random.once_in(10) {
+        return random.one_of(&STRANGE);
+    }
+    random.one_of(times).saturating_add(random.within(-1, 1))
+}
+
+/// A room: what is needed, one less, more, or nothing.
+pub fn room(random: &mut Random, needed: usize) -> usize {
+    match random.below(24) {
+        0 => needed.saturating_sub(1),
+        1 => 0,
+        2..=7 => needed + 1 + random.below(5),
+        _ => needed,
+    }
+}

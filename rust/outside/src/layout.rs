@@ -1,0 +1,42 @@
+//! Prints the size of every answer and the offset of every field, as tools/layout.c does on the C side.
+
+use leafanchor::ffi::*;
+
+/// Prints one struct: its C name and size, then each field's offset.
+macro_rules! layout {
+    ($kind:ty, $name:literal, $($field:ident),*) => {{
+        let value = <$kind>::default();
+        let start = &value as *const $kind as usize;
+        println!("{} {}", $name, std::mem::size_of::<$kind>());
+        $(println!("{}.{} {}", $name, stringify!($field), &value.$field as *const _ as usize - start);)*
+    }};
+}
+
+/// Prints all of them, in the order of the header.
+pub fn print() {
+    layout!(HeatAnswer, "heat_answer", refusal, seconds);
+    layout!(UnpackAnswer, "unpack_answer", refusal, place, jobs, t0);
+    layout!(PackAnswer, "pack_answer", refusal, place, bytes);
+    layout!(OpenAnswer, "open_answer", refusal, jobs);
+    layout!(
+        StepAnswer,
+        "step_answer",
+        refusal,
+        place,
+        end,
+        number,
+        critical,
+        weight,
+        ready,
+        length,
+        deadline,
+        next
+    );
+    layout!(Point, "point", time, weight);
+    layout!(LookupAnswer, "lookup_answer", refusal, found, weight);
+    layout!(BetterAnswer, "better_answer", refusal, points);
+    layout!(ExtendAnswer, "extend_answer", refusal, place, points);
+    layout!(PlanAnswer, "plan_answer", refusal, place, mask, kept, kept_weight, lost_weight, finish, points);
+    layout!(QuestionAnswer, "question_answer", refusal, winner);
+    layout!(ChooseAnswer, "choose_answer", refusal, winner, offset, length);
+}

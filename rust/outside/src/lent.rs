@@ -1,0 +1,87 @@
+//! Memory lent to a call: a part of a longer buffer whose every number is known before and checked after the
+//! call.
+
+use leafanchor::WORK_AREA;
+use trials::Random;
+
+/// Elements behind the lent part that no call may touch.
+const GUARD: usize = 8;
+
+/// A lent buffer.
+pub struct Lent<T> {
+    now: Vec<T>,
+    before: Vec<T>,
+    lent: usize,
+}
+
+impl<T: Copy + PartialEq> Lent<T> {
+    /// A buffer that lends `lent` elements; `value` gives what each holds before the call.
+    pub fn new(lent: usize, value: impl FnMut() -> T) -> Self {
+        let before: Vec<T> = std::iter::repeat_with(value).take(lent + GUARD).collect();
+        Lent { now: before.clone(), before, lent }
+    }
+
+    /// The lent part.
+    pub fn lend(&mut self) -> &mut [T] {
+        &mut self.now[..self.lent]
+    }
+
+    /// Whether `written` stands at the front and everything behind it is as it was, guard included.
+    pub fn holds(&self, written: &[T]) -> bool {
+        let (front, rest) = self.now.split_at(written.len());
+        front == written && rest == &self.before[written.len()..]
+    }
+}
+
+/// What the work area must hold after a call.
+#[derive(Clone, Copy, Debug, PartialEq, Eq)]
+pub enum After {
+    /// The call passed refusal 10: the first 14,749 numbers are 0, the rest is as it was.
+    Cleared,
+    /// It did not: all is as it was.
+    Untouched,
+}
+
+/// The work area, full of numbers other than 0 before each call.
+pub struct Work {
+    now: Vec<i32>,
+    before: Vec<i32>,
+    zeros: Vec<i32>,
+    lent: usize,
+}
+
+impl Work {
+    /// A work area of a length that is enough, one short, longer, or far too short.
+    pub fn new(random: &mut Random) -> Self {
+        let strange = |random: &mut Random| random.one_of(&[i32::MIN, i32::MAX, -1, 1, 200_000, -100_000, 7]);
+        let before: Vec<i32> = (0..WORK_AREA + 3 * GUARD).map(|_| strange(random)).collect();
+        Work { now: before.clone(), before, zeros: vec![0; WORK_AREA], lent: WORK_AREA }
+    }
+
+    /// The next lent part, all of it other than 0.
+    pub fn lend(&mut self, random: &mut Random) -> &mut [i32] {
+        self.now.copy_from_slice(&self.before);
+        self.lent = match random.below(24) {
+            0 => WORK_AREA - 1,
+            1 => random.below(WORK_AREA),
+            2..=7 => WORK_AREA + 1 + random.below(2 * GUARD),
+            _ => WORK_AREA,
+        };
+        &mut self.now[..self.lent]
+    }
+
+    /// Whether the last lent part has the room that planning asks for.
+    pub fn is_enough(&self) -> bool {
+        self.lent >= WORK_AREA
+    }
+
+    /// Whether the area is as it must be after the last call.
+    pub fn holds(&self, after: After) -> bool {
+        match after {
+            After::Cleared => {
+                self.now[..WORK_AREA] == self.zeros[..] && self.now[WORK_AREA..] == self.before[WORK_AREA..]
+            }
+            After::Untouched => self.now == self.before,
+        }
+    }
+}

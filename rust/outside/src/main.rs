@@ -1,0 +1,47 @@
+//! Compares every call of the library, over the C boundary, with a plain reference written from document 01,
+//! on inputs from a fixed generator; ends with a failure if anything differs. `outside layout` prints how the
+//! answers are laid out.
+
+mod calls;
+mod inputs;
+mod layout;
+mod lent;
+mod reference;
+mod tally;
+
+use calls::Trial;
+use std::process::ExitCode;
+
+/// Rounds of the trial; each makes fifteen calls, and one in LONG a plan of a long order beside them.
+const ROUNDS: usize = 15_000;
+const LONG: usize = 10;
+
+fn main() -> ExitCode {
+    if std::env::args().nth(1).as_deref() == Some("layout") {
+        layout::print();
+        return ExitCode::SUCCESS;
+    }
+    let mut trial = Trial::new(0x1EAF_A4C4_0A11_5EED);
+    trial.heat_up();
+    for round in 0..ROUNDS {
+        trial.unpack();
+        trial.pack();
+        trial.read();
+        trial.lookup();
+        trial.lookup_records();
+        trial.better_of();
+        trial.extend();
+        trial.plan();
+        trial.plan_order();
+        trial.plan_order();
+        if round % LONG == 0 {
+            trial.plan_long_order();
+        }
+        trial.openings();
+    }
+    if trial.tally.report() {
+        ExitCode::SUCCESS
+    } else {
+        ExitCode::FAILURE
+    }
+}

@@ -1,0 +1,131 @@
+//! Packed orders: reading them bit by bit, and the refusals 1 to 7 and 9.
+
+use super::Refused;
+use trials::{Job, Order};
+
+/// `width` bits from bit `at` on, highest first.
+fn bits(bytes: &[u8], at: usize, width: usize) -> i32 {
+    (at..at + width).fold(0, |sum, bit| 2 * sum + i32::from(bytes[bit / 8] >> (7 - bit % 8) & 1))
+}
+
+/// The same in two's complement.
+fn signed_bits(bytes: &[u8], at: usize, width: usize) -> i32 {
+    let plain = bits(bytes, at, width);
+    if plain >= 1 << (width - 1) {
+        plain - (1 << width)
+    } else {
+        plain
+    }
+}
+
+fn is_time(t: i32) -> bool {
+    (-100_000..=100_000).contains(&t)
+}
+
+fn is_job(job: &Job) -> bool {
+    let weighed = match job.critical {
+        0 => (1..=50).contains(&job.weight),
+        1 => job.weight == 0,
+        _ => false,
+    };
+    (0..=63).contains(&job.number)
+        && weighed
+        && is_time(job.ready)
+        && is_time(job.deadline)
+        && (1..=10_000).contains(&job.length)
+}
+
+/// The count and bus-free time of packed bytes, or a refusal 1 to 5.
+pub fn header(bytes: &[u8]) -> Result<(usize, i32), Refused> {
+    if bytes.len() < 4 {
+        return Err(Refused::new(1));
+    }
+    if bits(bytes, 24, 8) != 0 {
+        return Err(Refused::new(2));
+    }
+    let count = bits(bytes, 0, 6) as usize;
+    if count > 48 {
+        return Err(Refused::new(3));
+    }
+    if bytes.len() != 4 + 8 * count {
+        return Err(Refused::new(4));
+    }
+    let t0 = signed_bits(bytes, 6, 18);
+    if !is_time(t0) {
+        return Err(Refused::new(5));
+    }
+    Ok((count, t0))
+}
+
+fn job_at(bytes: &[u8], place: usize) -> Job {
+    let at = 32 + 64 * place;
+    Job {
+        number: bits(bytes, at, 6),
+        critical: bits(bytes, at + 6, 1),
+        weight: bits(bytes, at + 7, 7),
+        ready: signed_bits(bytes, at + 14, 18),
+        length: bits(bytes, at + 32, 14),
+        deadline: signed_bits(bytes, at + 46, 18),
+    }
+}
+
+/// The job at a place as the reader gives it, none at the end, or a refusal 1 to 6.
+pub fn reader_job(bytes: &[u8], place: usize) -> Result<Option<Job>, Refused> {
+    let (count, _) = header(bytes)?;
+    if place >= count {
+        return Ok(None);
+    }
+    let job = job_at(bytes, place);
+    if is_job(&job) {
+        Ok(Some(job))
+    } else {
+        Err(Refused { number: 6, place })
+    }
+}
+
+/// Refusals 6, 7 and 9 of jobs.
+fn judged_jobs(jobs: &[Job]) -> Result<(), Refused> {
+    if let Some(place) = jobs.iter().position(|job| !is_job(job)) {
+        return Err(Refused { number: 6, place });
+    }
+    let stood_earlier = |place: usize| jobs[..place].iter().any(|job| job.number == jobs[place].number);
+    if let Some(place) = (0..jobs.len()).find(|&place| stood_earlier(place)) {
+        return Err(Refused { number: 7, place });
+    }
+    if jobs.iter().map(|job| job.weight).sum::<i32>() > 300 {
+        return Err(Refused::new(9));
+    }
+    Ok(())
+}
+
+/// The order in packed bytes, or a refusal 1 to 7 or 9.
+pub fn judged(bytes: &[u8]) -> Result<Order, Refused> {
+    let (count, t0) = header(bytes)?;
+    let jobs: Vec<Job> = (0..count).map(|place| job_at(bytes, place)).collect();
+    judged_jobs(&jobs)?;
+    Ok(Order { t0, jobs })
+}
+
+/// The order in a bus-free time and six numbers a job, or a refusal 3 to 7 or 9.
+pub fn judged_numbers(t0: i32, numbers: &[i32]) -> Result<Order, Refused> {
+    if numbers.len() > 288 {
+        return Err(Refused::new(3));
+    }
+    if numbers.len() % 6 != 0 {
+        return Err(Refused::new(4));
+    }
+    if !is_time(t0) {
+        return Err(Refused::new(5));
+    }
+    let job = |n: &[i32]| Job {
+        number: n[0],
+        critical: n[1],
+        weight: n[2],
+        ready: n[3],
+        length: n[4],
+        deadline: n[5],
+    };
+    let jobs: Vec<Job> = numbers.chunks(6).map(job).collect();
+    judged_jobs(&jobs)?;
+    Ok(Order { t0, jobs })
+}

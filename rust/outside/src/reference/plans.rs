@@ -1,0 +1,121 @@
+//! The plan from its definition, over all choices, and for long orders job by job.
+//!
+//! A choice is a number whose bit i says that the job at place i is kept. At the last place where two choices
+//! differ the one that leaves the job out comes first: that place is their highest differing bit, so the
+//! smaller number comes first.
+
+use super::profiles::{extended, extended_by_all_choices};
+use trials::Order;
+
+/// Up to this many jobs everything is found over all choices.
+pub const MOST_JOBS_OF_ALL_CHOICES: usize = 11;
+
+/// A feasible choice with the figures that rank it.
+#[derive(Clone, Copy, Debug, PartialEq, Eq)]
+pub struct Best {
+    pub weight: i32,
+    pub finish: i32,
+    pub choice: u64,
+}
+
+impl Best {
+    /// Greatest weight, then least finish, then the tie rule: the least key comes first.
+    fn key(&self) -> (i32, i32, u64) {
+        (-self.weight, self.finish, self.choice)
+    }
+}
+
+/// The finish and kept weight of a choice run from a time; none if it is not feasible.
+pub fn finish_of(jobs: &[trials::Job], bus_free: i32, choice: u64) -> Option<(i32, i32)> {
+    let (mut finish, mut weight) = (bus_free, 0);
+    for (place, job) in jobs.iter().enumerate() {
+        if choice >> place & 1 == 1 {
+            finish = finish.max(job.ready) + job.length;
+            weight += job.weight;
+            if finish > job.deadline {
+                return None;
+            }
+        } else if job.critical == 1 {
+            return None;
+        }
+    }
+    Some((finish, weight))
+}
+
+/// The first of all feasible choices, and how many share its weight and finish.
+pub fn best_by_all_choices(order: &Order) -> Option<(Best, usize)> {
+    let feasible = |choice| {
+        finish_of(&order.jobs, order.t0, choice).map(|(finish, weight)| Best { weight, finish, choice })
+    };
+    let all: Vec<Best> = (0..1 << order.jobs.len()).filter_map(feasible).collect();
+    let best = *all.iter().min_by_key(|choice| choice.key())?;
+    let rivals = all.iter().filter(|choice| (choice.weight, choice.finish) == (best.weight, best.finish));
+    Some((best, rivals.count()))
+}
+
+/// Which choices of a prefix are kept on the way.
+#[derive(Clone, Copy, PartialEq, Eq)]
+pub enum Keep {
+    /// Every one that may still lead to the plan.
+    Needed,
+    /// Of each weight the earliest alone. This is the slip that P8 shows; it counts how often the inputs
+    /// would show it.
+    Earliest,
+}
+
+/// The first feasible choice, found job by job.
+pub fn best_forward(order: &Order, keep: Keep) -> Option<Best> {
+    let mut choices = vec![Best { weight: 0, finish: order.t0, choice: 0 }];
+    for (place, job) in order.jobs.iter().enumerate() {
+        let mut next = Vec::with_capacity(2 * choices.len());
+        for earlier in &choices {
+            if job.critical == 0 {
+                next.push(*earlier);
+            }
+            let finish = earlier.finish.max(job.ready) + job.length;
+            if finish <= job.deadline {
+                let weight = earlier.weight + job.weight;
+                next.push(Best { weight, finish, choice: earlier.choice | 1 << place });
+            }
+        }
+        choices = needed(next, keep);
+    }
+    choices.into_iter().min_by_key(Best::key)
+}
+
+/// Drops each choice that another one beats whatever follows. Whatever jobs follow, an earlier finish allows
+/// all that a later one allows and ends no later. So a choice is beaten by one that is heavier and finishes
+/// no later, and by one of the same weight that finishes no later and comes first by the tie rule (later
+/// picks are higher bits, equal in both).
+fn needed(mut choices: Vec<Best>, keep: Keep) -> Vec<Best> {
+    choices.sort_unstable_by_key(Best::key);
+    let mut earliest_heavier = i32::MAX;
+    let mut now = Best { weight: -1, finish: i32::MAX, choice: 0 };
+    choices.retain(|choice| {
+        if choice.weight != now.weight {
+            earliest_heavier = earliest_heavier.min(now.finish);
+            now = *choice;
+            return choice.finish < earliest_heavier;
+        }
+        let stays = keep == Keep::Needed && choice.choice < now.choice && choice.finish < earliest_heavier;
+        now.choice = now.choice.min(choice.choice);
+        stays
+    });
+    choices
+}
+
+/// The points of the profiles of the prefixes 1 to n, together. Each profile is the one before it extended by
+/// one job; those of short prefixes are also made from the definition, and must agree.
+pub fn point_total(order: &Order) -> usize {
+    let bus_free = [(order.t0, 0)];
+    let mut profile = bus_free.to_vec();
+    let mut total = 0;
+    for k in 1..=order.jobs.len() {
+        profile = extended(&profile, &order.jobs[k - 1..k]);
+        if k <= MOST_JOBS_OF_ALL_CHOICES {
+            assert_eq!(profile, extended_by_all_choices(&bus_free, &order.jobs[..k]));
+        }
+        total += profile.len();
+    }
+    total
+}

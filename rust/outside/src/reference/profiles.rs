@@ -1,0 +1,84 @@
+//! Profiles from their definition: at each time the greatest weight that can have been kept by then.
+
+use super::plans::{finish_of, MOST_JOBS_OF_ALL_CHOICES};
+use trials::Job;
+
+/// A time and a weight.
+pub type Point = (i32, i32);
+
+/// Above this many runs a profile is extended job by job and no longer over all choices.
+const MOST_RUNS: usize = 4096;
+
+/// Whether alternating numbers are a profile.
+pub fn is_valid(numbers: &[i32]) -> bool {
+    let rises = |at: usize| numbers.iter().skip(at).step_by(2).zip(numbers.iter().skip(at + 2).step_by(2));
+    numbers.len() % 2 == 0
+        && numbers.len() <= 602
+        && numbers.iter().step_by(2).all(|time| (-100_000..=100_000).contains(time))
+        && numbers.iter().skip(1).step_by(2).all(|weight| (0..=300).contains(weight))
+        && rises(0).all(|(a, b)| a < b)
+        && rises(1).all(|(a, b)| a < b)
+}
+
+/// The weight of the last point at or before `t`.
+pub fn lookup(profile: &[Point], t: i32) -> Option<i32> {
+    profile.iter().rev().find(|point| point.0 <= t).map(|point| point.1)
+}
+
+/// The shortest profile that gives at each time the greatest weight of the points at or before it: times in
+/// rising order, the heavier first of one time, and a point stays where it is heavier than all before it.
+fn shortest(mut points: Vec<Point>) -> Vec<Point> {
+    points.sort_unstable_by_key(|&(time, weight)| (time, -weight));
+    let mut heaviest = -1;
+    points.retain(|&(_, weight)| {
+        let stays = weight > heaviest;
+        heaviest = heaviest.max(weight);
+        stays
+    });
+    points
+}
+
+/// The greater of two profiles at each time.
+pub fn better_of(p: &[Point], q: &[Point]) -> Vec<Point> {
+    shortest([p, q].concat())
+}
+
+/// A profile extended by jobs. Both ways of doing it must agree where both are done.
+pub fn extended(profile: &[Point], jobs: &[Job]) -> Vec<Point> {
+    let forward = extended_forward(profile, jobs);
+    if jobs.len() <= MOST_JOBS_OF_ALL_CHOICES && profile.len() << jobs.len() <= MOST_RUNS {
+        assert_eq!(forward, extended_by_all_choices(profile, jobs), "the two references differ");
+    }
+    forward
+}
+
+/// Over every point and every choice run from that point's time.
+pub(super) fn extended_by_all_choices(profile: &[Point], jobs: &[Job]) -> Vec<Point> {
+    let mut points = Vec::new();
+    for &(time, weight) in profile {
+        for choice in 0..1 << jobs.len() {
+            points.extend(finish_of(jobs, time, choice).map(|(finish, kept)| (finish, weight + kept)));
+        }
+    }
+    shortest(points)
+}
+
+/// Job by job. What an earlier and no lighter point leads to is never later or lighter, so the points that
+/// `shortest` drops are not missed later.
+fn extended_forward(profile: &[Point], jobs: &[Job]) -> Vec<Point> {
+    let mut points = profile.to_vec();
+    for job in jobs {
+        let mut next = Vec::new();
+        for &(time, weight) in &points {
+            if job.critical == 0 {
+                next.push((time, weight));
+            }
+            let finish = time.max(job.ready) + job.length;
+            if finish <= job.deadline {
+                next.push((finish, weight + job.weight));
+            }
+        }
+        points = shortest(next);
+    }
+    points
+}

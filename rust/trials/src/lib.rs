@@ -1,0 +1,43 @@
+//! Generated orders and profiles, the same on every machine: a fixed generator, plain orders in several
+//! styles that make ties, tight windows, critical jobs and infeasible orders frequent, and a plain bit-by-bit
+//! packer.
+
+mod orders;
+mod packing;
+mod random;
+
+pub use orders::{full_order, order_of, profile_of, Style};
+pub use packing::packed;
+pub use random::Random;
+
+/// A job as its six fields, which may be out of range.
+#[derive(Clone, Copy, Debug, PartialEq, Eq)]
+pub struct Job {
+    pub number: i32,
+    pub critical: i32,
+    pub weight: i32,
+    pub ready: i32,
+    pub length: i32,
+    pub deadline: i32,
+}
+
+impl Job {
+    /// The fields in the order in which they are packed and unpacked.
+    pub fn numbers(&self) -> [i32; 6] {
+        [self.number, self.critical, self.weight, self.ready, self.length, self.deadline]
+    }
+}
+
+/// A bus-free time and the jobs in their order.
+#[derive(Clone, Debug, PartialEq, Eq)]
+pub struct Order {
+    pub t0: i32,
+    pub jobs: Vec<Job>,
+}
+
+impl Order {
+    /// Six numbers a job.
+    pub fn numbers(&self) -> Vec<i32> {
+        self.jobs.iter().flat_map(Job::numbers).collect()
+    }
+}

@@ -1,0 +1,135 @@
+//! Orders and profiles in several styles. Every order here is in range unless its style says otherwise.
+
+use crate::{Job, Order, Random};
+
+/// The greatest time, and less it the least.
+const LATEST: i32 = 100_000;
+
+/// What an order is like.
+#[derive(Clone, Copy, Debug, PartialEq, Eq)]
+pub enum Style {
+    /// Few different times, lengths and weights: ties and tight windows.
+    Tight,
+    /// Groups of rivals for one window with a gap behind it, so that an earlier finish wins nothing.
+    Gaps,
+    /// The whole range of times, lengths and weights.
+    Wide,
+    /// The ends of every range.
+    Ends,
+    /// Windows that grow with the place, as on an orderly morning: many jobs fit.
+    Morning,
+}
+
+impl Style {
+    /// All styles.
+    pub const ALL: [Style; 5] = [Style::Tight, Style::Gaps, Style::Wide, Style::Ends, Style::Morning];
+}
+
+/// An order of `n` jobs whose weights sum to at most `most`, which is at least the number of jobs.
+pub fn order_of(random: &mut Random, style: Style, n: usize, most: i32) -> Order {
+    let numbers = numbers_of(random, n);
+    let critical_once_in = random.one_of(&[2, 4, 4, 8, 100]);
+    let mut left = most;
+    let mut jobs = Vec::with_capacity(n);
+    for (place, number) in numbers.into_iter().enumerate() {
+        let mut job = timed(random, style, place);
+        job.number = number;
+        job.critical = i32::from(random.once_in(critical_once_in));
+        if job.critical == 0 {
+            // One is kept back for each job to come, so that none is left without a weight.
+            let spare = left - (n - place - 1) as i32;
+            job.weight = weight_of(random, style).min(spare);
+            left -= job.weight;
+        }
+        jobs.push(job);
+    }
+    Order { t0: bus_free(random, style), jobs }
+}
+
+/// An order of `n` optional jobs whose weights sum to 300 exactly, with windows that let most jobs run.
+pub fn full_order(random: &mut Random, n: usize) -> Order {
+    let mut order = order_of(random, Style::Morning, n, 300);
+    let mut weights = vec![300 / n as i32; n];
+    weights[0] += 300 % n as i32;
+    for _ in 0..4 * n {
+        let (from, to) = (random.below(n), random.below(n));
+        let moved = random.within(0, 20).min(weights[from] - 1).min(50 - weights[to]);
+        weights[from] -= moved;
+        weights[to] += moved;
+    }
+    for (job, weight) in order.jobs.iter_mut().zip(weights) {
+        job.critical = 0;
+        job.weight = weight;
+    }
+    order
+}
+
+/// A valid profile of `points` points, at most 301, with weights up to `heaviest` (at least points - 1).
+pub fn profile_of(random: &mut Random, style: Style, points: usize, heaviest: i32) -> Vec<i32> {
+    let weights = rising(random, points, 0, heaviest);
+    let times = match style {
+        Style::Wide | Style::Ends => rising(random, points, -LATEST, LATEST),
+        _ => rising(random, points, -20, 40.max(2 * points as i32)),
+    };
+    times.into_iter().zip(weights).flat_map(|(time, weight)| [time, weight]).collect()
+}
+
+/// `count` different numbers from `low` to `high`, rising.
+fn rising(random: &mut Random, count: usize, low: i32, high: i32) -> Vec<i32> {
+    let mut all = std::collections::BTreeSet::new();
+    while all.len() < count {
+        all.insert(random.within(low, high));
+    }
+    all.into_iter().collect()
+}
+
+/// `n` different job numbers in any order.
+fn numbers_of(random: &mut Random, n: usize) -> Vec<i32> {
+    let mut numbers: Vec<i32> = (0..64).collect();
+    for place in 0..n {
+        let other = place + random.below(64 - place);
+        numbers.swap(place, other);
+    }
+    numbers.truncate(n);
+    numbers
+}
+
+/// A bus-free time.
+fn bus_free(random: &mut Random, style: Style) -> i32 {
+    match style {
+        Style::Tight | Style::Gaps => random.within(-3, 3),
+        Style::Wide => random.within(-LATEST, LATEST),
+        Style::Ends => random.one_of(&[-LATEST, -1, 0, LATEST - 1, LATEST]),
+        Style::Morning => random.within(-600, 0),
+    }
+}
+
+/// A weight from 1 to 50.
+fn weight_of(random: &mut Random, style: Style) -> i32 {
+    match style {
+        Style::Tight => random.one_of(&[1, 2, 2, 3, 5]),
+        Style::Gaps => random.one_of(&[2, 2, 2, 3]),
+        Style::Wide => random.within(1, 50),
+        Style::Ends => random.one_of(&[1, 49, 50]),
+        Style::Morning => random.within(1, 12),
+    }
+}
+
+/// A job with times and length alone.
+fn timed(random: &mut Random, style: Style, place: usize) -> Job {
+    let place = place as i32;
+    let (ready, length, window) = match style {
+        Style::Tight => (random.within(-4, 12), random.within(1, 4), random.within(0, 12)),
+        Style::Gaps => (place / 3 * 8, random.within(1, 4), random.within(3, 5)),
+        Style::Wide => (random.within(-LATEST, LATEST), random.within(1, 10_000), random.within(0, LATEST)),
+        Style::Ends => {
+            let ready = random.one_of(&[-LATEST, -LATEST, 1 - LATEST, -1, 0, LATEST - 1, LATEST]);
+            (ready, random.one_of(&[1, 1, 2, 9_999, 10_000]), random.one_of(&[0, 1, 2, 2 * LATEST]))
+        }
+        Style::Morning => {
+            (90 * place + random.within(-200, 200), random.within(20, 150), random.within(150, 900))
+        }
+    };
+    let deadline = (ready + window).clamp(-LATEST, LATEST);
+    Job { number: 0, critical: 0, weight: 0, ready, length, deadline }
+}

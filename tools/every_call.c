@@ -1,0 +1,118 @@
+/* Calls every function of the header once, on the worked figures P1 to P11, and says which answer differs.
+ * That the header declares what the library defines is seen here from C. Compiles as C11 and as C++17. */
+#include "leafanchor.h"
+
+#include <stdio.h>
+#include <string.h>
+
+static int wrong;
+
+/* Says that a figure differs. */
+static void check(int holds, const char *what)
+{
+    if (!holds) {
+        printf("differs: %s\n", what);
+        wrong = 1;
+    }
+}
+
+/* The same, with the condition as the words. */
+#define CHECK(holds) check(holds, #holds)
+
+/* P1: bus free at -600, five jobs. */
+static const int32_t p1[] = {7, 1, 0,  -600, 495, 0,   3, 0, 20, -200, 300, 250, 12, 0, 15, 0,
+                             200, 300, 5, 1, 0, 100, 100, 450, 9, 0, 15, 0, 100, 500};
+static uint8_t order[LEAFANCHOR_ORDER_BYTES];
+static int32_t numbers[LEAFANCHOR_ORDER_NUMBERS];
+static int32_t starts[LEAFANCHOR_STARTS];
+static int32_t profile[LEAFANCHOR_PROFILE_ROOM];
+static int32_t work[LEAFANCHOR_WORK_AREA];
+
+/* P1 through packing, unpacking and the reader. */
+static void packed_orders(void)
+{
+    leafanchor_pack_answer packed = leafanchor_pack(-600, p1, 30, order, LEAFANCHOR_ORDER_BYTES);
+    CHECK(packed.refusal == 0 && packed.place == 0 && packed.bytes == 44);
+    CHECK(memcmp(order, "\x17\xFD\xA8\x00\x1E\x03\xFD\xA8\x07\xBC\x00\x00", 12) == 0);
+    leafanchor_unpack_answer unpacked = leafanchor_unpack(order, 44, numbers, LEAFANCHOR_ORDER_NUMBERS);
+    CHECK(unpacked.refusal == 0 && unpacked.place == 0 && unpacked.jobs == 5 && unpacked.t0 == -600);
+    CHECK(memcmp(numbers, p1, sizeof p1) == 0);
+    leafanchor_open_answer opened = leafanchor_open(order, 44);
+    CHECK(opened.refusal == 0 && opened.jobs == 5);
+    leafanchor_step_answer job = leafanchor_step(order, 44, 1);
+    CHECK(job.refusal == 0 && job.place == 0 && job.end == 0 && job.next == 2);
+    CHECK(job.number == 3 && job.critical == 0 && job.weight == 20);
+    CHECK(job.ready == -200 && job.length == 300 && job.deadline == 250);
+    CHECK(leafanchor_step(order, 44, 5).end == 1);
+    CHECK(leafanchor_step(order, 3, 0).refusal == LEAFANCHOR_ORDER_TOO_SHORT);
+}
+
+/* The plan of P1, with its starts. */
+static void plans(void)
+{
+    static const int32_t wanted[] = {-600, -105, LEAFANCHOR_LEFT_OUT, 195, 295};
+    leafanchor_plan_answer plan =
+        leafanchor_plan(order, 44, starts, LEAFANCHOR_STARTS, work, LEAFANCHOR_WORK_AREA);
+    CHECK(plan.refusal == 0 && plan.place == 0 && plan.mask == UINT64_C(0xD800000000000000));
+    CHECK(plan.kept == 4 && plan.kept_weight == 35 && plan.lost_weight == 15);
+    CHECK(plan.finish == 395 && plan.points == 10);
+    CHECK(memcmp(starts, wanted, sizeof wanted) == 0);
+    plan = leafanchor_plan(order, 44, starts, 4, work, LEAFANCHOR_WORK_AREA);
+    CHECK(plan.refusal == LEAFANCHOR_BUFFER_TOO_SHORT && plan.mask == 0);
+}
+
+/* P2, P3 and P9. */
+static void profiles(void)
+{
+    static const int32_t bus_free[] = {-600, 0};
+    static const int32_t p2[] = {200, 0, 295, 20, 395, 35};
+    static const leafanchor_point points[] = {{200, 0}, {295, 20}, {395, 35}};
+    static const int32_t p[] = {0, 0, 20, 7}, q[] = {5, 7}, p9[] = {0, 0, 5, 7};
+    leafanchor_extend_answer extended = leafanchor_extend(bus_free, 2, order, 44, profile,
+                                                          LEAFANCHOR_PROFILE_ROOM, work, LEAFANCHOR_WORK_AREA);
+    CHECK(extended.refusal == 0 && extended.place == 0 && extended.points == 3);
+    CHECK(memcmp(profile, p2, sizeof p2) == 0);
+    CHECK(leafanchor_lookup(profile, 6, 199).found == 0);
+    CHECK(leafanchor_lookup(profile, 6, 394).weight == 20);
+    CHECK(leafanchor_lookup(profile, 5, 0).refusal == LEAFANCHOR_PROFILE_NOT_VALID);
+    CHECK(leafanchor_lookup_records(points, 3, 199).found == 0);
+    CHECK(leafanchor_lookup_records(points, 3, 395).weight == 35);
+    leafanchor_better_answer better = leafanchor_better_of(p, 4, q, 2, profile, LEAFANCHOR_PROFILE_ROOM);
+    CHECK(better.refusal == 0 && better.points == 2);
+    CHECK(memcmp(profile, p9, sizeof p9) == 0);
+}
+
+/* P1 as the first opening against an order of no jobs, and the other way round. */
+static void openings(void)
+{
+    static const uint8_t empty[] = {0, 0, 0, 0};
+    leafanchor_question_answer asked =
+        leafanchor_question(order, 44, empty, 4, 394, work, LEAFANCHOR_WORK_AREA);
+    CHECK(asked.refusal == 0 && asked.winner == 1);
+    leafanchor_choose_answer chosen = leafanchor_choose(empty, 4, order, 44, 394, work, LEAFANCHOR_WORK_AREA);
+    CHECK(chosen.refusal == 0 && chosen.winner == 2 && chosen.offset == 4 && chosen.length == 40);
+    chosen = leafanchor_choose(empty, 4, order, 44, -1, work, LEAFANCHOR_WORK_AREA);
+    CHECK(chosen.refusal == LEAFANCHOR_NO_FEASIBLE_CHOICE && chosen.winner == 0 && chosen.length == 0);
+}
+
+/* P10 and P11. */
+static void heat_up(void)
+{
+    CHECK(leafanchor_heat_up(255).seconds == 495 && leafanchor_heat_up(0).seconds == 450);
+    CHECK(leafanchor_heat_up(9).seconds == 45 && leafanchor_heat_up(10).seconds == 0);
+    CHECK(leafanchor_heat_up(246).seconds == 900 && leafanchor_heat_up(245).seconds == 1020);
+    CHECK(leafanchor_heat_up(226).seconds == 3300);
+    CHECK(leafanchor_heat_up(225).refusal == LEAFANCHOR_CELL_TOO_COLD && leafanchor_heat_up(225).seconds == 0);
+    CHECK(strcmp(leafanchor_phrase(12), "the cell is below -30 degrees") == 0);
+}
+
+int main(void)
+{
+    packed_orders();
+    plans();
+    profiles();
+    openings();
+    heat_up();
+    puts(wrong ? "every call: differs" : "every call: as worked out");
+    return wrong;
+}

@@ -1,0 +1,154 @@
+/* Measures the greatest stack use of every call: each runs on a painted stack of its own, and the lowest
+ * byte that lost its paint tells how deep it went, less the depth of a call that does nothing. Ends with a
+ * failure above LIMIT bytes. A part of a frame that no run writes is not seen; the inputs are long, short
+ * and refused ones. To be linked with all names bound at the start, or the first call of a C function
+ * would count the loader's stack. */
+#define _GNU_SOURCE
+#include "leafanchor.h"
+
+#include <stdio.h>
+#include <stdlib.h>
+#include <string.h>
+#include <ucontext.h>
+
+#define LIMIT 8192
+#define STACK (1 << 18)
+#define PAINT 0xA5
+#define INPUTS 5
+#define POINTS (LEAFANCHOR_PROFILE_ROOM / 2)
+
+static unsigned char *stack;
+static uint8_t orders[INPUTS][LEAFANCHOR_ORDER_BYTES];
+static size_t bytes[INPUTS];
+static int32_t numbers[LEAFANCHOR_ORDER_NUMBERS], copy[LEAFANCHOR_ORDER_NUMBERS];
+static size_t jobs[INPUTS];
+static int32_t profile[LEAFANCHOR_PROFILE_ROOM], other[LEAFANCHOR_PROFILE_ROOM], out[LEAFANCHOR_PROFILE_ROOM];
+static leafanchor_point points[POINTS];
+static int32_t starts[LEAFANCHOR_STARTS], work[LEAFANCHOR_WORK_AREA];
+static uint8_t packed[LEAFANCHOR_ORDER_BYTES];
+
+/* One call on one of the inputs. The answers are dropped: the stack is what counts here. */
+typedef void call(size_t input);
+
+static void nothing(size_t i) { (void)i; }
+static void heat_up(size_t i) { (void)leafanchor_heat_up((uint8_t)(i * 60)); }
+static void unpack(size_t i) { (void)leafanchor_unpack(orders[i], bytes[i], copy, LEAFANCHOR_ORDER_NUMBERS); }
+static void pack(size_t i) { (void)leafanchor_pack(0, numbers, 6 * jobs[i], packed, LEAFANCHOR_ORDER_BYTES); }
+static void open(size_t i) { (void)leafanchor_open(orders[i], bytes[i]); }
+static void step(size_t i) { (void)leafanchor_step(orders[i], bytes[i], i); }
+static void lookup(size_t i) { (void)leafanchor_lookup(profile, LEAFANCHOR_PROFILE_ROOM - i, 5); }
+static void lookup_records(size_t i) { (void)leafanchor_lookup_records(points, POINTS - i, 500); }
+static void better_of(size_t i)
+{
+    (void)leafanchor_better_of(profile, LEAFANCHOR_PROFILE_ROOM - i, other, LEAFANCHOR_PROFILE_ROOM, out,
+                               LEAFANCHOR_PROFILE_ROOM);
+}
+static void extend(size_t i)
+{
+    (void)leafanchor_extend(profile, 2, orders[i], bytes[i], out, LEAFANCHOR_PROFILE_ROOM, work,
+                            LEAFANCHOR_WORK_AREA);
+}
+static void plan(size_t i)
+{
+    (void)leafanchor_plan(orders[i], bytes[i], starts, LEAFANCHOR_STARTS, work, LEAFANCHOR_WORK_AREA);
+}
+static void question(size_t i)
+{
+    (void)leafanchor_question(orders[i], bytes[i], orders[0], bytes[0], 9000, work, LEAFANCHOR_WORK_AREA);
+}
+static void choose(size_t i)
+{
+    (void)leafanchor_choose(orders[i], bytes[i], orders[0], bytes[0], 9000, work, LEAFANCHOR_WORK_AREA);
+}
+
+static const struct { const char *name; call *run; } calls[] = {
+    {"heat_up", heat_up}, {"unpack", unpack}, {"pack", pack}, {"open", open}, {"step", step}, {"lookup", lookup},
+    {"lookup_records", lookup_records}, {"better_of", better_of}, {"extend", extend}, {"plan", plan},
+    {"question", question}, {"choose", choose}};
+
+/* Ends the program where the system refuses something. */
+static void must(int result, const char *what)
+{
+    if (result != 0) {
+        printf("stack: %s failed\n", what);
+        exit(2);
+    }
+}
+
+static struct { call *run; size_t input; } task;
+static ucontext_t here, there;
+
+/* What runs on the painted stack. It leaves by the switch and never returns, so that leaving adds no depth. */
+static void run_task(void)
+{
+    task.run(task.input);
+    must(swapcontext(&there, &here), "the way back");
+}
+
+/* The bytes of the painted stack that this call used. */
+static size_t depth(call *run, size_t input)
+{
+    size_t untouched = 0;
+    memset(stack, PAINT, STACK);
+    task.run = run;
+    task.input = input;
+    must(getcontext(&there), "a context");
+    there.uc_stack.ss_sp = stack;
+    there.uc_stack.ss_size = STACK;
+    there.uc_link = NULL;
+    makecontext(&there, run_task, 0);
+    must(swapcontext(&here, &there), "the way there");
+    while (untouched < STACK && stack[untouched] == PAINT) {
+        untouched++;
+    }
+    return STACK - untouched;
+}
+
+/* The greatest depth over all inputs. */
+static size_t deepest(call *run)
+{
+    size_t most = 0;
+    for (size_t input = 0; input < INPUTS; input++) {
+        size_t used = depth(run, input);
+        most = used > most ? used : most;
+    }
+    return most;
+}
+
+/* 48 jobs that all fit; packed with 48, 24, 1 and no jobs, and one order that is refused. */
+static void make_inputs(void)
+{
+    static const size_t counts[INPUTS] = {48, 24, 1, 0, 48};
+    for (int32_t place = 0; place < LEAFANCHOR_MOST_JOBS; place++) {
+        const int32_t job[] = {place, 0, 6, 100 * place, 150, 100 * place + 1000};
+        memcpy(&numbers[LEAFANCHOR_JOB_NUMBERS * place], job, sizeof job);
+    }
+    for (size_t input = 0; input < INPUTS; input++) {
+        jobs[input] = counts[input];
+        bytes[input] =
+            leafanchor_pack(0, numbers, 6 * jobs[input], orders[input], LEAFANCHOR_ORDER_BYTES).bytes;
+    }
+    orders[INPUTS - 1][4 + 8 * 47] ^= 0x04; /* the last job's number is now that of the one before it */
+    for (int32_t point = 0; point < POINTS; point++) {
+        profile[2 * point] = other[2 * point] = points[point].time = 3 * point;
+        profile[2 * point + 1] = other[2 * point + 1] = points[point].weight = point;
+        other[2 * point] += point % 3;
+    }
+}
+
+int main(void)
+{
+    int failed = 0;
+    stack = (unsigned char *)aligned_alloc(4096, STACK);
+    must(stack == NULL, "memory");
+    make_inputs();
+    size_t empty = deepest(nothing);
+    for (size_t i = 0; i < sizeof calls / sizeof calls[0]; i++) {
+        size_t used = deepest(calls[i].run);
+        used = used > empty ? used - empty : 0;
+        printf("stack of %s: %zu bytes\n", calls[i].name, used);
+        failed |= used > LIMIT;
+    }
+    puts(failed ? "stack: above the limit" : "stack: every call within 8192 bytes");
+    return failed;
+}
