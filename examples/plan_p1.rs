@@ -12,7 +12,10 @@ fn main() -> Result<(), Box<dyn Error>> {
 
     let mut starts = [0; MOST_JOBS];
     let plan = plan(order, &mut starts, &mut WorkArea::new())?;
-    println!("0 0 {} {} {} {} {}", plan.kept, plan.kept_weight, plan.lost_weight, plan.finish, plan.points);
+    println!(
+        "0 0 {} {} {} {} {}",
+        plan.kept, plan.kept_weight, plan.lost_weight, plan.finish, plan.points
+    );
     for (job, start) in order.reader()?.zip(starts) {
         match start {
             LEFT_OUT => println!("{} -", job?.number),
