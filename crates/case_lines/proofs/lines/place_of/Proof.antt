@@ -1,0 +1,47 @@
+-- `case_lines::lines::place_of` meets its contract. The measure is what is left of the text. Assumes nothing.
+use Prim.Native.Nat.{_-_, _≤_}
+use lib.ListN.{length}
+use borrow.Author.Needs.{needs}
+use Rattle.case_lines.proofs.lines.place_of.Statement.{statement}
+use Rattle.case_lines.proofs.lines.place_of.Tie as tie
+
+abbrev Inv-loop : tie.InvT-loop
+Inv-loop text from byte i₀ i = from ≤ i
+
+abbrev μ-loop : tie.MeasureT-loop
+μ-loop text from byte i₀ i = length text - i
+
+loop-holds : tie.Need-loop-holds Inv-loop μ-loop
+loop-holds c = search needs
+
+byte-at-requires : tie.Need-byte-at-requires Inv-loop μ-loop
+byte-at-requires c κs = search needs
+
+returns : tie.Need-returns Inv-loop μ-loop
+returns c = search needs
+
+add-i : tie.Need-add-i Inv-loop μ-loop
+add-i c = search needs
+
+loop-less : tie.Need-loop-less Inv-loop μ-loop
+loop-less c = search needs
+
+loop-again : tie.Need-loop-again Inv-loop μ-loop
+loop-again c = search needs
+
+returns-2 : tie.Need-returns-2 Inv-loop μ-loop
+returns-2 c = search needs
+
+pub place-of-spec : {M : Type 1} → statement M
+place-of-spec =
+    tie.close
+    (tie.spec
+    Inv-loop
+    μ-loop
+    loop-holds
+    byte-at-requires
+    returns
+    add-i
+    loop-less
+    loop-again
+    returns-2)

@@ -1,0 +1,106 @@
+// Writes answers and all that buffers hold. A long run of one number is written as the number, a star and
+// how often it stands.
+use crate::lines::between;
+use crate::lines::place_of;
+use careful::at;
+ghost use Prim.Native.Nat.{_≤_, _<_};
+ghost use lib.ListN.{length};
+
+// A word.
+pub fn put_word(word: &[u8]) {
+    io::write_all(1, word);
+}
+
+// A case's name.
+pub fn put_name(line: &[u8]) {
+    put_word(between(line, 0, place_of(line, 0, b':')));
+    put_word(b":");
+}
+
+// A space and a number.
+pub fn put(z: i32) {
+    let mut figures = [32u8; 12];
+    let end = text::put_number(&mut figures, 1, z);
+    io::write_all(1, &figures[..end]);
+}
+
+// A space and a count.
+pub fn put_count(n: u64) {
+    io::write_all(1, b" ");
+    io::print_decimal(1, n);
+}
+
+// A refusal.
+pub fn put_refused(number: u32) {
+    put_word(b" refused");
+    put_count(number as u64);
+}
+
+// A refusal and its place.
+pub fn put_refusal(number: u32, place: usize) {
+    put_refused(number);
+    put_count(place as u64);
+}
+
+// The first place, from a place on, that does not hold a number.
+fn run_end(numbers: &[i32], number: i32, from: usize) -> usize
+    ensures { λ r. ⌜ from ≤ r ⌝ }
+{
+    let mut i = from;
+    while i < numbers.len() {
+        if at(numbers, i) != number {
+            return i;
+        }
+        i += 1;
+    }
+    i
+}
+
+// The number at a place; of ten and more of one kind how many they are. Returns the place past them.
+fn put_run(numbers: &[i32], place: usize) -> usize
+    requires { ⌜ place < length (now numbers) ⌝ }
+    ensures { λ r. ⌜ place < r ⌝ }
+{
+    let number = at(numbers, place);
+    let end = run_end(numbers, number, place + 1);
+    put(number);
+    if end - place < 10 {
+        return place + 1;
+    }
+    io::write_all(1, b"*");
+    io::print_decimal(1, (end - place) as u64);
+    end
+}
+
+// All numbers, run by run.
+fn put_runs(numbers: &[i32]) {
+    let mut i = 0;
+    while i < numbers.len() {
+        i = put_run(numbers, i);
+    }
+}
+
+// A bar and all that a buffer holds; nothing of an empty one.
+pub fn put_buffer(numbers: &[i32]) {
+    if numbers.len() == 0 {
+        return;
+    }
+    put_word(b" |");
+    put_runs(numbers);
+}
+
+// A byte as a count.
+fn wide(byte: u8) -> u64 {
+    byte as u64
+}
+
+// How many bytes a part has, and the bytes.
+pub fn put_part(part: &[u8]) {
+    put_word(b" part");
+    put_count(part.len() as u64);
+    let mut i = 0;
+    while i < part.len() {
+        put_count(wide(part[i]));
+        i += 1;
+    }
+}
