@@ -2,6 +2,7 @@
 // kept so far: the earliest time at which the bus is free with that weight, or from 200,000 on no cell.
 // Here one row is made from the row before it, and single rows are started, read and cleared. A job is
 // told by its numbers; what it takes is its length in seconds. Assumes nothing.
+use profiles::REST;
 ghost use mathlib.Core.Path.{_≡_};
 ghost use Prim.Native.Nat.{suc, _+_, _<_, _≤_};
 ghost use lib.IntN.{pos, _+ℤ_};
@@ -17,11 +18,8 @@ ghost use Rattle.cells.specs.Found.{heaviestBy, found};
 // No cell: the weight cannot be kept.
 pub const NEVER: i32 = 200_000;
 
-// The seconds that the bus rests after a job.
-const REST: i32 = 0;
-
 // How many numbers after a row the next row stands.
-const ROW: usize = 301;
+pub const ROW: usize = 301;
 
 // How many numbers all rows take together.
 const AREA: usize = 14_749;

@@ -1,6 +1,7 @@
 // The points of the rows in the lent work area: the point total over the rows of an order, and the
 // profile of one row written as alternating numbers. Assumes nothing.
 use cells::NEVER;
+use cells::ROW;
 use cells::count_points;
 use fields::job_at;
 ghost use mathlib.Core.Path.{_≡_};
@@ -11,9 +12,6 @@ ghost use Rattle.packed.specs.Packed.{t0Of, jobIn, jobsIn};
 ghost use Rattle.cells.specs.Work.{rowAt};
 ghost use Rattle.counting.specs.Total.{CanWeigh, CanTotal};
 ghost use Rattle.counting.specs.Profile.{CanWrite, CanWritePoints, profileOver, ProfileWritten};
-
-// How many numbers after a row the next row stands.
-const ROW: usize = 301;
 
 // The weight of the job at a place.
 fn job_weight(bytes: &[u8], k: usize) -> usize

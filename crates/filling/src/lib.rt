@@ -1,6 +1,7 @@
 // The rows of an order in the lent work area: the first row of a profile, and behind a first row the
 // row after each job of a packed order. Assumes nothing.
 use cells::NEVER;
+use cells::ROW;
 use cells::fill_cells;
 use cells::next_row;
 use fields::job_at;
@@ -11,9 +12,6 @@ ghost use Rattle.profiles.specs.Numbers.{holdsProfile};
 ghost use Rattle.profiles.specs.NumbersLaws.{pointsOf};
 ghost use Rattle.filling.specs.Rows.{CanFillOne, FilledOne, CanFill, Filled};
 ghost use Rattle.filling.specs.FirstRow.{CanStartProfile, CanSetPoints, ProfileSet, ProfileStarted};
-
-// How many numbers after a row the next row stands.
-const ROW: usize = 301;
 
 // The row after the job at a place, behind the row before it. Returns the greatest weight it reaches.
 fn fill_row(work: &mut [i32], bytes: &[u8], k: usize, top: usize) -> usize

@@ -1,6 +1,7 @@
 // Choosing between two openings at a time: which of two packed orders keeps more weight by then, and the
 // winner's records. Any bytes, time and work area have an answer. Assumes nothing.
 use cells::Found;
+use cells::ROW;
 use cells::clear;
 use cells::heaviest_by;
 use cells::start_row;
@@ -20,9 +21,7 @@ pub enum Chosen {
     Second,
 }
 
-// How many numbers after a row the next row stands, and how many all rows take together.
-const ROW: usize = 301;
-
+// How many numbers all rows take together.
 const AREA: usize = 14_749;
 
 // The heaviest cell of an opening that is there by a time, from the rows of all its jobs.

@@ -2,6 +2,7 @@
 // numbers and buffers have an answer. Assumes nothing.
 use cells::Found;
 use cells::NEVER;
+use cells::ROW;
 use cells::clear;
 use cells::heaviest_by;
 use cells::start_row;
@@ -51,9 +52,7 @@ pub enum Extended {
     Points(usize),
 }
 
-// How many numbers after a row the next row stands, and how many all rows take together.
-const ROW: usize = 301;
-
+// How many numbers all rows take together.
 const AREA: usize = 14_749;
 
 // The room that is wanted for a profile, in numbers.

@@ -1,6 +1,7 @@
 // From the filled rows to the plan: the walk back from the last job to the first, which gives the mask
 // of the jobs kept, the starts that go with a mask, and the number of jobs kept. Assumes nothing.
 use cells::NEVER;
+use cells::ROW;
 use cells::rested;
 use fields::Job;
 use fields::job_at;
@@ -16,9 +17,6 @@ ghost use Rattle.packed.specs.Packed.{t0Of, jobsIn};
 ghost use Rattle.cells.specs.Work.{seen, rowAt, leaves};
 ghost use Rattle.walking.specs.Trail.{asJob, Timely, lastStartOf, StepsBack, stepBack, Walks, walkMask};
 ghost use Rattle.walking.specs.Picks.{picksOf, TakesTurn, turnOf, WritesStarts, startsWritten};
-
-// How many numbers after a row the next row stands.
-const ROW: usize = 301;
 
 // The worth of the highest bit of a mask, which is that of place 0.
 const HIGHEST: u64 = 0x8000_0000_0000_0000;
