@@ -167,3 +167,11 @@ pub fn count_setting(line: &[u8], letter: u8) -> usize {
     let head = part(line, 0);
     size_at(head, setting_place(head, letter)) as usize
 }
+
+// The same as a place; below 0 stands for the greatest.
+pub fn place_setting(line: &[u8], letter: u8) -> usize {
+    if setting(line, letter) < 0 {
+        return 18_446_744_073_709_551_615;
+    }
+    count_setting(line, letter)
+}

@@ -3,6 +3,10 @@
 use crate::lines::between;
 use crate::lines::place_of;
 use careful::at;
+use fields::Job;
+use reader::Moved;
+use reader::Opened;
+use reader::Read;
 ghost use Prim.Native.Nat.{_≤_, _<_};
 ghost use lib.ListN.{length};
 
@@ -94,13 +98,54 @@ fn wide(byte: u8) -> u64 {
     byte as u64
 }
 
+// Bytes, one behind the other.
+fn put_each(bytes: &[u8]) {
+    let mut i = 0;
+    while i < bytes.len() {
+        put_count(wide(bytes[i]));
+        i += 1;
+    }
+}
+
 // How many bytes a part has, and the bytes.
 pub fn put_part(part: &[u8]) {
     put_word(b" part");
     put_count(part.len() as u64);
-    let mut i = 0;
-    while i < part.len() {
-        put_count(wide(part[i]));
-        i += 1;
+    put_each(part);
+}
+
+// A bar and all bytes that a buffer holds.
+pub fn put_bytes(bytes: &[u8]) {
+    put_word(b" |");
+    put_each(bytes);
+}
+
+// A job's numbers.
+fn put_job(job: Job) {
+    put_word(b" job");
+    put(job.number);
+    put(job.critical);
+    put(job.weight);
+    put(job.ready);
+    put(job.length);
+    put(job.deadline);
+}
+
+// What opening a reader gave.
+pub fn put_opened(opened: Opened) {
+    match opened {
+        Opened::Accepted(count) => put_count(count as u64),
+        Opened::Refused(number) => put_refused(number),
     }
+}
+
+// What a step of a reader gave, and the place after it.
+pub fn put_moved(moved: Moved) {
+    let answer = moved.answer;
+    match answer {
+        Read::Job(job) => put_job(job),
+        Read::End => put_word(b" end"),
+        Read::Refused(number, at) => put_refusal(number, at),
+    }
+    put_count(moved.place as u64);
 }

@@ -9,34 +9,21 @@ use case_lines::is_case;
 use case_lines::make_order;
 use case_lines::part;
 use case_lines::place_of;
-use case_lines::put;
+use case_lines::place_setting;
 use case_lines::put_buffer;
 use case_lines::put_count;
+use case_lines::put_moved;
 use case_lines::put_name;
+use case_lines::put_opened;
 use case_lines::put_part;
-use case_lines::put_refusal;
 use case_lines::put_refused;
 use case_lines::put_word;
 use case_lines::setting;
-use fields::Job;
 use openings::Chosen;
-use reader::Opened;
-use reader::Read;
 
 // What the work area holds before a call: a time so early that a call which took it for one of its own
 // would go wrong.
 const WORK_MARK: i32 = -77_777;
-
-// A job's numbers.
-fn put_job(job: Job) {
-    put_word(b" job");
-    put(job.number);
-    put(job.critical);
-    put(job.weight);
-    put(job.ready);
-    put(job.length);
-    put(job.deadline);
-}
 
 // Asks which of two openings wins at a time.
 fn question(first: &[u8], second: &[u8], t: i32, work: &mut [i32]) {
@@ -52,40 +39,13 @@ fn choose<'a>(first: &'a [u8], second: &'a [u8], t: i32, work: &mut [i32]) {
     put_part(openings::choose(first, second, t, work));
 }
 
-// Opens a reader.
-fn open(order: &[u8]) {
-    match reader::open(order) {
-        Opened::Accepted(count) => put_count(count as u64),
-        Opened::Refused(number) => put_refused(number),
-    }
-}
-
-// A step of a reader from a place, and the place after it.
-fn step(order: &[u8], place: usize) {
-    let moved = reader::step(order, place);
-    let answer = moved.answer;
-    match answer {
-        Read::Job(job) => put_job(job),
-        Read::End => put_word(b" end"),
-        Read::Refused(number, at) => put_refusal(number, at),
-    }
-    put_count(moved.place as u64);
-}
-// The place that a case tells; below 0 stands for the greatest.
-fn place_in(line: &[u8]) -> usize {
-    if setting(line, b't') < 0 {
-        return 18_446_744_073_709_551_615;
-    }
-    count_setting(line, b't')
-}
-
 // The call that a case's name begins with.
 fn call<'a>(line: &[u8], first: &'a [u8], second: &'a [u8], work: &mut [i32]) {
     match byte_at(line, 0) {
         b'q' => return question(first, second, setting(line, b't'), work),
         b'c' => return choose(first, second, setting(line, b't'), work),
-        b'o' => return open(first),
-        _ => return step(first, place_in(line)),
+        b'o' => return put_opened(reader::open(first)),
+        _ => return put_moved(reader::step(first, place_setting(line, b't'))),
     }
 }
 

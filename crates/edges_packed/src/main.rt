@@ -1,236 +1,114 @@
-// Answers the cases of standard input, one a line: a name that begins with the call's, a colon, and
-// numbers. They are for unpacking the room and the bytes, for packing the room, the bus-free time
-// and the numbers, for heat-up the byte. The answer is the name, the numbers of the call's answer,
-// and behind a bar what the lent buffer holds after the call.
-ghost use mathlib.Core.Path.{_≡_};
-ghost use Prim.Native.Nat.{_≤_, _<_};
-ghost use lib.ListN.{length};
-ghost use Rattle.edges_packed.specs.Within.{InFront, From};
+// Answers the cases of standard input on packed orders and heat-up, one a line: a name that begins with
+// the call's, the room that is lent and the bus-free time or the byte, and behind a bar what is packed or
+// unpacked. The answer is the name, what the call answered, and behind a bar all that the lent buffer
+// holds after it.
+use careful::front;
+use case_lines::between;
+use case_lines::byte_at;
+use case_lines::count_setting;
+use case_lines::front_bytes;
+use case_lines::is_case;
+use case_lines::part;
+use case_lines::place_of;
+use case_lines::put;
+use case_lines::put_buffer;
+use case_lines::put_bytes;
+use case_lines::put_count;
+use case_lines::put_name;
+use case_lines::put_refusal;
+use case_lines::put_refused;
+use case_lines::put_word;
+use case_lines::read_bytes;
+use case_lines::read_numbers;
+use case_lines::setting;
 use heat::Heating;
 use pack::Packed;
 use unpack::Unpacked;
 
-// A space and a number.
-fn put(z: i32) {
-    let mut figures = [32u8; 12];
-    let end = text::put_number(&mut figures, 1, z);
-    io::write_all(1, &figures[..end]);
-}
+// What numbers and bytes are written over.
+const MARK: i32 = 7_777;
 
-// A space and a count.
-fn put_count(n: u64) {
-    io::write_all(1, b" ");
-    io::print_decimal(1, n);
-}
+const BYTE_MARK: u8 = 170;
 
-// A bar and the numbers of a buffer.
-fn put_numbers(numbers: &[i32]) {
-    io::write_all(1, b" |");
-    let mut i = 0;
-    while i < numbers.len() {
-        put(numbers[i]);
-        i += 1;
-    }
-}
-
-// A bar and the bytes of a buffer.
-fn put_bytes(bytes: &[u8]) {
-    io::write_all(1, b" |");
-    let mut i = 0;
-    while i < bytes.len() {
-        put_count(bytes[i] as u64);
-        i += 1;
-    }
-}
-
-// Three counts: refusal, place and how many.
-fn put_counts(refusal: u64, place: u64, many: u64) {
-    put_count(refusal);
-    put_count(place);
-    put_count(many);
-}
-
-// Unpacks, and writes refusal, place, how many jobs, the bus-free time, and the buffer.
-fn unpacked(bytes: &[u8], numbers: &mut [i32]) {
+// Unpacks.
+fn unpack(bytes: &[u8], numbers: &mut [i32]) {
     match unpack::unpack(bytes, numbers) {
-        Unpacked::Refused(number, place) => {
-            put_counts(number as u64, place as u64, 0);
-            put(0);
-        }
-        Unpacked::Jobs(n, t0) => {
-            put_counts(0, 0, n as u64);
+        Unpacked::Refused(number, place) => put_refusal(number, place),
+        Unpacked::Jobs(jobs, t0) => {
+            put_count(jobs as u64);
             put(t0);
         }
     }
-    put_numbers(numbers);
 }
 
-// Packs, and writes refusal, place, how many bytes were written, and the buffer.
-fn packed(t0: i32, numbers: &[i32], bytes: &mut [u8]) {
+// Packs.
+fn pack(t0: i32, numbers: &[i32], bytes: &mut [u8]) {
     match pack::pack(t0, numbers, bytes) {
-        Packed::Refused(number, place) => put_counts(number as u64, place as u64, 0),
-        Packed::Bytes(n) => put_counts(0, 0, n as u64),
+        Packed::Refused(number, place) => put_refusal(number, place),
+        Packed::Bytes(written) => put_count(written as u64),
     }
-    put_bytes(bytes);
 }
 
-// Heats up, and writes refusal, place and length.
-fn heated(byte: u8) {
+// Heats up.
+fn heat_up(byte: u8) {
     match heat::heat_up(byte) {
-        Heating::Seconds(n) => put_counts(0, 0, n as u64),
-        Heating::TooCold => put_counts(12, 0, 0),
+        Heating::Seconds(seconds) => put_count(seconds as u64),
+        Heating::TooCold => put_refused(12),
     }
 }
 
-// The first place, from a place on, that holds a byte; the end if there is none.
-fn place_of(text: &[u8], from: usize, byte: u8) -> usize
-    requires { ⌜ from ≤ length (now text) ⌝ }
-    ensures { λ r. ⌜ From from (now (text .entry)) r ⌝ }
-{
-    let mut i = from;
-    while i < text.len() {
-        if text[i] == byte {
-            return i;
-        }
-        i += 1;
+// Lends the room that a case tells for unpacking, and tells what it holds after the call.
+fn lend_numbers(line: &[u8], bytes: &[u8], numbers: &mut [i32]) {
+    let room = count_setting(line, b'm');
+    if room > numbers.len() {
+        return;
     }
-    i
+    unpack(bytes, &mut numbers[0..room]);
+    put_buffer(&numbers[0..room]);
 }
 
-// The number whose figures stand at a place.
-fn value_at(text: &[u8], at: usize) -> u32
-    ensures { λ r. ⌜ r ≤ 100000000 ⌝ }
-{
-    let mut value: u32 = 0;
-    let mut i = at;
-    while i < text.len() {
-        let byte = text[i];
-        if byte < b'0' {
-            return value;
-        }
-        if byte > b'9' {
-            return value;
-        }
-        if value > 9999999 {
-            return value;
-        }
-        value = value * 10 + (byte - b'0') as u32;
-        i += 1;
+// The same for packing.
+fn lend_bytes(line: &[u8], numbers: &[i32], bytes: &mut [u8]) {
+    let room = count_setting(line, b'm');
+    if room > bytes.len() {
+        return;
     }
-    value
-}
-
-// The number at a place, which may have a sign.
-fn number_at(text: &[u8], at: usize) -> i32
-    requires { ⌜ at < length (now text) ⌝ }
-{
-    if text[at] == b'-' {
-        return 0 - value_at(text, at + 1) as i32;
-    }
-    value_at(text, at) as i32
-}
-
-// The numbers from a place on, put into a buffer; how many.
-fn read_numbers(text: &[u8], from: usize, numbers: &mut [i32]) -> usize
-    ensures { λ r. ⌜ InFront r (now (numbers .exit)) ⌝ }
-{
-    let mut at = from;
-    let mut count = 0;
-    while at < text.len() {
-        if count >= numbers.len() {
-            return count;
-        }
-        let number = number_at(text, at);
-        numbers[count] = number;
-        count += 1;
-        at = place_of(text, at, b' ') + 1;
-    }
-    count
-}
-
-// The same of bytes.
-fn read_bytes(text: &[u8], from: usize, bytes: &mut [u8]) -> usize
-    ensures { λ r. ⌜ InFront r (now (bytes .exit)) ⌝ }
-{
-    let mut at = from;
-    let mut count = 0;
-    while at < text.len() {
-        if count >= bytes.len() {
-            return count;
-        }
-        bytes[count] = (value_at(text, at) % 256) as u8;
-        count += 1;
-        at = place_of(text, at, b' ') + 1;
-    }
-    count
-}
-
-// A buffer of numbers that stay unless they are written over.
-fn number_guards() -> [i32; 300]
-    ensures { λ r. ⌜ 300 ≡ length r ⌝ }
-{
-    [7777; 300]
-}
-
-// The same of bytes.
-fn byte_guards() -> [u8; 400]
-    ensures { λ r. ⌜ 400 ≡ length r ⌝ }
-{
-    [170; 400]
+    pack(setting(line, b'f'), numbers, &mut bytes[0..room]);
+    put_bytes(&bytes[0..room]);
 }
 
 // A case of unpacking.
-fn unpack_case(line: &[u8], at: usize)
-    requires { ⌜ at < length (now line) ⌝ }
-{
-    let mut bytes = byte_guards();
-    let count = read_bytes(line, place_of(line, at, b' ') + 1, &mut bytes);
-    let mut numbers = number_guards();
-    let room = value_at(line, at) as usize;
-    if room > 300 {
-        return;
-    }
-    unpacked(&bytes[..count], &mut numbers[..room]);
+fn unpack_case(line: &[u8]) {
+    let mut bytes = [0; 400];
+    let size = read_bytes(part(line, 1), &mut bytes);
+    let mut numbers = [MARK; 300];
+    lend_numbers(line, front_bytes(&bytes, size), &mut numbers);
 }
 
 // A case of packing.
-fn pack_case(line: &[u8], at: usize)
-    requires { ⌜ at < length (now line) ⌝ }
-{
-    let next = place_of(line, at, b' ') + 1;
-    if next >= line.len() {
-        return;
-    }
-    let t0 = number_at(line, next);
-    let mut numbers = number_guards();
-    let count = read_numbers(line, place_of(line, next, b' ') + 1, &mut numbers);
-    let mut bytes = byte_guards();
-    let room = value_at(line, at) as usize;
-    if room > 400 {
-        return;
-    }
-    packed(t0, &numbers[..count], &mut bytes[..room]);
+fn pack_case(line: &[u8]) {
+    let mut numbers = [0; 300];
+    let many = read_numbers(part(line, 1), &mut numbers);
+    let mut bytes = [BYTE_MARK; 400];
+    lend_bytes(line, front(&numbers, many), &mut bytes);
 }
 
-// One case: its name and the colon, and then the answer of its call.
+// The call that a case's name begins with.
+fn run(line: &[u8]) {
+    match byte_at(line, 0) {
+        b'u' => return unpack_case(line),
+        b'p' => return pack_case(line),
+        _ => return heat_up((count_setting(line, b'e') % 256) as u8),
+    }
+}
+
+// One line: a case's name and its answer.
 fn answer(line: &[u8]) {
-    let colon = place_of(line, 0, b':');
-    let at = colon + 2;
-    if at >= line.len() {
-        return;
+    if is_case(line) {
+        put_name(line);
+        run(line);
+        put_word(b"\n");
     }
-    io::write_all(1, &line[..colon]);
-    io::write_all(1, b":");
-    match line[0] {
-        b'u' => unpack_case(line, at),
-        b'p' => pack_case(line, at),
-        _ => heated((value_at(line, at) % 256) as u8),
-    }
-}
-
-// The end of a line.
-fn end_line() {
-    io::write_all(1, b"\n");
 }
 
 // Every line of the text.
@@ -238,8 +116,10 @@ fn answers(text: &[u8]) {
     let mut start = 0;
     while start < text.len() {
         let end = place_of(text, start, b'\n');
-        answer(&text[start..end]);
-        end_line();
+        answer(between(text, start, end));
+        if end >= text.len() {
+            return;
+        }
         start = end + 1;
     }
 }

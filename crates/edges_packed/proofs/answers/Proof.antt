@@ -1,5 +1,4 @@
--- `edges_packed::answers` meets its contract: each line is a part of the text. The measure is what is left of it.
--- Assumes nothing.
+-- `edges_packed::answers` is safe and ends: each line begins past the one before it. Assumes nothing.
 use Prim.Native.Nat.{_-_}
 use lib.ListN.{length}
 use borrow.Author.Needs.{needs}
@@ -18,20 +17,14 @@ loop-holds c = search needs
 place-of-requires : tie.Need-place-of-requires Inv-loop μ-loop
 place-of-requires c κs = search needs
 
-sub-answer : tie.Need-sub-answer Inv-loop μ-loop
-sub-answer c = search needs
-
-part-answer-start : tie.Need-part-answer-start Inv-loop μ-loop
-part-answer-start c = search needs
-
-part-answer-end : tie.Need-part-answer-end Inv-loop μ-loop
-part-answer-end c = search needs
+between-requires : tie.Need-between-requires Inv-loop μ-loop
+between-requires c κs = search needs
 
 answer-requires : tie.Need-answer-requires Inv-loop μ-loop
 answer-requires c κs = search needs
 
-end-line-requires : tie.Need-end-line-requires Inv-loop μ-loop
-end-line-requires c κs = search needs
+returns : tie.Need-returns Inv-loop μ-loop
+returns c = search needs
 
 add-start : tie.Need-add-start Inv-loop μ-loop
 add-start c = search needs
@@ -42,11 +35,21 @@ loop-less c = search needs
 loop-again : tie.Need-loop-again Inv-loop μ-loop
 loop-again c = search needs
 
-returns : tie.Need-returns Inv-loop μ-loop
-returns c = search needs
+returns-2 : tie.Need-returns-2 Inv-loop μ-loop
+returns-2 c = search needs
 
 pub answers-spec : {M : Type 1} → statement M
 answers-spec =
     tie.close
-    (tie.spec Inv-loop μ-loop loop-holds place-of-requires sub-answer part-answer-start part-answer-end answer-requires
-    end-line-requires add-start loop-less loop-again returns)
+    (tie.spec
+    Inv-loop
+    μ-loop
+    loop-holds
+    place-of-requires
+    between-requires
+    answer-requires
+    returns
+    add-start
+    loop-less
+    loop-again
+    returns-2)

@@ -1,2 +1,0 @@
--- What the program's helpers promise.
-pub mod Within
