@@ -2,7 +2,8 @@
 # Everything outside Rattle, against target/staticlib/libleafanchor.a: the header from C and C++, the Rust
 # wrapper, both examples, the comparison of every call with an independent reference, and the stack use of
 # every call. The library is for x86-64; on another machine a cross compiler makes the programs and an
-# emulator runs them. Ends with 0 if all holds.
+# emulator runs them. Ends with 0 if all holds. `tools/outside.sh tools` only sees to it that the compilers and
+# the emulator are there.
 set -eu
 cd "$(dirname "$0")/.."
 
@@ -77,9 +78,10 @@ in_cargo() {
     (cd rust && "$cargo" "$command" --quiet --release --offline --locked --target "$target" "$@")
 }
 
-[ -f "$library" ] || die "$library is missing: make it with rt staticlib leafanchor"
 mkdir -p "$out"
 have_tools || install_tools
+[ "${1-}" != tools ] || exit 0
+[ -f "$library" ] || die "$library is missing: make it with rt staticlib leafanchor"
 export RUSTC="$rustc" LEAFANCHOR_LIB_DIR="$PWD/target/staticlib" CARGO_TARGET_DIR="$PWD/rust/target"
 export CARGO_TARGET_X86_64_UNKNOWN_LINUX_GNU_LINKER="$cc"
 [ -z "$emulator" ] || export CARGO_TARGET_X86_64_UNKNOWN_LINUX_GNU_RUNNER="$emulator"
