@@ -20,7 +20,7 @@ use case_lines::put_refusal;
 use case_lines::put_refused;
 use case_lines::put_word;
 use case_lines::setting;
-use planner::Extended;
+use extending::Extended;
 use planner::Figures;
 use planner::Planned;
 use profiles::Finding;
@@ -52,7 +52,7 @@ fn plan(order: &[u8], starts: &mut [i32], work: &mut [i32]) {
 
 // Extends a profile by an order.
 fn extend(profile: &[i32], order: &[u8], out: &mut [i32], work: &mut [i32]) {
-    match planner::extend(profile, order, out, work) {
+    match extending::extend(profile, order, out, work) {
         Extended::Refused(number, place) => put_refusal(number, place),
         Extended::Points(points) => put_count(points as u64),
     }

@@ -15,9 +15,9 @@ use careful::front;
 use careful::is_count;
 use careful::plus;
 use careful::same;
+use extending::Extended;
 use openings::Chosen;
 use pack::Packed;
-use planner::Extended;
 use planner::Figures;
 use planner::Planned;
 use profiles::Finding;
@@ -132,7 +132,7 @@ fn extend_agrees(
 ) -> bool {
     let mut out = [MARK; 604];
     let mut work = [MARK; 14_750];
-    let agrees = match planner::extend(profile, bytes, &mut out, &mut work) {
+    let agrees = match extending::extend(profile, bytes, &mut out, &mut work) {
         Extended::Refused(number, place) => number == refusal && place == 0,
         Extended::Points(many) => refusal == 0 && many == points,
     };

@@ -8,7 +8,9 @@ use lib.IntN.{ℤ, pos}
 use lib.ListN.{length}
 use Rattle.seconds.specs.Limits.{mostJobs}
 use Rattle.seconds.specs.Ranges.{InTime}
+use Rattle.order.specs.Job.{Job as OrderJob}
 use Rattle.packed.specs.Layout.{headerBytes, jobBytes}
+use Rattle.packed.specs.Packed.{jobOf}
 use Rattle.packed.specs.Refusals.{fieldsWithin}
 use Rattle.fields.specs.declared.Job.{Job}
 use Rattle.fields.specs.declared.Header.{Header}
@@ -16,6 +18,10 @@ use Rattle.fields.specs.declared.Header.{Header}
 -- The six numbers of a job, in the sequence of the layout.
 abbrev pub fieldsOf : Job → List ℤ
 fieldsOf j = j .number ∷ j .critical ∷ j .weight ∷ j .ready ∷ j .length ∷ j .deadline ∷ []
+
+-- The job that they mean.
+abbrev pub asJob : Job → OrderJob
+asJob j = jobOf (fieldsOf j)
 
 -- The three numbers of a header.
 abbrev pub headerFields : Header → List ℤ

@@ -17,7 +17,8 @@ use Rattle.packed.specs.Packed.{jobCount, fieldsAt, jobOf, jobsOf, orderOf}
 use Rattle.packed.specs.Refusals.{fieldsWithin, firstBad, numberAt, firstRepeat, headerChecks, jobChecks, weightChecks}
 use Rattle.profiles.specs.Numbers.{mostNumbers}
 use Rattle.cells.specs.Work.{area, cleared, clearedTo}
-use Rattle.planner.specs.Calls.{planChecks, planVerdict, extendJudged, extendChecks, extendVerdict}
+use Rattle.extending.specs.Calls.{extendJudged, extendChecks, extendVerdict}
+use Rattle.planner.specs.Calls.{planChecks, planVerdict}
 use Rattle.openings.specs.Choosing.{choosingChecks, choosingVerdict}
 use Rattle.report.specs.AsPrinted.{morningBytes}
 use Rattle.worked.specs.Examples.{morning}

@@ -33,11 +33,11 @@ use Rattle.heat.specs.Answer.{heatingOf}
 use Rattle.heat.specs.declared.Heating.{Heating}
 use Rattle.heat.specs.declared.Heating.the-variants as heating
 use Rattle.planner.specs.Calls.{plannedOf, startsAfter, planWorkAfter, PlanCall}
-use Rattle.planner.specs.Calls.{extendedOf, outAfter, extendWorkAfter, ExtendCall}
+use Rattle.extending.specs.Calls.{extendedOf, outAfter, extendWorkAfter, ExtendCall}
 use Rattle.planner.specs.declared.Planned.{Planned}
 use Rattle.planner.specs.declared.Planned.the-variants as planned
-use Rattle.planner.specs.declared.Extended.{Extended}
-use Rattle.planner.specs.declared.Extended.the-variants as extended
+use Rattle.extending.specs.declared.Extended.{Extended}
+use Rattle.extending.specs.declared.Extended.the-variants as extended
 use Rattle.openings.specs.Choosing.{chosenOf, workAfter, Asked, partOf, placeOf, Handed}
 use Rattle.openings.specs.declared.Chosen.{Chosen}
 use Rattle.openings.specs.declared.Chosen.the-variants as chosen

@@ -10,7 +10,7 @@ use Rattle.seconds.specs.Limits.{rest}
 use Rattle.order.specs.Job.{Point}
 use Rattle.profile.specs.Profile.{extend, startPoint}
 use Rattle.profile.specs.Joining.{extend-extend, extend-betterOf}
-use Rattle.planner.specs.Calls.{pointsWritten}
+use Rattle.extending.specs.Calls.{pointsWritten}
 use Rattle.worked.specs.Examples.{morning}
 use Rattle.hollow.specs.Contract.{Allowed, ShutOut}
 use Rattle.hollow.specs.Contracts.{ExtendInput, extending}

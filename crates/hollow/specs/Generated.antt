@@ -31,11 +31,11 @@ use Rattle.heat.specs.declared.Heating.{Heating}
 use Rattle.heat.proofs.heat_up as heat-up
 use Rattle.heat.proofs.heat_up.Reads as heat-up-reads
 use Rattle.planner.specs.declared.Planned.{Planned}
-use Rattle.planner.specs.declared.Extended.{Extended}
+use Rattle.extending.specs.declared.Extended.{Extended}
 use Rattle.planner.proofs.plan as plan
 use Rattle.planner.proofs.plan.Reads as plan-reads
-use Rattle.planner.proofs.extend as extend
-use Rattle.planner.proofs.extend.Reads as extend-reads
+use Rattle.extending.proofs.extend as extend
+use Rattle.extending.proofs.extend.Reads as extend-reads
 use Rattle.openings.specs.declared.Chosen.{Chosen}
 use Rattle.openings.proofs.question as question
 use Rattle.openings.proofs.question.Reads as question-reads

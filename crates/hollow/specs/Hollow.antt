@@ -10,10 +10,10 @@ use Rattle.order.specs.Job.{Job, Point}
 use Rattle.profile.specs.Profile.{extend, betterOf}
 use Rattle.packed.specs.Packed.{orderOf}
 use Rattle.planner.specs.Calls.{plannedOf, startsAfter, planWorkAfter}
-use Rattle.planner.specs.Calls.{profileGiven, extendVerdict, extendedBy, outBy, extendWorkAfter}
+use Rattle.extending.specs.Calls.{profileGiven, extendVerdict, extendedBy, outBy, extendWorkAfter}
 use Rattle.planner.specs.declared.Planned.{Planned}
 use Rattle.planner.specs.declared.Planned.the-variants.{Refused, Made}
-use Rattle.planner.specs.declared.Extended.{Extended}
+use Rattle.extending.specs.declared.Extended.{Extended}
 use Rattle.hollow.specs.Contracts.{PlanInput, ExtendInput}
 
 -- ---- extensions

@@ -21,9 +21,10 @@ use Rattle.unpack.specs.Answer.{jobsUnpacked}
 use Rattle.pack.specs.Answer.{bytesWritten}
 use Rattle.reader.specs.Reading.{openCount, readNumbers}
 use Rattle.heat.specs.Answer.{lengthOf}
-use Rattle.planner.specs.Calls.{planNumbers, pointsWritten}
+use Rattle.extending.specs.Calls.{pointsWritten}
+use Rattle.planner.specs.Calls.{planNumbers}
 use Rattle.planner.specs.declared.Planned.{Planned}
-use Rattle.planner.specs.declared.Extended.{Extended}
+use Rattle.extending.specs.declared.Extended.{Extended}
 use Rattle.openings.specs.Choosing.{winnerOf}
 use Rattle.report.specs.AsPrinted.{morningBytes}
 use Rattle.hollow.specs.Contract.{ShutOut, Leaves, NotHollow, NotHollowIn}

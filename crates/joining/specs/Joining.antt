@@ -27,18 +27,17 @@ use Rattle.packed.specs.PlacesLaws.{part-first, part-second}
 use Rattle.packed.specs.PackedLaws.{length-numbers, numbers-count, count-append, jobs-append}
 use Rattle.packed.specs.Refusals.{orderChecks, numberAt}
 use Rattle.packed.specs.RefusalLaws.{header-fine, JobsFine}
-use Rattle.packed.specs.Accepted.{numbers-fine, order-fine}
+use Rattle.packed.specs.Accepted.{numbers-fine, order-fine, jobs-fit}
 use Rattle.packed.specs.RoundTrip.{unpack-pack}
 use Rattle.profiles.specs.Numbers.{mostNumbers, alternating, holdsProfile, writtenOver}
 use Rattle.profiles.specs.NumbersLaws.{alternating-length, profile-back, held, profile-there}
 use Rattle.better.specs.declared.Joined.{Joined}
 use Rattle.better.specs.declared.Joined.the-variants.{Points as JoinedPoints}
-use Rattle.planner.specs.Calls.{profileGiven, extension, ExtendCall}
-use Rattle.planner.specs.CallLaws.{given-read, extend-fine}
-use Rattle.planner.specs.PlanningLaws.{jobs-fit}
-use Rattle.planner.specs.ExtendingLaws.{Accepted, accepted, accepted-order}
-use Rattle.planner.specs.declared.Extended.{Extended}
-use Rattle.planner.specs.declared.Extended.the-variants.{Points}
+use Rattle.extending.specs.Calls.{profileGiven, extension, ExtendCall}
+use Rattle.extending.specs.CallLaws.{given-read, extend-fine}
+use Rattle.extending.specs.ExtendingLaws.{Accepted, accepted, accepted-order}
+use Rattle.extending.specs.declared.Extended.{Extended}
+use Rattle.extending.specs.declared.Extended.the-variants.{Points}
 use Rattle.joining.specs.TwoWays.{Room, AcceptedAfter, wrote, BetterCall, wroteJoined, joinedBytes}
 use Rattle.joining.specs.TwoWays.{Joinable, OneByOne, BetterFirst}
 

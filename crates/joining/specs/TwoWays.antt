@@ -12,8 +12,8 @@ use Rattle.profiles.specs.Numbers.{mostNumbers}
 use Rattle.better.specs.Answer.{joinedOf, joinRefusal, outAfter as joinedAfter, pointsWritten as pointsJoined}
 use Rattle.better.specs.declared.Joined.{Joined}
 use Rattle.cells.specs.Work.{area}
-use Rattle.planner.specs.Calls.{extendJudged, extendRefusal, pointsWritten}
-use Rattle.planner.specs.declared.Extended.{Extended}
+use Rattle.extending.specs.Calls.{extendJudged, extendRefusal, pointsWritten}
+use Rattle.extending.specs.declared.Extended.{Extended}
 
 -- Room for what a call of extending writes, and for its rows.
 pub record Room (out work : List ℤ) : Type 0 where

@@ -1,20 +1,25 @@
--- The checks as the code makes them: of a header that was read, of the searches that were made, and stage by stage.
+-- The checks as the code makes them: of a header that was read, of the searches that were made, and stage by stage; and what
+-- number and place a refusal by stages has.
 use Prim.Native.Nat.{ℕ, _+_, _*_, _/_, _≤_, _<_}
 use mathlib.Core.Path.{_≡_, refl, sym, ap, _∙_}
-use mathlib.Core.Bool.{not, cond}
-use mathlib.Core.List.{List, _++_}
+use mathlib.Core.Bool.{Bool, true, not, cond, _&&_}
+use mathlib.Core.Logic.{_≢_}
+use mathlib.Core.List.{List, [], _∷_, _++_}
 use native.Mathlib.Omega.{arith}
-use lib.Dec.{ltb, eqb}
+use lib.Dec.{T, leb, ltb, eqb}
+use lib.Ieee.Fits.{and-l, and-r}
 use lib.IntN.{ℤ, pos}
 use lib.ListN.{length, take}
 use lib.Seq.{length-take-le, getD-take}
 use borrow.Author.Tests.{lt-ltb, le-ltb}
 use Rattle.seconds.specs.Ranges.{isTime}
-use Rattle.packed.specs.Judge.{Check, Verdict as Judged, fine, refused, judge, orElse}
-use Rattle.packed.specs.JudgeLaws.{judge-append, stages-fine}
-use Rattle.packed.specs.Packed.{headerOf, numbersOf, jobCount}
-use Rattle.packed.specs.Refusals.{headerChecks, jobChecks, firstRepeat}
+use Rattle.seconds.specs.Signed.{signed}
+use Rattle.packed.specs.Judge.{Check, Verdict as Judged, fine, refused, judge, orElse, check}
+use Rattle.packed.specs.JudgeLaws.{judge-append, stages-fine, Tells, judge-tells}
+use Rattle.packed.specs.Packed.{headerOf, countOf, numbersOf, jobCount}
+use Rattle.packed.specs.Refusals.{headerChecks, jobChecks, roomChecks, orderChecks, firstRepeat}
 use Rattle.packed.specs.RefusalLaws.{within-is, HeaderFine, header-fine, ListFine, JobsFine, jobs-fine}
+use Rattle.packed.specs.RefusalPlaces.{PlaceIs, nowhere, unpack-place}
 use Rattle.packed.specs.Steps.{header-judge, jobs-judge}
 use Rattle.fields.specs.Fields.{headerFields}
 use Rattle.fields.specs.Facts.{HeaderRead, header-read}
@@ -116,3 +121,69 @@ told-refused cs ds n p e =
 -- Past the first of two stages, the second tells.
 pub told-next : (cs ds : List Check) → judge cs ≡ fine → judge (cs ++ ds) ≡ judge ds
 told-next cs ds e = rw (judge-append cs ds, e)
+
+-- A refusal stays the verdict, whatever is judged behind it.
+pub stays : (cs ds : List Check) {n p : ℕ} → judge cs ≡ refused n p → judge (cs ++ ds) ≡ refused n p
+stays cs ds e = rw (judge-append cs ds, e)
+
+-- The last two stages, of any call: there is not enough room in the first buffer, or in the second, or there is in both.
+module _ (cs : List Check) (passed : judge cs ≡ fine) (need room more space : ℕ) where
+  abbrev pub withRooms : List Check
+  withRooms = cs ++ roomChecks need room ++ roomChecks more space
+
+  pub no-room : room < need → judge withRooms ≡ refused 10 0
+  no-room h =
+      stays (cs ++ roomChecks need room) (roomChecks more space)
+      (told-next cs (roomChecks need room) passed ∙ rw (lt-ltb room need h))
+
+  module _ (enough : need ≤ room) where
+    first-fine : judge (cs ++ roomChecks need room) ≡ fine
+    first-fine = told-next cs (roomChecks need room) passed ∙ rw (le-ltb room need enough)
+
+    pub no-space : space < more → judge withRooms ≡ refused 10 0
+    no-space h = told-next (cs ++ roomChecks need room) (roomChecks more space) first-fine ∙ rw (lt-ltb space more h)
+
+    pub all-fine : more ≤ space → judge withRooms ≡ fine
+    all-fine h = told-next (cs ++ roomChecks need room) (roomChecks more space) first-fine ∙ rw (le-ltb space more h)
+
+-- ---- the number of a refusal
+
+-- No check of a list has a number above 10.
+abbrev pub upToTen : List Check → Bool
+upToTen [] = true
+upToTen (c ∷ cs) = leb (c .number) 10 && upToTen cs
+
+pub ten-tells : (cs : List Check) → T (upToTen cs) → Tells (λ n p. n ≤ 10) cs
+ten-tells [] t = tt
+ten-tells (c ∷ cs) t =
+    let h : T (leb (c .number) 10) = search and-l in
+    (λ e. omega signed, ten-tells cs (search and-r))
+
+-- ---- the place of a refusal
+
+-- Every refusal of some checks has its place: that of 6 or 7, or else 0.
+abbrev pub Placed : List ℤ → List Check → Type 0
+Placed zs cs = (n p : ℕ) → judge cs ≡ refused n p → PlaceIs zs n p
+
+-- One stage behind another.
+pub placed-behind : (zs : List ℤ) (cs ds : List Check) → Placed zs cs → Placed zs ds → Placed zs (cs ++ ds)
+placed-behind zs cs ds first second n p e = go (judge cs) refl (sym (judge-append cs ds) ∙ e)
+  where
+    go : (v : Judged) → judge cs ≡ v → orElse v (judge ds) ≡ refused n p → PlaceIs zs n p
+    go fine d f = second n p f
+    go (refused m q) d f = first n p (d ∙ f)
+
+-- A check with no place.
+pub placed-check : (zs : List ℤ) (m : ℕ) (b : Bool) → m ≢ 6 → m ≢ 7 → Placed zs (check m b ∷ [])
+placed-check zs m b six seven n p = judge-tells (PlaceIs zs) (check m b ∷ []) (λ e. nowhere six seven, tt)
+
+pub placed-rooms : (zs : List ℤ) (cs : List Check) (need room more space : ℕ) → Placed zs cs
+    → Placed zs (cs ++ roomChecks need room ++ roomChecks more space)
+placed-rooms zs cs need room more space first =
+    placed-behind zs (cs ++ roomChecks need room) (roomChecks more space)
+    (placed-behind zs cs (roomChecks need room) first (placed-check zs 10 (ltb room need) (omega arith) (omega arith)))
+    (placed-check zs 10 (ltb space more) (omega arith) (omega arith))
+
+-- The order's own checks have the places of unpacking.
+pub placed-order : (bytes : List ℕ) → Placed (numbersOf bytes) (orderChecks bytes)
+placed-order bytes n p e = unpack-place bytes 0 (stays (orderChecks bytes) (roomChecks (6 * countOf bytes) 0) e)

@@ -15,7 +15,7 @@ use denote.Triple.Clauses.{AtExit}
 use denote.Triple.Entry.{Args}
 use lib.IntN.{ℤ}
 use lib.ListN.{length}
-use Rattle.seconds.specs.Determined.{Determines, determined}
+use Rattle.seconds.specs.Determined.{Determines, determined, two, three}
 use Rattle.heat.specs.Answer.{heatingOf}
 use Rattle.unpack.specs.Answer.{unpackOf, numbersAfter}
 use Rattle.pack.specs.Answer.{packOf, bytesAfter}
@@ -23,7 +23,8 @@ use Rattle.reader.specs.Reading.{openOf, stepOf}
 use Rattle.profiles.specs.Answer.{lookupOf}
 use Rattle.point_records.specs.Records.{flattened}
 use Rattle.better.specs.Answer.{joinedOf, outAfter as joinedAfter}
-use Rattle.planner.specs.Calls.{plannedOf, startsAfter, planWorkAfter, extendedOf, outAfter, extendWorkAfter}
+use Rattle.extending.specs.Calls.{extendedOf, outAfter, extendWorkAfter}
+use Rattle.planner.specs.Calls.{plannedOf, startsAfter, planWorkAfter}
 use Rattle.openings.specs.Choosing.{chosenOf, workAfter}
 use Rattle.packed_answers.specs.Numbers.{heatNumbers, unpackNumbers, packNumbers, openNumbers, stepNumbers}
 use Rattle.plan_answers.specs.Numbers.{lookupNumbers, betterNumbers, extendNumbers, planFigures}
@@ -48,13 +49,6 @@ use Rattle.leafanchor.proofs.leafanchor_extend.Reads as extend
 use Rattle.leafanchor.proofs.leafanchor_plan.Reads as plan
 use Rattle.leafanchor.proofs.leafanchor_question.Reads as question
 use Rattle.leafanchor.proofs.leafanchor_choose.Reads as choose
-
--- Equations of an answer and of one or two buffers, at once.
-two : {R X : Type 0} {r s : R} {x y : X} → r ≡ s → x ≡ y → _≡_ {A = R × X} (r, x) (s, y)
-two e f = λ i. (e i, f i)
-
-three : {R X Y : Type 0} {r s : R} {x y : X} {u v : Y} → r ≡ s → x ≡ y → u ≡ v → _≡_ {A = R × X × Y} (r, x, u) (s, y, v)
-three e f g = λ i. (e i, f i, g i)
 
 -- ---- calls that write nothing
 

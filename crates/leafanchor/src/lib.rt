@@ -10,7 +10,8 @@ ghost use Rattle.reader.specs.Reading.{openOf, stepOf};
 ghost use Rattle.profiles.specs.Answer.{lookupOf};
 ghost use Rattle.point_records.specs.Records.{flattened};
 ghost use Rattle.better.specs.Answer.{joinedOf, outAfter as joinedAfter};
-ghost use Rattle.planner.specs.Calls.{plannedOf, startsAfter, planWorkAfter, extendedOf, outAfter, extendWorkAfter};
+ghost use Rattle.extending.specs.Calls.{extendedOf, outAfter, extendWorkAfter};
+ghost use Rattle.planner.specs.Calls.{plannedOf, startsAfter, planWorkAfter};
 ghost use Rattle.openings.specs.Choosing.{chosenOf, workAfter};
 ghost use Rattle.packed_answers.specs.Numbers.{heatNumbers, unpackNumbers, packNumbers, openNumbers, stepNumbers};
 ghost use Rattle.plan_answers.specs.Numbers.{lookupNumbers, betterNumbers, extendNumbers, planFigures};
@@ -113,7 +114,7 @@ pub extern "C" fn leafanchor_extend(
         now (work .exit)
         ≡ extendWorkAfter (now (profile .entry)) (now (order .entry)) (now (out .entry)) (now (work .entry)) ⌝ }
 {
-    plan_answers::extend_answer(planner::extend(profile, order, out, work))
+    plan_answers::extend_answer(extending::extend(profile, order, out, work))
 }
 
 // The plan of a packed order; the starts are written in place order to the front of `starts`.

@@ -1,12 +1,12 @@
 -- The contracts of the question and of the choice determine what they return and the lent work area, for every input; and the
 -- part handed back is the one that the question's answer names.
 use Prim.Native.Nat.{ℕ}
-use mathlib.Core.Path.{_≡_, ap₂}
+use mathlib.Core.Path.{_≡_}
 use mathlib.Core.List.{List}
 use contract.Lifetimes.{Lfts}
 use denote.Ref.{RefT, now}
 use lib.IntN.{ℤ}
-use Rattle.seconds.specs.Determined.{Determines, determined}
+use Rattle.seconds.specs.Determined.{Determines, determined, two}
 use Rattle.openings.specs.Choosing.{chosenOf, workAfter, partOf, placeOf}
 use Rattle.openings.specs.ChoosingLaws.{question-choice}
 use Rattle.openings.specs.declared.Chosen.{Chosen}
@@ -35,16 +35,14 @@ partBy c a = (partOf c (now (a .0)) (now (a .1 .0)), placeOf c (a .0 .ptr) (a .1
 pub question-determined : (κs : Lfts 3) → Determines {Z = Chosen × List ℤ} (question.Post κs) (λ r x. (r, workIn x))
 question-determined κs =
     determined (question.Post κs) (λ r x. (r, workIn x)) (λ a. (answerOf a, areaOf a))
-    (λ a r x h. ap₂ (λ (c : Chosen) (l : List ℤ). (c, l)) (h .answer) (h .area))
+    (λ a r x h. two (h .answer) (h .area))
 
 -- The choice: the bytes of the part, its place in memory, and the work area.
 pub choose-determined : (κs : Lfts 2)
     → Determines {Z = (List ℕ × (ℕ × ℕ)) × List ℤ} (choose.Post κs) (λ r x. ((now r, r .ptr), workIn x))
 choose-determined κs =
     determined (choose.Post κs) (λ r x. ((now r, r .ptr), workIn x)) (λ a. (partBy (answerOf a) a, areaOf a))
-    (λ a r x h.
-    let part = ap₂ (λ (b : List ℕ) (p : ℕ × ℕ). (b, p)) (h .bytes) (h .place) in
-    ap₂ (λ (p : List ℕ × (ℕ × ℕ)) (l : List ℤ). (p, l)) part (h .area))
+    (λ a r x h. two (two (h .bytes) (h .place)) (h .area))
 
 -- On the same inputs the part is the one that the question's answer names, and the work area is left the same.
 pub choose-as-asked : (κs : Lfts 3) (μs : Lfts 2) (a x y : Given) (q : Chosen) (r : RefT (List ℕ))

@@ -12,11 +12,11 @@ use borrow.Author.Tests.{ne-eqb}
 use Rattle.seconds.specs.Limits.{mostWeight}
 use Rattle.seconds.specs.Signed.{signed, abs-is}
 use Rattle.order.specs.Job.{Job, weightOf, jobWithin, jobsWithin, hasNumber, numbersUnlike, orderWithin}
-use Rattle.order.specs.Within.{within-order}
+use Rattle.order.specs.Within.{within-order, order-within as order-limits}
 use Rattle.packed.specs.Places.{eachOf, each}
 use Rattle.packed.specs.PlacesLaws.{length-each}
 use Rattle.packed.specs.Packed.{countOf, t0Of, numbersOf, jobCount, fieldsAt}
-use Rattle.packed.specs.Packed.{jobOf, jobAt, jobsOf, orderFrom, orderOf}
+use Rattle.packed.specs.Packed.{jobOf, jobAt, jobsOf, jobsIn, orderFrom, orderOf}
 use Rattle.packed.specs.PackedLaws.{numbers-count, length-numbers}
 use Rattle.packed.specs.Judge.{Check, fine, judge}
 use Rattle.packed.specs.JudgeLaws.{stages-fine}
@@ -135,7 +135,13 @@ numbers-within t0 zs f =
       weight = f .light;
     })
 
--- Bytes that are accepted say an order within the limits.
+-- The jobs of bytes that are accepted are within the limits,
+pub jobs-fit : (bytes : List ℕ) → OrderFine bytes → T (jobsWithin (jobsIn bytes))
+jobs-fit bytes f =
+    order-limits (orderFrom (t0Of bytes) (numbersOf bytes))
+    (numbers-within (t0Of bytes) (numbersOf bytes) (order-numbers bytes f)) .jobs
+
+-- and so is the order that they say.
 pub order-within : (bytes : List ℕ) → judge (orderChecks bytes) ≡ fine → T (orderWithin (orderOf bytes))
 unfolding orderOf
 order-within bytes e = numbers-within (t0Of bytes) (numbersOf bytes) (order-numbers bytes (order-fine bytes .0 e))

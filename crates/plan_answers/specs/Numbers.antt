@@ -6,9 +6,10 @@ use Rattle.profiles.specs.Answer.{lookupRefusal, foundOf, weightFound}
 use Rattle.profiles.specs.declared.Finding.{Finding}
 use Rattle.better.specs.Answer.{joinRefusal, pointsWritten as pointsJoined}
 use Rattle.better.specs.declared.Joined.{Joined}
-use Rattle.planner.specs.Calls.{planNumbers, extendRefusal, extendPlace, pointsWritten}
+use Rattle.extending.specs.Calls.{extendRefusal, extendPlace, pointsWritten}
+use Rattle.planner.specs.Calls.{planNumbers}
 use Rattle.planner.specs.declared.Planned.{Planned}
-use Rattle.planner.specs.declared.Extended.{Extended}
+use Rattle.extending.specs.declared.Extended.{Extended}
 use Rattle.openings.specs.Choosing.{refusalOf as choiceRefusal, winnerOf}
 use Rattle.openings.specs.declared.Chosen.{Chosen}
 use Rattle.openings.specs.declared.Chosen.the-variants as chosen

@@ -6,8 +6,8 @@ ghost use Rattle.packed.specs.Layout.{headerBytes};
 ghost use Rattle.plan_answers.specs.Numbers.{lookupNumbers, betterNumbers, extendNumbers};
 ghost use Rattle.plan_answers.specs.Numbers.{planFigures, questionNumbers, chooseNumbers};
 use better::Joined;
+use extending::Extended;
 use openings::Chosen;
-use planner::Extended;
 use planner::Planned;
 use profiles::Finding;
 

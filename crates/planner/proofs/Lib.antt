@@ -1,2 +1,2 @@
--- What is proved of the calls' contracts.
+-- What is proved of the call's contract.
 pub mod Determined

@@ -1,8 +1,7 @@
--- Planning and extending as calls: what they answer, the laws behind the code, and what is proved of the answers.
+-- Planning as a call: what it answers, the laws behind the code, and what is proved of the answers.
 pub mod Calls
 pub mod Planning
-pub mod Extending
 pub mod CallLaws
+pub mod PlanMask
 pub mod PlanningLaws
-pub mod ExtendingLaws
 pub mod Answers

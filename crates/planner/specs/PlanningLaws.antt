@@ -3,24 +3,22 @@
 use Prim.Native.Nat.{ℕ, zero, suc, _+_, _*_, _-_, _≤_, _<_}
 use mathlib.Core.Path.{_≡_, sym, ap, ap₂, _∙_}
 use mathlib.Core.List.{List, [], _∷_}
-use mathlib.Core.Option.{none, some, Option·map, map-eq-some-iff, map-eq-none-iff}
+use mathlib.Core.Option.{some, Option·map, map-eq-some-iff, map-eq-none-iff}
 use native.Mathlib.Omega.{arith}
-use lib.Dec.{T}
 use lib.IntN.{ℤ}
 use lib.ListN.{length, drop}
 use Rattle.seconds.specs.Limits.{mostWeight, mostPoints, mostJobs}
 use Rattle.seconds.specs.Signed.{signed}
-use Rattle.order.specs.Job.{Point, jobsWithin}
+use Rattle.order.specs.Job.{Point}
 use Rattle.order.specs.Choice.{mask, numberKept, starts}
-use Rattle.order.specs.Within.{order-within}
 use Rattle.profile.specs.Profile.{startPoint, pointsUpTo, pointTotal}
 use Rattle.profile.specs.Closure.{prefix-short}
 use Rattle.plan.specs.Plan.{Ended, plan, Answer, answerOf, planAnswer}
 use Rattle.plan.specs.Figures.{Figures as Fitting, plan-figures}
-use Rattle.rows.specs.Row.{Row, point, startRow, heaviest}
+use Rattle.rows.specs.Row.{Row, startRow, heaviest}
 use Rattle.rows.specs.PlanLaws.{plan-end-heaviest}
-use Rattle.packed.specs.Packed.{countOf, t0Of, numbersOf, orderFrom, orderOf, jobsIn}
-use Rattle.packed.specs.Accepted.{OrderFine, order-numbers, numbers-within}
+use Rattle.packed.specs.Packed.{countOf, t0Of, orderOf, jobsIn}
+use Rattle.packed.specs.Accepted.{OrderFine, jobs-fit}
 use Rattle.profiles.specs.Numbers.{writtenOver}
 use Rattle.cells.specs.Work.{area, never, rowAt, RowWritten, CanStart}
 use Rattle.cells.specs.Keeping.{area-kept}
@@ -30,28 +28,22 @@ use Rattle.cells.specs.declared.Found.the-variants.{Nothing, At}
 use Rattle.filling.specs.Rows.{CanFill, Filled}
 use Rattle.filling.specs.RowsLaws.{jobs-count, weight-first, rows-from, rows-from-none, last-row, last-none-past}
 use Rattle.walking.specs.Trail.{Walks, walkMask}
-use Rattle.walking.specs.Picks.{picksOf, WritesStarts, startsWritten}
-use Rattle.walking.specs.PlanMask.{plan-mask, plan-kept, plan-walks, plan-writes, plan-starts}
+use Rattle.starting.specs.Picks.{picksOf, WritesStarts, startsWritten}
 use Rattle.planner.specs.Planning.{CanPlan, CanMake, MadeIn}
+use Rattle.planner.specs.PlanMask.{plan-mask, plan-kept, plan-walks, plan-writes, plan-starts}
 use Rattle.planner.specs.declared.Planned.the-variants.{Refused, Made}
 
 -- ---- an accepted order
 
 module _ (bytes : List ℕ) (fine : OrderFine bytes) where
-  -- Its jobs are within the limits,
-  pub jobs-fit : T (jobsWithin (jobsIn bytes))
-  jobs-fit =
-      order-within (orderFrom (t0Of bytes) (numbersOf bytes))
-      (numbers-within (t0Of bytes) (numbersOf bytes) (order-numbers bytes fine)) .jobs
-
-  -- so there are few enough points on the way for the number that they are handed over in.
+  -- There are few enough points on the way for the number that they are handed over in.
   points-few : (k : ℕ) → pointsUpTo k (t0Of bytes) (jobsIn bytes) ≤ mostPoints * k
   points-few zero = omega arith
   points-few (suc k) =
       omega (
         arith,
         points-few k,
-        prefix-short (t0Of bytes) (suc k) (jobsIn bytes) jobs-fit,
+        prefix-short (t0Of bytes) (suc k) (jobsIn bytes) (jobs-fit bytes fine),
         weight-first (jobsIn bytes) (suc k),
         fine .light,
       )

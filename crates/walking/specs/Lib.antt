@@ -1,9 +1,4 @@
--- From the filled rows to the plan's mask and starts.
+-- From the filled rows to the plan's mask.
 pub mod Trail
-pub mod Picks
-pub mod PicksLaws
-pub mod Places
 pub mod Sources
 pub mod TrailLaws
-pub mod StartsLaws
-pub mod PlanMask

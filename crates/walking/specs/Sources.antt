@@ -17,7 +17,7 @@ use Rattle.order.specs.Within.{JobWithin}
 use Rattle.order.specs.Moves.{latestAt, latestBefore, lastStart}
 use Rattle.packed.specs.Packed.{jobOf, isCritical}
 use Rattle.fields.specs.declared.Job.{Job as Numbers}
-use Rattle.fields.specs.Fields.{fieldsOf}
+use Rattle.fields.specs.Fields.{fieldsOf, asJob}
 use Rattle.fields.specs.Facts.{JobFacts}
 use Rattle.cells.specs.Work.{never, seen, leaves}
 use Rattle.rows.specs.Row.{Row, nextRow, By}
@@ -25,7 +25,7 @@ use Rattle.rows.specs.RowLaws.{nothing-there}
 use Rattle.rows.specs.Walk.{inTime, sourceOf, Source, firstSource}
 use Rattle.rows.specs.WalkLaws.{source-is, source-found}
 use Rattle.walking.specs.declared.Trail.{Trail}
-use Rattle.walking.specs.Trail.{asJob, lastStartOf, stepBack}
+use Rattle.walking.specs.Trail.{lastStartOf, stepBack}
 
 -- A latest time before a job within its limits stays in range.
 pub latest-in-range : (j : Job) (x : ℕ) (by e : ℤ) → JobWithin j → InFree by → latestBefore j x by ≡ some e → InFree e

@@ -12,19 +12,15 @@ use Rattle.seconds.specs.Ranges.{Between, InTime, InFree}
 use Rattle.seconds.specs.Signed.{minZ}
 use Rattle.order.specs.Job.{Job, gainOf, picks, weightOf}
 use Rattle.order.specs.Choice.{bitOf, mask}
-use Rattle.packed.specs.Packed.{countOf, t0Of, numbersOf, jobOf, jobsOf, jobsIn}
+use Rattle.packed.specs.Packed.{countOf, t0Of, jobsIn}
 use Rattle.packed.specs.Refusals.{fieldsWithin}
 use Rattle.packed.specs.Accepted.{OrderFine}
 use Rattle.fields.specs.declared.Job.{Job as Numbers}
-use Rattle.fields.specs.Fields.{fieldsOf}
+use Rattle.fields.specs.Fields.{fieldsOf, asJob}
 use Rattle.cells.specs.Work.{rowAt}
 use Rattle.rows.specs.Row.{Row, startRow, nextRow, rowAfter, By}
 use Rattle.rows.specs.Walk.{Source, firstSource, walkBack}
 use Rattle.walking.specs.declared.Trail.{Trail}
-
--- The job that six numbers mean.
-abbrev pub asJob : Numbers → Job
-asJob numbers = jobOf (fieldsOf numbers)
 
 -- ---- the work area
 

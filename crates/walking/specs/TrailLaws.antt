@@ -18,7 +18,9 @@ use Rattle.packed.specs.Layout.{decode, numberOf, jobLayout}
 use Rattle.packed.specs.Packed.{countOf, t0Of, jobsIn}
 use Rattle.packed.specs.Accepted.{OrderFine}
 use Rattle.fields.specs.declared.Job.{Job as Numbers}
-use Rattle.fields.specs.Fields.{fieldsOf}
+use Rattle.fields.specs.Fields.{fieldsOf, asJob}
+use Rattle.fields.specs.Places.{place-below, back-more, weight-more, weight-up-to}
+use Rattle.fields.specs.Places.{jobs-count, job-there, job-fine, job-limits}
 use Rattle.cells.specs.Work.{rowAt}
 use Rattle.profile.specs.Profile.{startPoint}
 use Rattle.rows.specs.Row.{Row, startRow, nextRow, rowAfter, rowBack, By}
@@ -26,9 +28,7 @@ use Rattle.rows.specs.RowLaws.{earliest-says, back-is}
 use Rattle.rows.specs.Walk.{Source, firstSource, foldBack, walkBack, Bits, withPick}
 use Rattle.rows.specs.WalkLaws.{HasSource, source-found, fold-step, Walked, walk-first, walk-bits, bitsOf, bits-mask}
 use Rattle.walking.specs.declared.Trail.{Trail}
-use Rattle.walking.specs.Trail.{asJob, RowsFilled, StepsBack, trailBefore, stepBack, walkMask}
-use Rattle.walking.specs.Places.{place-below, back-more, weight-more, weight-up-to}
-use Rattle.walking.specs.Places.{jobs-count, job-there, job-fine, job-limits}
+use Rattle.walking.specs.Trail.{RowsFilled, StepsBack, trailBefore, stepBack, walkMask}
 use Rattle.walking.specs.Sources.{latest-in-range, job-written}
 
 -- The bits of a mask with so many empty places below, and the worth of the next one.

@@ -3,7 +3,7 @@
 use mathlib.Core.Path.{ap, _∙_}
 use denote.Ref.{now}
 use borrow.Author.Needs.{needs}
-use Rattle.planner.specs.Calls.{extendedOf}
+use Rattle.extending.specs.Calls.{extendedOf}
 use Rattle.plan_answers.specs.Numbers.{extendNumbers}
 use Rattle.leafanchor.proofs.leafanchor_extend.Statement.{statement}
 use Rattle.leafanchor.proofs.leafanchor_extend.Tie as tie

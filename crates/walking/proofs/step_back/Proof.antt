@@ -14,13 +14,13 @@ use borrow.Author.Needs.{needs}
 use Rattle.seconds.specs.Ranges.{free-fits, rest-small}
 use Rattle.seconds.specs.Signed.{signed, abs-is}
 use Rattle.packed.specs.Packed.{isCritical}
-use Rattle.fields.specs.Fields.{fieldsOf}
+use Rattle.fields.specs.Fields.{fieldsOf, asJob}
 use Rattle.fields.specs.Facts.{JobFacts, job-facts, JobFits, facts-fit}
 use Rattle.cells.specs.Work.{never, seen, leaves, rowAt}
 use Rattle.cells.specs.CellLaws.{read-back}
 use Rattle.rows.specs.Row.{Row}
 use Rattle.walking.specs.declared.Trail.{Trail}
-use Rattle.walking.specs.Trail.{asJob, lastStartOf, stepBack}
+use Rattle.walking.specs.Trail.{lastStartOf, stepBack}
 use Rattle.walking.specs.Sources.{step-left, step-kept}
 use Rattle.walking.proofs.step_back.Statement.{statement}
 use Rattle.walking.proofs.step_back.Tie as tie

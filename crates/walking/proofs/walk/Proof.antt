@@ -10,8 +10,8 @@ use mir.Val.{toZ, ofZ}
 use mir.Facts.{toZ-ofZ}
 use Rattle.packed.specs.Packed.{t0Of, jobsIn}
 use Rattle.fields.specs.declared.Job.{Job}
+use Rattle.fields.specs.Places.{jobs-count}
 use Rattle.walking.specs.declared.Trail.{Trail}
-use Rattle.walking.specs.Places.{jobs-count}
 use Rattle.walking.specs.TrailLaws.{OnTrail, on-start, on-end, CanStep, can-step}
 use Rattle.walking.proofs.walk.Statement.{statement}
 use Rattle.walking.proofs.walk.Tie as tie

@@ -1,0 +1,88 @@
+-- `extending::extend_profile` meets its contract: the profile is judged, then the weights together.
+-- Assumes nothing.
+use mathlib.Core.Path.{_≡_, sym, _∙_}
+use mathlib.Core.Bool.{true}
+use native.Mathlib.Omega.{arith}
+use denote.Ref.{now}
+use borrow.Author.Needs.{needs}
+use borrow.Author.Tests.{not-true, not-false}
+use Rattle.profiles.specs.Numbers.{holdsProfile}
+use Rattle.filling.specs.FirstRowLaws.{last-light}
+use Rattle.extending.specs.CallLaws.{extend-passed, extend-not-valid, extend-too-heavy}
+use Rattle.extending.proofs.extend_profile.Statement.{statement}
+use Rattle.extending.proofs.extend_profile.Tie as tie
+
+valid-requires : tie.Need-valid-requires
+valid-requires c κs = search needs
+
+returns : tie.Need-returns
+returns c =
+    let s = c .before .before .before in
+    extend-not-valid (now (s .args .profile)) (now (s .args .bytes)) (now (s .args .out)) (now (s .args .work)) (s .pre)
+    (sym (c .before .valid .ensures) ∙ not-true _ (c .if1 .taken))
+
+-- Past the test the profile is valid.
+is-valid : (c : tie.Else1) → holdsProfile (now (c .before .before .before .args .profile)) ≡ true
+is-valid c = sym (c .before .valid .ensures) ∙ not-false _ (c .if1 .left)
+
+last-weight-requires : tie.Need-last-weight-requires
+last-weight-requires c κs = is-valid c
+
+cast-judge-weight : tie.Need-cast-judge-weight
+cast-judge-weight c =
+    let v = c .before in
+    omega (arith, c .last-weight .ensures, last-light (now (v .before .before .before .args .profile)) (is-valid v))
+
+judge-weight-requires : tie.Need-judge-weight-requires
+judge-weight-requires c κs = search needs
+
+enum-known-number : tie.Need-enum-known-number
+enum-known-number c = search needs
+
+enum-told : tie.Need-enum-told
+enum-told c = search needs
+
+extend-with-room-requires : tie.Need-extend-with-room-requires
+extend-with-room-requires c κs =
+    let e = c .before .before in
+    let w = e .before .before .before in
+    let v = w .before in
+    let s = v .before .before .before in
+    extend-passed (now (s .args .profile)) (now (s .args .bytes)) (s .pre) (is-valid v) (w .last-weight .ensures)
+    (sym (e .before .before .judge-weight .ensures) ∙ e .enum-told .given .1)
+
+returns-2 : tie.Need-returns-2
+returns-2 c =
+    let r = c .before .number .given in
+    let w = c .before .before .before .before in
+    let v = w .before in
+    let s = v .before .before .before in
+    extend-too-heavy (now (s .args .profile)) (now (s .args .bytes)) (now (s .args .out)) (now (s .args .work)) (s .pre)
+    (r .0 .0) (r .0 .1 .0) (is-valid v) (w .last-weight .ensures)
+    (sym (c .before .before .before .judge-weight .ensures) ∙ r .1)
+
+same-length : tie.Need-same-length
+same-length c = search needs
+
+same-length-2 : tie.Need-same-length-2
+same-length-2 c = search needs
+
+returns-3 : tie.Need-returns-3
+returns-3 c = c .before .before .extend-with-room .ensures
+
+pub extend-profile-spec : {M : Type 1} → statement M
+extend-profile-spec =
+    tie.close
+    (tie.spec
+    valid-requires
+    returns
+    last-weight-requires
+    cast-judge-weight
+    judge-weight-requires
+    enum-known-number
+    enum-told
+    extend-with-room-requires
+    returns-2
+    same-length
+    same-length-2
+    returns-3)

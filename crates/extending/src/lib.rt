@@ -1,0 +1,95 @@
+// The call that extends a profile by a packed order. Any numbers, bytes and buffers have an answer. Assumes
+// nothing.
+use cells::ROW;
+use cells::clear;
+use counting::write_profile;
+use fields::header_at;
+use filling::fill_rows;
+use filling::last_weight;
+use filling::start_profile;
+use judge::Verdict;
+use judge::judge_jobs;
+use judge::judge_weight;
+use profiles::valid;
+ghost use mathlib.Core.Path.{_≡_};
+ghost use mathlib.Core.List.{_++_};
+ghost use Rattle.packed.specs.Judge.{fine, judge};
+ghost use Rattle.packed.specs.Packed.{numbersOf};
+ghost use Rattle.packed.specs.Refusals.{headerChecks, jobChecks};
+ghost use Rattle.extending.specs.Calls.{extendJudged, ExtendCall};
+ghost use Rattle.extending.specs.Extending.{CanExtend, ExtendedIn};
+
+// What extending answers: a refusal with its number and place, or how many points were written.
+pub enum Extended {
+    Refused(u32, usize),
+    Points(usize),
+}
+
+// How many numbers all rows take together.
+const AREA: usize = 14_749;
+
+// The room that is wanted for a profile, in numbers.
+const ROOM: usize = 602;
+
+// The extended profile by the rows of all jobs, written to the front of `out`. Returns how many points.
+fn extend_by_rows(profile: &[i32], bytes: &[u8], out: &mut [i32], work: &mut [i32]) -> usize
+    requires { ⌜ CanExtend (now profile) (now bytes) (now out) (now work) ⌝ }
+    ensures { λ r. ⌜
+        ExtendedIn (now (profile .entry)) (now (bytes .entry)) (now (out .entry)) (now (work .entry)) r
+        (now (out .exit)) (now (work .exit)) ⌝ }
+{
+    let header = header_at(bytes);
+    let n = header.count;
+    let first = start_profile(work, profile);
+    let top = fill_rows(work, bytes, n, first);
+    let last = n * ROW;
+    write_profile(work, last, top, out)
+}
+
+// Extending by an order that has passed the checks before the room: the room is judged, and the work area
+// is cleared behind.
+fn extend_with_room(profile: &[i32], bytes: &[u8], out: &mut [i32], work: &mut [i32]) -> Extended
+    requires { ⌜ judge (extendJudged (now profile) (now bytes)) ≡ fine ⌝ }
+    ensures { λ r. ⌜
+        ExtendCall (now (profile .entry)) (now (bytes .entry)) (now (out .entry)) (now (work .entry)) r
+        (now (out .exit)) (now (work .exit)) ⌝ }
+{
+    if out.len() < ROOM {
+        return Extended::Refused(10, 0);
+    }
+    if work.len() < AREA {
+        return Extended::Refused(10, 0);
+    }
+    let points = extend_by_rows(profile, bytes, out, work);
+    clear(work);
+    Extended::Points(points)
+}
+
+// Extending by bytes that have passed 1 to 7: the profile is judged, and its last weight with the order's.
+fn extend_profile(profile: &[i32], bytes: &[u8], out: &mut [i32], work: &mut [i32]) -> Extended
+    requires { ⌜ judge (headerChecks (now bytes) ++ jobChecks (numbersOf (now bytes))) ≡ fine ⌝ }
+    ensures { λ r. ⌜
+        ExtendCall (now (profile .entry)) (now (bytes .entry)) (now (out .entry)) (now (work .entry)) r
+        (now (out .exit)) (now (work .exit)) ⌝ }
+{
+    if !valid(profile) {
+        return Extended::Refused(8, 0);
+    }
+    let before = last_weight(profile);
+    match judge_weight(bytes, before as u32) {
+        Verdict::Refused(number, place) => Extended::Refused(number, place),
+        Verdict::Fine => extend_with_room(profile, bytes, out, work),
+    }
+}
+
+// A profile extended by a packed order, written to the front of `out`; what is past it stays.
+pub fn extend(profile: &[i32], bytes: &[u8], out: &mut [i32], work: &mut [i32]) -> Extended
+    ensures { λ r. ⌜
+        ExtendCall (now (profile .entry)) (now (bytes .entry)) (now (out .entry)) (now (work .entry)) r
+        (now (out .exit)) (now (work .exit)) ⌝ }
+{
+    match judge_jobs(bytes) {
+        Verdict::Refused(number, place) => Extended::Refused(number, place),
+        Verdict::Fine => extend_profile(profile, bytes, out, work),
+    }
+}
