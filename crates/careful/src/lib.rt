@@ -32,6 +32,14 @@ pub fn front(numbers: &[i32], many: usize) -> &[i32] {
     numbers
 }
 
+// The same of bytes.
+pub fn front_bytes(bytes: &[u8], many: usize) -> &[u8] {
+    if many <= bytes.len() {
+        return &bytes[0..many];
+    }
+    bytes
+}
+
 // Whether two runs of numbers are the same.
 pub fn same(one: &[i32], other: &[i32]) -> bool {
     if one.len() != other.len() {

@@ -28,14 +28,6 @@ pub fn make_order(part: &[u8], bytes: &mut [u8]) -> usize {
     pack_order(front(&numbers, many), bytes)
 }
 
-// The first so many bytes, or all where there are fewer.
-pub fn front_bytes(bytes: &[u8], many: usize) -> &[u8] {
-    if many <= bytes.len() {
-        return &bytes[0..many];
-    }
-    bytes
-}
-
 // Points of weight 0, 1, 2 and so on, so many seconds apart. Returns how many numbers.
 fn put_stair(first: i32, apart: i32, points: i32, numbers: &mut [i32]) -> usize {
     let mut time = first;

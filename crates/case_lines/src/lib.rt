@@ -4,7 +4,6 @@ mod given;
 mod lines;
 mod told;
 
-pub use given::front_bytes;
 pub use given::make_order;
 pub use given::make_profile;
 pub use lines::between;

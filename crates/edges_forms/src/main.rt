@@ -2,9 +2,9 @@
 // reader opened over an order takes a step from a place, and a lookup at a time goes over so many of a few
 // point records. Behind a bar stands the order, or the records.
 use careful::at;
+use careful::front_bytes;
 use case_lines::between;
 use case_lines::byte_at;
-use case_lines::front_bytes;
 use case_lines::is_case;
 use case_lines::make_order;
 use case_lines::part;

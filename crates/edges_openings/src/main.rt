@@ -1,10 +1,10 @@
 // Answers the cases of standard input on openings and the reader, one a line: a name that begins with the
 // call's, the work area's room and the time or place, and behind bars the orders. The answer is the name,
 // what the call answered, and behind a bar all that the work area holds after it.
+use careful::front_bytes;
 use case_lines::between;
 use case_lines::byte_at;
 use case_lines::count_setting;
-use case_lines::front_bytes;
 use case_lines::is_case;
 use case_lines::make_order;
 use case_lines::part;

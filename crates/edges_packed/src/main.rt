@@ -3,10 +3,10 @@
 // unpacked. The answer is the name, what the call answered, and behind a bar all that the lent buffer
 // holds after it.
 use careful::front;
+use careful::front_bytes;
 use case_lines::between;
 use case_lines::byte_at;
 use case_lines::count_setting;
-use case_lines::front_bytes;
 use case_lines::is_case;
 use case_lines::part;
 use case_lines::place_of;

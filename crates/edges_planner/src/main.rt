@@ -3,10 +3,10 @@
 // the name, what the call answered, and behind bars all that the lent buffers hold after it.
 use better::Joined;
 use careful::front;
+use careful::front_bytes;
 use case_lines::between;
 use case_lines::byte_at;
 use case_lines::count_setting;
-use case_lines::front_bytes;
 use case_lines::is_case;
 use case_lines::make_order;
 use case_lines::make_profile;

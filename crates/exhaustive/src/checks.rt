@@ -12,6 +12,7 @@ use by_hand::Best;
 use careful::all_are;
 use careful::at;
 use careful::front;
+use careful::front_bytes;
 use careful::is_count;
 use careful::plus;
 use careful::same;
@@ -35,14 +36,6 @@ fn pack_order(t0: i32, numbers: &[i32], bytes: &mut [u8]) -> usize {
         Packed::Refused(_, _) => 0,
         Packed::Bytes(written) => written,
     }
-}
-
-// The first so many bytes, or all where there are fewer.
-fn front_bytes(bytes: &[u8], many: usize) -> &[u8] {
-    if many <= bytes.len() {
-        return &bytes[0..many];
-    }
-    bytes
 }
 
 // Whether a call left the work area as it should, full of one number, and what is past it as it was.
