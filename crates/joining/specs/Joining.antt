@@ -1,10 +1,8 @@
--- Demand 3 over the calls: extending by one order and then by another writes what extending by the joined order writes, and
--- extending what better-of wrote writes the better-of of both extended. Each statement is about any outcomes that the calls'
--- contracts allow; empty profiles, numbers and orders are among them.
-use Prim.Native.Nat.{ℕ, _+_, _*_, _-_, _≤_, _<_}
-use mathlib.Core.Path.{_≡_, refl, sym, ap, _∙_}
+-- Demand 3, proved: both equations of R16, over any outcomes that the contracts allow. Empty profiles and orders are among them.
+use Prim.Native.Nat.{ℕ, _+_, _*_, _-_, _≤_}
+use mathlib.Core.Path.{_≡_, refl, sym, ap, ap₂, _∙_}
 use mathlib.Core.Bool.{true, false}
-use mathlib.Core.Logic.{⊎-elim}
+use mathlib.Core.Logic.{_↔_, ⊎-elim}
 use mathlib.Core.List.{List, _++_, List·Memᴰ·append-cases as in-either}
 use mathlib.Core.Option.{Option, none, some}
 use native.Mathlib.Omega.{arith}
@@ -14,32 +12,32 @@ use lib.ListN.{length, take, drop}
 use lib.Seq.{take-at}
 use Rattle.seconds.specs.Limits.{mostWeight}
 use Rattle.seconds.specs.Signed.{signed}
-use Rattle.order.specs.Job.{Point, jobsWithin, weightOf}
+use Rattle.order.specs.Job.{Order, Point, jobsWithin, weightOf}
 use Rattle.order.specs.Within.{weightOf-append}
 use Rattle.profile.specs.Profile.{validProfile, extend, betterOf, lastPoint, weightOr0, lastWeight}
 use Rattle.profile.specs.Points.{profileOf-member}
 use Rattle.profile.specs.Last.{last-member, last-heaviest}
 use Rattle.profile.specs.Joining.{extend-extend, extend-betterOf}
 use Rattle.profile.specs.Closure.{valid-holds, extend-light, valid-extend, valid-betterOf}
-use Rattle.packed.specs.Judge.{fine, judge}
-use Rattle.packed.specs.Packed.{countOf, t0Of, numbersOf, jobCount, fieldsAt, orderOf, jobsIn}
-use Rattle.packed.specs.PlacesLaws.{part-first, part-second}
-use Rattle.packed.specs.PackedLaws.{length-numbers, numbers-count, count-append, jobs-append}
-use Rattle.packed.specs.Refusals.{orderChecks, numberAt}
-use Rattle.packed.specs.RefusalLaws.{header-fine, JobsFine}
-use Rattle.packed.specs.Accepted.{numbers-fine, order-fine, jobs-fit}
-use Rattle.packed.specs.RoundTrip.{unpack-pack}
+use Rattle.packed.specs.Judge.{Verdict, fine, refused, judge}
+use Rattle.packed.specs.JudgeLaws.{stages-fine}
+use Rattle.packed.specs.Packed.{orderOf, jobsIn}
+use Rattle.packed.specs.Refusals.{roomChecks}
+use Rattle.packed.specs.Accepted.{order-fine, jobs-fit}
 use Rattle.profiles.specs.Numbers.{mostNumbers, alternating, holdsProfile, writtenOver}
 use Rattle.profiles.specs.NumbersLaws.{alternating-length, profile-back, held, profile-there}
+use Rattle.better.specs.Answer.{joinedOf, outAfter as joinedAfter, pointsWritten as pointsJoined}
 use Rattle.better.specs.declared.Joined.{Joined}
 use Rattle.better.specs.declared.Joined.the-variants.{Points as JoinedPoints}
-use Rattle.extending.specs.Calls.{profileGiven, extension, ExtendCall}
+use Rattle.cells.specs.Work.{area}
+use Rattle.extending.specs.Calls.{profileGiven, extendJudged, extendChecks, extendVerdict, extension, extendedBy, extendedOf}
+use Rattle.extending.specs.Calls.{ExtendCall, pointsWritten}
 use Rattle.extending.specs.CallLaws.{given-read, extend-fine}
-use Rattle.extending.specs.ExtendingLaws.{Accepted, accepted, accepted-order}
+use Rattle.extending.specs.ExtendingLaws.{Accepted as AllFine, accepted, accepted-order}
 use Rattle.extending.specs.declared.Extended.{Extended}
 use Rattle.extending.specs.declared.Extended.the-variants.{Points}
-use Rattle.joining.specs.TwoWays.{Room, AcceptedAfter, wrote, BetterCall, wroteJoined, joinedBytes}
-use Rattle.joining.specs.TwoWays.{Joinable, OneByOne, BetterFirst}
+use Rattle.joining.specs.Calls.{Extending, Accepted, lent, left, extended, BetterOf, BetterAccepted, lentBetter, leftBetter, better}
+use Rattle.joining.specs.Demand3.{Joins, OneByOne, BetterFirst, Demand3}
 
 -- ---- profiles as numbers
 
@@ -70,278 +68,258 @@ last-at-most ps m h = go (lastPoint ps) refl
     go none e = omega arith
     go (some q) e = h q e
 
--- ---- extending by an accepted order
+-- ---- a call of extending, and an order that is accepted
 
-module _ (ns : List ℤ) (bytes : List ℕ) (after : AcceptedAfter ns bytes) where
-  all : Accepted ns bytes
-  all = accepted ns bytes .0 after
+-- An order is accepted after a profile: of refusals 1 to 9 none applies.
+abbrev pub AcceptedAfter : List ℤ → List ℕ → Type 0
+AcceptedAfter P A = judge (extendJudged P A) ≡ fine
 
-  given-fits : T (validProfile (profileGiven ns))
-  given-fits = given-valid ns (all .valid)
+-- What the generated contract allows is what the record of a call says.
+call : {P : List ℤ} {A : List ℕ} (e : Extending P A)
+    → ExtendCall P A (lent e) (e .args .1 .1 .1 .0 .now) (e .answer) (left e) (e .exit .1 .1 .1 .0 .now)
+call e = rw (e .profile, e .order) at (e .allowed)
 
-  within : T (jobsWithin (jobsIn bytes))
-  within = jobs-fit bytes (accepted-order all)
+module _ (P : List ℤ) (A : List ℕ) (after : AcceptedAfter P A) where
+  all : AllFine P A
+  all = accepted P A .0 after
 
-  extension-is : extension ns bytes ≡ extend (profileGiven ns) (jobsIn bytes)
+  given-fits : T (validProfile (profileGiven P))
+  given-fits = given-valid P (all .valid)
+
+  within : T (jobsWithin (jobsIn A))
+  within = jobs-fit A (accepted-order all)
+
+  extension-is : extension P A ≡ extend (profileGiven P) (jobsIn A)
   unfolding orderOf
   extension-is = refl
 
   -- The result is a valid profile,
-  valid-extension : T (validProfile (extension ns bytes))
-  valid-extension = rw extension-is (valid-extend (profileGiven ns) (jobsIn bytes) given-fits within (all .light))
+  valid-extension : T (validProfile (extension P A))
+  valid-extension = rw extension-is (valid-extend (profileGiven P) (jobsIn A) given-fits within (all .light))
 
   -- no heavier than the profile and the order together.
-  extension-light : lastWeight (extension ns bytes) ≤ lastWeight (profileGiven ns) + weightOf (jobsIn bytes)
+  extension-light : lastWeight (extension P A) ≤ lastWeight (profileGiven P) + weightOf (jobsIn A)
   extension-light =
       rw extension-is
-      (last-at-most (extend (profileGiven ns) (jobsIn bytes)) _
-      (λ q e. extend-light (jobsIn bytes) (valid-holds (profileGiven ns) given-fits .rises) within q (last-member _ e)))
+      (last-at-most (extend (profileGiven P) (jobsIn A)) _
+      (λ q e. extend-light (jobsIn A) (valid-holds (profileGiven P) given-fits .rises) within q (last-member _ e)))
 
-  -- A call with room answers with it and writes it.
-  module _ {out work : List ℤ} {r : Extended} {out′ work′ : List ℤ} (room : Room out work)
-      (call : ExtendCall ns bytes out work r out′ work′) where
-    call-answers : r ≡ Points (length (extension ns bytes))
-    call-answers = call .answer ∙ rw (extend-fine ns bytes out work after (room .places) (room .rows))
+  -- A call answers with it and writes it.
+  module _ (e : Extending P A) where
+    answers : e .answer ≡ Points (length (extension P A))
+    answers = call e .answer ∙ rw (extend-fine P A (lent e) _ after (e .room) (e .rows))
 
-    call-writes : out′ ≡ writtenOver (alternating (extension ns bytes)) out
-    call-writes = call .written ∙ rw (extend-fine ns bytes out work after (room .places) (room .rows))
+    leaves : left e ≡ writtenOver (alternating (extension P A)) (lent e)
+    leaves = call e .written ∙ rw (extend-fine P A (lent e) _ after (e .room) (e .rows))
 
-    call-wrote : wrote r out′ ≡ alternating (extension ns bytes)
-    call-wrote = rw (call-answers, call-writes) (front-written (extension ns bytes) out)
+    writes : extended e ≡ alternating (extension P A)
+    writes =
+        ap₂ (λ (r : Extended) (out : List ℤ). take (2 * pointsWritten r) out) answers leaves
+        ∙ front-written (extension P A) (lent e)
 
--- ---- the joined order
+    -- It is accepted.
+    takes : Accepted e
+    takes = rw answers
 
-module _ {a b : List ℕ} (j : Joinable a b) where
-  abbrev joined : List ℤ
-  joined = numbersOf a ++ numbersOf b
+-- An answer with points says so.
+points-accepted : (P : List ℤ) (A : List ℕ) (out work : List ℤ) {n : ℕ} → extendedOf P A out work ≡ Points n → AcceptedAfter P A
+unfolding extendChecks
+points-accepted P A out work {n} e = go (extendVerdict P A out work) refl e
+  where
+    go : (v : Verdict) → extendVerdict P A out work ≡ v → extendedBy v (extension P A) ≡ Points n → AcceptedAfter P A
+    go fine f h =
+        let judged = extendJudged P A in
+        let places = roomChecks mostNumbers (length out) in
+        stages-fine judged places .0 (stages-fine (judged ++ places) (roomChecks area (length work)) .0 f .0) .0
+    go (refused m p) f h = let z : _≡_ {A = ℕ} 0 1 = cc in absurd (omega arith)
 
-  joined-numbers : numbersOf (joinedBytes a b) ≡ joined
-  joined-numbers = unpack-pack (t0Of a) joined (j .packs) .2
+-- So, with room, a call is accepted exactly where the order is accepted after the profile.
+pub accepted-after : {P : List ℤ} {A : List ℕ} (e : Extending P A) → Accepted e ↔ AcceptedAfter P A
+accepted-after {P} {A} e = (λ yes. points-accepted P A _ _ (sym (call e .answer) ∙ yes), λ after. takes P A after e)
 
-  joined-jobs : jobsIn (joinedBytes a b) ≡ jobsIn a ++ jobsIn b
-  joined-jobs = rw joined-numbers (jobs-append (numbersOf a) (numbersOf b) (countOf a) (length-numbers a))
+-- ---- extending one by one
 
-  joined-weight : weightOf (jobsIn (joinedBytes a b)) ≡ weightOf (jobsIn a) + weightOf (jobsIn b)
-  joined-weight = rw joined-jobs (weightOf-append (jobsIn a) (jobsIn b))
+module _ (P : List ℤ) {A B J : List ℕ} (j : Joins A B J) (after : AcceptedAfter P J) where
+  joined-jobs : jobsIn J ≡ jobsIn A ++ jobsIn B
+  unfolding orderOf
+  joined-jobs = ap (λ (o : Order). o .jobs) (j .both)
 
-  joined-count : jobCount joined ≡ countOf a + countOf b
-  joined-count = count-append (numbersOf a) (numbersOf b) (countOf a) (length-numbers a) ∙ rw (numbers-count b)
+  light : lastWeight (profileGiven P) + (weightOf (jobsIn A) + weightOf (jobsIn B)) ≤ mostWeight
+  light = rw (joined-jobs, weightOf-append (jobsIn A) (jobsIn B)) at (all P J after .light)
 
-  -- What 6 and 7 say of the joined order they say of both.
-  joined-fine : JobsFine joined
-  joined-fine = numbers-fine (t0Of a) joined .0 (j .packs) .jobs
+  -- Where the joined order is accepted after a profile, so is the first,
+  first-accepted : AcceptedAfter P A
+  first-accepted =
+      let order = order-fine A .0 (j .first) in
+      accepted P A .1
+      (record { header = order .header; jobs = order .jobs; valid = all P J after .valid; light = omega (arith, light) })
 
-  first-fields : (k : ℕ) → k < countOf a → fieldsAt joined k ≡ fieldsAt (numbersOf a) k
-  unfolding fieldsAt
-  first-fields k h = part-first 6 (numbersOf a) (numbersOf b) k (omega (arith, length-numbers a))
+  abbrev middle : List ℤ
+  middle = alternating (extension P A)
 
-  second-fields : (k : ℕ) → fieldsAt joined (countOf a + k) ≡ fieldsAt (numbersOf b) k
-  unfolding fieldsAt
-  second-fields k = part-second 6 (numbersOf a) (numbersOf b) (countOf a) k (length-numbers a)
+  -- and the second after what the first gives.
+  second-accepted : AcceptedAfter middle B
+  second-accepted =
+      let order = order-fine B .0 (j .second) in
+      let valid = valid-extension P A first-accepted in
+      let weight = extension-light P A first-accepted in
+      accepted middle B .1
+      (record {
+        header = order .header;
+        jobs = order .jobs;
+        valid = holds-back (extension P A) valid;
+        light = omega (arith, ap lastWeight (given-back (extension P A) valid), weight, light);
+      })
 
-  first-jobs : JobsFine (numbersOf a)
-  unfolding numberAt
-  first-jobs =
+  -- Both ways give one profile.
+  joined-extension : extension middle B ≡ extension P J
+  unfolding orderOf
+  joined-extension =
+      rw (given-back (extension P A) (valid-extension P A first-accepted), joined-jobs)
+      (extend-extend (profileGiven P) (jobsIn A) (jobsIn B))
+
+  -- Extending by A and then by B is extending by the joined order, where that is accepted after the profile.
+  pub extend-one-by-one : (by-A : Extending P A) (then-B : Extending (extended by-A) B) (by-J : Extending P J)
+      → OneByOne by-A then-B by-J
+  extend-one-by-one by-A then-B by-J =
+      let wrote = writes P A first-accepted by-A in
+      let next : AcceptedAfter (extended by-A) B = rw wrote second-accepted in
+      let same : extension (extended by-A) B ≡ extension P J = rw wrote joined-extension in
+      let s = answers (extended by-A) B next then-B in
+      let t = answers P J after by-J in
       record {
-        within = λ k h. let l : k < countOf a = omega (arith, numbers-count a) in
-            rw (first-fields k l) at (joined-fine .within k (omega (arith, joined-count)));
-        unlike = λ i k h l.
-            let m : k < countOf a = omega (arith, numbers-count a) in
-            rw (first-fields i (omega arith), first-fields k m) at (joined-fine .unlike i k h (omega (arith, joined-count)));
+        A-accepted = takes P A first-accepted by-A;
+        B-accepted = takes (extended by-A) B next then-B;
+        J-accepted = takes P J after by-J;
+        answers = s ∙ ap (λ (ps : List Point). Points (length ps)) same ∙ sym t;
+        writes = writes (extended by-A) B next then-B ∙ ap alternating same ∙ sym (writes P J after by-J);
+        leaves = λ e.
+            leaves (extended by-A) B next then-B
+            ∙ ap₂ (λ (ps : List Point) (out : List ℤ). writtenOver (alternating ps) out) same e
+            ∙ sym (leaves P J after by-J);
       }
 
-  second-jobs : JobsFine (numbersOf b)
-  unfolding numberAt
-  second-jobs =
-      record {
-        within = λ k h. rw (second-fields k) at (joined-fine .within (countOf a + k) (omega (arith, joined-count, numbers-count b)));
-        unlike = λ i k h l.
-            rw (second-fields i, second-fields k)
-            at (joined-fine .unlike (countOf a + i) (countOf a + k) (omega arith) (omega (arith, joined-count, numbers-count b)));
-      }
-
-  -- So each of the three is accepted as an order.
-  pub orders-accepted : (judge (orderChecks a) ≡ fine) × (judge (orderChecks b) ≡ fine) × (judge (orderChecks (joinedBytes a b)) ≡ fine)
-  orders-accepted =
-      let light = numbers-fine (t0Of a) joined .0 (j .packs) .light in
-      let weight = ap weightOf (jobs-append (numbersOf a) (numbersOf b) (countOf a) (length-numbers a))
-      ∙ weightOf-append (jobsIn a) (jobsIn b) in (
-        order-fine a .1 (record { header = header-fine a .0 (j .first); jobs = first-jobs; light = omega arith }),
-        order-fine b .1 (record { header = header-fine b .0 (j .second); jobs = second-jobs; light = omega arith }),
-        unpack-pack (t0Of a) joined (j .packs) .0,
-      )
-
-  module _ (p : List ℤ) (after : AcceptedAfter p (joinedBytes a b)) where
-    whole : Accepted p (joinedBytes a b)
-    whole = accepted p (joinedBytes a b) .0 after
-
-    -- Where the joined order is accepted after a profile, so is the first,
-    pub first-accepted : AcceptedAfter p a
-    first-accepted =
-        accepted p a .1
-        (record {
-          header = header-fine a .0 (j .first);
-          jobs = first-jobs;
-          valid = whole .valid;
-          light = omega (arith, whole .light, joined-weight);
-        })
-
-    abbrev middle : List ℤ
-    middle = alternating (extension p a)
-
-    -- and the second after what the first gives.
-    second-accepted : AcceptedAfter middle b
-    second-accepted =
-        let valid = valid-extension p a first-accepted in
-        accepted middle b .1
-        (record {
-          header = header-fine b .0 (j .second);
-          jobs = second-jobs;
-          valid = holds-back (extension p a) valid;
-          light =
-              omega (
-                arith,
-                ap lastWeight (given-back (extension p a) valid),
-                extension-light p a first-accepted,
-                whole .light,
-                joined-weight,
-              );
-        })
-
-    -- Both ways give one profile.
-    joined-extension : extension middle b ≡ extension p (joinedBytes a b)
-    unfolding orderOf
-    joined-extension =
-        rw (given-back (extension p a) (valid-extension p a first-accepted), joined-jobs)
-        (extend-extend (profileGiven p) (jobsIn a) (jobsIn b))
-
--- ---- demand 3, first half
-
--- Extending by A, and what that wrote by B, is extending by the joined order, where that is accepted after the profile.
-pub extend-one-by-one : {p : List ℤ} {a b : List ℕ} → Joinable a b → AcceptedAfter p (joinedBytes a b)
-    → {via w via′ w′ : List ℤ} {first : Extended} → Room via w → ExtendCall p a via w first via′ w′
-    → {out u out′ u′ : List ℤ} {second : Extended} → Room out u → ExtendCall (wrote first via′) b out u second out′ u′
-    → {v out″ v′ : List ℤ} {joined : Extended} → Room out v → ExtendCall p (joinedBytes a b) out v joined out″ v′
-    → OneByOne first second joined out′ out″
-extend-one-by-one {p} {a} {b} j after room call {out} room-b call-b room-j call-j =
-    let before = first-accepted j p after in
-    let then = second-accepted j p after in
-    let same = joined-extension j p after in
-    let on = rw (call-wrote p a before room call) at call-b in
-    let r = call-answers p a before room call in
-    let s = call-answers (middle j p after) b then room-b on in
-    let t = call-answers p (joinedBytes a b) after room-j call-j in
-    record {
-      first-accepts = rw r;
-      second-accepts = rw s;
-      joined-accepts = rw t;
-      points = s ∙ ap (λ (ps : List Point). Points (length ps)) same ∙ sym t;
-      numbers =
-          call-writes (middle j p after) b then room-b on
-          ∙ ap (λ (ps : List Point). writtenOver (alternating ps) out) same
-          ∙ sym (call-writes p (joinedBytes a b) after room-j call-j);
-    }
-
--- ---- demand 3, second half
+-- ---- extending the better
 
 -- The better of two given profiles.
-abbrev pub betterGiven : List ℤ → List ℤ → List Point
-betterGiven p q = betterOf (profileGiven p) (profileGiven q)
+abbrev betterGiven : List ℤ → List ℤ → List Point
+betterGiven P Q = betterOf (profileGiven P) (profileGiven Q)
 
-module _ (p q : List ℤ) (holds-p : holdsProfile p ≡ true) (holds-q : holdsProfile q ≡ true) where
-  valid-better : T (validProfile (betterGiven p q))
-  valid-better = valid-betterOf (profileGiven p) (profileGiven q) (given-valid p holds-p) (given-valid q holds-q)
+module _ (P Q : List ℤ) (holds-P : holdsProfile P ≡ true) (holds-Q : holdsProfile Q ≡ true) where
+  valid-better : T (validProfile (betterGiven P Q))
+  valid-better = valid-betterOf (profileGiven P) (profileGiven Q) (given-valid P holds-P) (given-valid Q holds-Q)
 
-  -- A call of better-of with room answers with it and writes it.
-  module _ {out out′ : List ℤ} {r : Joined} (room : mostNumbers ≤ length out) (call : BetterCall p q out r out′) where
-    long : ltb (length out) mostNumbers ≡ false
-    long = omega signed
+  -- A call of better-of answers with it and writes it.
+  module _ (b : BetterOf P Q) where
+    better-call : (b .answer ≡ joinedOf P Q (lentBetter b)) × (leftBetter b ≡ joinedAfter P Q (lentBetter b))
+    better-call = rw (b .first, b .second) at (b .allowed)
 
-    joins-answers : r ≡ JoinedPoints (length (betterGiven p q))
-    joins-answers = call .answer ∙ rw (profile-there p holds-p, profile-there q holds-q, long)
+    long : ltb (length (lentBetter b)) mostNumbers ≡ false
+    long = omega (signed, b .room)
 
-    joins-writes : out′ ≡ writtenOver (alternating (betterGiven p q)) out
-    joins-writes = call .written ∙ rw (profile-there p holds-p, profile-there q holds-q, long)
+    better-answers : b .answer ≡ JoinedPoints (length (betterGiven P Q))
+    better-answers = better-call .0 ∙ rw (profile-there P holds-P, profile-there Q holds-Q, long)
 
-    joins-wrote : wroteJoined r out′ ≡ alternating (betterGiven p q)
-    joins-wrote = rw (joins-answers, joins-writes) (front-written (betterGiven p q) out)
+    better-leaves : leftBetter b ≡ writtenOver (alternating (betterGiven P Q)) (lentBetter b)
+    better-leaves = better-call .1 ∙ rw (profile-there P holds-P, profile-there Q holds-Q, long)
 
-module _ (p q : List ℤ) (a : List ℕ) (after-p : AcceptedAfter p a) (after-q : AcceptedAfter q a) where
-  accepts-p : Accepted p a
-  accepts-p = all p a after-p
+    better-writes : better b ≡ alternating (betterGiven P Q)
+    better-writes =
+        ap₂ (λ (r : Joined) (out : List ℤ). take (2 * pointsJoined r) out) better-answers better-leaves
+        ∙ front-written (betterGiven P Q) (lentBetter b)
 
-  accepts-q : Accepted q a
-  accepts-q = all q a after-q
+    -- It is accepted.
+    better-takes : BetterAccepted b
+    better-takes = rw better-answers
 
-  better-fits : T (validProfile (betterGiven p q))
-  better-fits = valid-better p q (accepts-p .valid) (accepts-q .valid)
+module _ (P Q : List ℤ) (A : List ℕ) (after-P : AcceptedAfter P A) (after-Q : AcceptedAfter Q A) where
+  accepts-P : AllFine P A
+  accepts-P = all P A after-P
+
+  accepts-Q : AllFine Q A
+  accepts-Q = all Q A after-Q
+
+  better-fits : T (validProfile (betterGiven P Q))
+  better-fits = valid-better P Q (accepts-P .valid) (accepts-Q .valid)
 
   -- The better of two profiles is no heavier than the heavier of them,
-  better-light : lastWeight (betterGiven p q) + weightOf (jobsIn a) ≤ mostWeight
+  better-light : lastWeight (betterGiven P Q) + weightOf (jobsIn A) ≤ mostWeight
   better-light =
-      let most = last-at-most (betterGiven p q) (mostWeight - weightOf (jobsIn a)) λ r e.
+      let most = last-at-most (betterGiven P Q) (mostWeight - weightOf (jobsIn A)) λ r e.
       ⊎-elim
-      (λ m. let h = last-heaviest (valid-holds (profileGiven p) (given-fits p a after-p) .rises) r m in
-      omega (arith, accepts-p .light))
-      (λ m. let h = last-heaviest (valid-holds (profileGiven q) (given-fits q a after-q) .rises) r m in
-      omega (arith, accepts-q .light))
-      (in-either (profileGiven p) (profileOf-member (profileGiven p ++ profileGiven q) (last-member (betterGiven p q) e))) in
-      omega (arith, accepts-p .light)
+      (λ m. let h = last-heaviest (valid-holds (profileGiven P) (given-fits P A after-P) .rises) r m in
+      omega (arith, accepts-P .light))
+      (λ m. let h = last-heaviest (valid-holds (profileGiven Q) (given-fits Q A after-Q) .rises) r m in
+      omega (arith, accepts-Q .light))
+      (in-either (profileGiven P) (profileOf-member (profileGiven P ++ profileGiven Q) (last-member (betterGiven P Q) e))) in
+      omega (arith, accepts-P .light)
 
   -- so an order that is accepted after both is accepted after it.
-  better-accepted : AcceptedAfter (alternating (betterGiven p q)) a
+  better-accepted : AcceptedAfter (alternating (betterGiven P Q)) A
   better-accepted =
-      accepted (alternating (betterGiven p q)) a .1
+      accepted (alternating (betterGiven P Q)) A .1
       (record {
-        header = accepts-p .header;
-        jobs = accepts-p .jobs;
-        valid = holds-back (betterGiven p q) better-fits;
-        light = rw (given-back (betterGiven p q) better-fits) better-light;
+        header = accepts-P .header;
+        jobs = accepts-P .jobs;
+        valid = holds-back (betterGiven P Q) better-fits;
+        light = rw (given-back (betterGiven P Q) better-fits) better-light;
       })
 
   -- Both ways give one profile: what was extended by itself is given back by its numbers.
-  better-extension : extension (alternating (betterGiven p q)) a
-      ≡ betterGiven (alternating (extension p a)) (alternating (extension q a))
+  better-extension : extension (alternating (betterGiven P Q)) A
+      ≡ betterGiven (alternating (extension P A)) (alternating (extension Q A))
   unfolding orderOf
   better-extension =
       rw (
-        given-back (betterGiven p q) better-fits,
-        given-back (extension p a) (valid-extension p a after-p),
-        given-back (extension q a) (valid-extension q a after-q),
+        given-back (betterGiven P Q) better-fits,
+        given-back (extension P A) (valid-extension P A after-P),
+        given-back (extension Q A) (valid-extension Q A after-Q),
       )
-      (extend-betterOf (profileGiven p) (profileGiven q) (jobsIn a))
+      (extend-betterOf (profileGiven P) (profileGiven Q) (jobsIn A))
 
--- Extending what better-of wrote for P and Q by A is better-of of P and Q extended by A, where A is accepted after both.
-pub extend-better-first : {p q : List ℤ} {a : List ℕ} → AcceptedAfter p a → AcceptedAfter q a
-    → {via via′ : List ℤ} {better : Joined} → mostNumbers ≤ length via → BetterCall p q via better via′
-    → {out w out′ w′ : List ℤ} {extended : Extended} → Room out w → ExtendCall (wroteJoined better via′) a out w extended out′ w′
-    → {f u f′ u′ : List ℤ} {first : Extended} → Room f u → ExtendCall p a f u first f′ u′
-    → {g v g′ v′ : List ℤ} {second : Extended} → Room g v → ExtendCall q a g v second g′ v′
-    → {out″ : List ℤ} {joined : Joined} → BetterCall (wrote first f′) (wrote second g′) out joined out″
-    → BetterFirst better extended first second joined out′ out″
-extend-better-first {p} {q} {a} after-p after-q room-b call-b {out} room call room-f call-f room-g call-g call-j =
-    let holds-p = all p a after-p .valid in
-    let holds-q = all q a after-q .valid in
-    let better = alternating (betterGiven p q) in
-    let front = alternating (extension p a) in
-    let back = alternating (extension q a) in
-    let holds-front = holds-back (extension p a) (valid-extension p a after-p) in
-    let holds-behind = holds-back (extension q a) (valid-extension q a after-q) in
-    let after = better-accepted p q a after-p after-q in
-    let same = better-extension p q a after-p after-q in
-    let on = rw (joins-wrote p q holds-p holds-q room-b call-b) at call in
-    let both = rw (call-wrote p a after-p room-f call-f, call-wrote q a after-q room-g call-g) at call-j in
-    let s = call-answers better a after room on in
-    let t = joins-answers front back holds-front holds-behind (room .places) both in
+  -- Extending the better of P and Q by A is the better of P and Q extended by A, where A is accepted after both.
+  pub extend-better-first : (of-PQ : BetterOf P Q) (better-by-A : Extending (better of-PQ) A)
+      (P-by-A : Extending P A) (Q-by-A : Extending Q A) (of-both : BetterOf (extended P-by-A) (extended Q-by-A))
+      → BetterFirst of-PQ better-by-A P-by-A Q-by-A of-both
+  extend-better-first of-PQ better-by-A P-by-A Q-by-A of-both =
+      let holds-P = accepts-P .valid in
+      let holds-Q = accepts-Q .valid in
+      let wrote = better-writes P Q holds-P holds-Q of-PQ in
+      let front = writes P A after-P P-by-A in
+      let back = writes Q A after-Q Q-by-A in
+      let holds-front : holdsProfile (extended P-by-A) ≡ true = rw front (holds-back (extension P A) (valid-extension P A after-P)) in
+      let holds-behind : holdsProfile (extended Q-by-A) ≡ true = rw back (holds-back (extension Q A) (valid-extension Q A after-Q)) in
+      let after : AcceptedAfter (better of-PQ) A = rw wrote better-accepted in
+      let same : extension (better of-PQ) A ≡ betterGiven (extended P-by-A) (extended Q-by-A) = rw (wrote, front, back) better-extension in
+      let s = answers (better of-PQ) A after better-by-A in
+      let t = better-answers (extended P-by-A) (extended Q-by-A) holds-front holds-behind of-both in
+      record {
+        PQ-accepted = better-takes P Q holds-P holds-Q of-PQ;
+        better-accepted = takes (better of-PQ) A after better-by-A;
+        P-accepted = takes P A after-P P-by-A;
+        Q-accepted = takes Q A after-Q Q-by-A;
+        both-accepted = better-takes (extended P-by-A) (extended Q-by-A) holds-front holds-behind of-both;
+        points = ap pointsWritten s ∙ ap length same ∙ sym (ap pointsJoined t);
+        writes =
+            writes (better of-PQ) A after better-by-A
+            ∙ ap alternating same
+            ∙ sym (better-writes (extended P-by-A) (extended Q-by-A) holds-front holds-behind of-both);
+        leaves = λ e.
+            leaves (better of-PQ) A after better-by-A
+            ∙ ap₂ (λ (ps : List Point) (out : List ℤ). writtenOver (alternating ps) out) same e
+            ∙ sym (better-leaves (extended P-by-A) (extended Q-by-A) holds-front holds-behind of-both);
+      }
+
+-- ---- demand 3
+
+pub demand-3 : Demand3
+demand-3 P Q A B J j c joined-P joined-Q =
+    let after-P = accepted-after (c .P-by-J) .0 joined-P in
+    let after-Q = accepted-after (c .Q-by-J) .0 joined-Q in
     record {
-      better-accepts = rw (joins-answers p q holds-p holds-q room-b call-b);
-      extended-accepts = rw s;
-      first-accepts = rw (call-answers p a after-p room-f call-f);
-      second-accepts = rw (call-answers q a after-q room-g call-g);
-      joined-accepts = rw t;
-      points = rw (s, t) (ap (λ (ps : List Point). length ps) same);
-      numbers =
-          call-writes better a after room on
-          ∙ ap (λ (ps : List Point). writtenOver (alternating ps) out) same
-          ∙ sym (joins-writes front back holds-front holds-behind (room .places) both);
+      one-by-one = extend-one-by-one P j after-P (c .P-by-A) (c .P-then-B) (c .P-by-J);
+      one-by-one-Q = extend-one-by-one Q j after-Q (c .Q-by-A) (c .Q-then-B) (c .Q-by-J);
+      better-first =
+          extend-better-first P Q A (first-accepted P j after-P) (first-accepted Q j after-Q)
+          (c .of-PQ) (c .better-by-A) (c .P-by-A) (c .Q-by-A) (c .of-both);
     }

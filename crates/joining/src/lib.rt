@@ -1,2 +1,2 @@
-// Demand 3 over the calls: extending one order after another, and extending the better of two profiles. Laws
-// only, in specs/.
+// Demand 3 over the calls (R16): extending by one order after another, and extending the better of two
+// profiles. Laws only, in specs/.

@@ -1,2 +1,3 @@
--- Packing and unpacking, one after the other: both ways without loss, over the answers of the calls.
+-- Packing and unpacking, one after the other: both ways without loss, over any outcomes that the calls' contracts allow.
+pub mod BothWays
 pub mod RoundTrip

@@ -1,63 +1,94 @@
--- Both ways without loss, over the answers of the calls and the buffers that they leave: what unpacking gave packs to the same
--- bytes, and what packing wrote unpacks to the same bus-free time and numbers. For every order that is accepted, and any
--- buffers with room.
+-- Both ways without loss, proved: what unpacking gave packs to the same bytes, and what packing wrote unpacks to the same
+-- bus-free time and numbers.
 use Prim.Native.Nat.{ℕ, _+_, _*_, _≤_}
 use mathlib.Core.Path.{_≡_, sym, ap, ap₂, _∙_}
-use mathlib.Core.List.{List, _++_}
+use mathlib.Core.List.{List}
 use native.Mathlib.Omega.{arith}
 use lib.IntN.{ℤ}
-use lib.ListN.{length, take, drop}
+use lib.ListN.{length, take}
 use lib.Seq.{take-at}
-use Rattle.packed.specs.LayoutLaws.{AreBytes}
+use Rattle.packed.specs.Judge.{fine, judge}
 use Rattle.packed.specs.Packed.{countOf, t0Of, numbersOf, jobCount, packOrder}
 use Rattle.packed.specs.PackedLaws.{length-numbers, numbers-count, length-packed}
-use Rattle.packed.specs.Accepted.{numbers-fine}
+use Rattle.packed.specs.Refusals.{orderChecks, numberChecks}
 use Rattle.packed.specs.RoundTrip.{unpack-pack, pack-unpack}
-use Rattle.unpack.specs.Answer.{unpackOf, numbersAfter}
+use Rattle.unpack.specs.Answer.{unpackOf, numbersAfter, jobsUnpacked}
 use Rattle.unpack.specs.AnswerLaws.{unpacks-order}
 use Rattle.unpack.specs.AnswerSays.{jobs-accepted}
+use Rattle.unpack.specs.declared.Unpacked.{Unpacked}
 use Rattle.unpack.specs.declared.Unpacked.the-variants.{Jobs}
-use Rattle.pack.specs.Answer.{packOf, bytesAfter}
+use Rattle.pack.specs.Answer.{packOf, bytesAfter, bytesWritten}
 use Rattle.pack.specs.AnswerLaws.{packs-order}
 use Rattle.pack.specs.AnswerSays.{bytes-accepted}
-use Rattle.pack.specs.declared.Packed.the-variants.{Bytes}
+use Rattle.pack.specs.declared.Packed.{Packed}
+use Rattle.round_trip.specs.BothWays.{Unpacking, timeTold, numbersLent, numbersLeft, unpacked}
+use Rattle.round_trip.specs.BothWays.{Packing, bytesLent, bytesLeft, packed}
+use Rattle.round_trip.specs.BothWays.{SameBytes, UnpackedThenPacked, SameNumbers, PackedThenUnpacked}
 
--- ---- unpacked, then packed
+-- ---- a call with room
 
--- The numbers that unpacking gave are packed, and the same bytes stand in front.
-pub packed-again : (bytes : List ℕ) (numbers : List ℤ) (out : List ℕ) {n : ℕ} {t0 : ℤ} → AreBytes bytes
-    → unpackOf bytes (length numbers) ≡ Jobs n t0 → length bytes ≤ length out
-    → (packOf t0 (take (6 * n) (numbersAfter bytes numbers)) (length out) ≡ Bytes (length bytes))
-    × (bytesAfter t0 (take (6 * n) (numbersAfter bytes numbers)) out ≡ bytes ++ drop (length bytes) out)
-packed-again bytes numbers out {n} {t0} all e room =
-    let a = jobs-accepted bytes (length numbers) e in
+module _ {bytes : List ℕ} (u : Unpacking bytes) where
+  -- What the contract of unpacking says of it.
+  unpack-call : (u .answer ≡ unpackOf bytes (length (numbersLent u))) × (numbersLeft u ≡ numbersAfter bytes (numbersLent u))
+  unpack-call = rw (u .given) at (u .allowed)
+
+  -- An order unpacks to its bus-free time and numbers.
+  unpacks : judge (orderChecks bytes) ≡ fine → 6 * countOf bytes ≤ length (numbersLent u)
+      → SameNumbers (t0Of bytes) (numbersOf bytes) u
+  unpacks order room =
+      let done = unpacks-order bytes (numbersLent u) order room in
+      let answers : u .answer ≡ Jobs (countOf bytes) (t0Of bytes) = unpack-call .0 ∙ sym (done .0) in
+      let leaves = unpack-call .1 ∙ sym (done .1) in
+      record {
+        answers = rw (numbers-count bytes) answers;
+        writes =
+            ap₂ (λ (r : Unpacked) (out : List ℤ). take (6 * jobsUnpacked r) out) answers leaves
+            ∙ take-at (numbersOf bytes) _ (6 * countOf bytes) (length-numbers bytes);
+        leaves = leaves;
+      }
+
+module _ {t0 : ℤ} {numbers : List ℤ} (p : Packing t0 numbers) where
+  -- What the contract of packing says of it.
+  pack-call : (p .answer ≡ packOf t0 numbers (length (bytesLent p))) × (bytesLeft p ≡ bytesAfter t0 numbers (bytesLent p))
+  pack-call = rw (p .time, p .given) at (p .allowed)
+
+  -- An order in numbers packs to its bytes.
+  packs : judge (numberChecks t0 numbers) ≡ fine → 4 + 8 * jobCount numbers ≤ length (bytesLent p)
+      → SameBytes (packOrder t0 numbers) p
+  packs order room =
+      let done = packs-order t0 numbers (bytesLent p) order room in
+      let answers = pack-call .0 ∙ sym (done .0) in
+      let leaves = pack-call .1 ∙ sym (done .1) in
+      record {
+        answers = answers;
+        writes =
+            ap₂ (λ (r : Packed) (out : List ℕ). take (bytesWritten r) out) answers leaves
+            ∙ take-at (packOrder t0 numbers) _ (length (packOrder t0 numbers)) (omega arith);
+        leaves = leaves;
+      }
+
+-- ---- one after the other
+
+-- What unpacking gave is packed to the same bytes.
+pub unpacked-then-packed : UnpackedThenPacked
+unpacked-then-packed bytes all u accepted p room =
+    let a = jobs-accepted bytes (length (numbersLent u)) (sym (unpack-call u .0) ∙ accepted) in
     let back = pack-unpack bytes all (a .order) in
-    let same : packOrder (t0Of bytes) (numbersOf bytes) ≡ bytes = back .1 in
-    let enough : 4 + 8 * jobCount (numbersOf bytes) ≤ length out =
-    omega (arith, length-packed (t0Of bytes) (numbersOf bytes), ap length same) in
-    let given : take (6 * n) (numbersAfter bytes numbers) ≡ numbersOf bytes =
-    ap (take (6 * n)) (sym (unpacks-order bytes numbers (a .order) (a .enough) .1))
-    ∙ take-at (numbersOf bytes) _ (6 * n) (length-numbers bytes ∙ ap (λ (k : ℕ). 6 * k) (sym (a .count))) in
-    let packs = packs-order (t0Of bytes) (numbersOf bytes) out (back .0) enough in
-    rw (given, a .timed)
-    (sym (packs .0) ∙ ap (λ (l : List ℕ). Bytes (length l)) same, sym (packs .1) ∙ ap (λ (l : List ℕ). l ++ drop (length l) out) same)
+    let gave : unpacked u ≡ numbersOf bytes = unpacks u (a .order) (a .enough) .writes in
+    let same : packOrder (timeTold u) (unpacked u) ≡ bytes = rw (a .timed, gave) (back .1) in
+    let order : judge (numberChecks (timeTold u) (unpacked u)) ≡ fine = rw (a .timed, gave) (back .0) in
+    let enough : 4 + 8 * jobCount (unpacked u) ≤ length (bytesLent p) =
+    omega (arith, length-packed (timeTold u) (unpacked u), ap length same) in
+    rw same at (packs p order enough)
 
--- ---- packed, then unpacked
-
--- The bytes that packing wrote are unpacked: the same bus-free time, and the same numbers stand in front.
-pub unpacked-again : (t0 : ℤ) (numbers : List ℤ) (bytes : List ℕ) (out : List ℤ) {written : ℕ}
-    → packOf t0 numbers (length bytes) ≡ Bytes written → length numbers ≤ length out
-    → (unpackOf (take written (bytesAfter t0 numbers bytes)) (length out) ≡ Jobs (jobCount numbers) t0)
-    × (numbersAfter (take written (bytesAfter t0 numbers bytes)) out ≡ numbers ++ drop (length numbers) out)
-unpacked-again t0 numbers bytes out {written} e room =
-    let a = bytes-accepted t0 numbers (length bytes) e in
+-- What packing wrote is unpacked to the same bus-free time and numbers.
+pub packed-then-unpacked : PackedThenUnpacked
+packed-then-unpacked t0 numbers p accepted u room =
+    let a = bytes-accepted t0 numbers (length (bytesLent p)) (sym (pack-call p .0) ∙ accepted) in
     let there = unpack-pack t0 numbers (a .order) in
-    let packed : List ℕ = packOrder t0 numbers in
-    let same : numbersOf packed ≡ numbers = there .2 in
-    let whole = numbers-fine t0 numbers .0 (a .order) .list .whole in
-    let count : countOf packed ≡ jobCount numbers = sym (numbers-count packed) ∙ ap jobCount same in
-    let given : take written (bytesAfter t0 numbers bytes) ≡ packed =
-    ap (take written) (sym (packs-order t0 numbers bytes (a .order) (a .enough) .1)) ∙ take-at packed _ written (sym (a .all)) in
-    let unpacks = unpacks-order packed out (there .0) (omega arith) in
-    rw given
-    (sym (unpacks .0) ∙ ap₂ Jobs count (there .1), sym (unpacks .1) ∙ ap (λ (l : List ℤ). l ++ drop (length l) out) same)
+    let wrote : packed p ≡ packOrder t0 numbers = packs p (a .order) (a .enough) .writes in
+    let order : judge (orderChecks (packed p)) ≡ fine = rw wrote (there .0) in
+    let time : t0Of (packed p) ≡ t0 = rw wrote (there .1) in
+    let same : numbersOf (packed p) ≡ numbers = rw wrote (there .2) in
+    let enough : 6 * countOf (packed p) ≤ length (numbersLent u) = omega (arith, length-numbers (packed p), ap length same) in
+    rw (time, same) at (unpacks u order enough)
