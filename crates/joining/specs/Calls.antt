@@ -1,5 +1,5 @@
--- The two calls that write a profile, each with any outcome that its generated contract allows, where there is room.
--- Definitions only.
+-- The two calls that write a profile, each with any outcome that its generated contract allows, where there is room: its
+-- arguments in sequence, its answer, and its parameters at exit. Definitions only.
 use Prim.Native.Nat.{ℕ, _*_, _≤_}
 use mathlib.Core.Path.{_≡_}
 use mathlib.Core.List.{List}
@@ -23,7 +23,7 @@ use Rattle.extending.proofs.extend.Reads as extend-reads
 
 -- ---- extending
 
--- A call that extends the profile P by the packed order A.
+-- A call that extends the profile P by the packed order A; it is also lent numbers to write to, and the work area.
 pub record Extending (P : List ℤ) (A : List ℕ) : Type 0 where
   pub κs : Lfts 4
   pub args : Args extend.signature κs
@@ -53,7 +53,7 @@ module _ {P : List ℤ} {A : List ℕ} (e : Extending P A) where
 
 -- ---- better-of
 
--- A call of better-of on the profiles P and Q.
+-- A call of better-of on the profiles P and Q; it is also lent numbers to write to.
 pub record BetterOf (P Q : List ℤ) : Type 0 where
   pub κs : Lfts 3
   pub args : Args better-of.signature κs

@@ -1,5 +1,5 @@
--- Packing and unpacking one after the other, as R22 says it: both ways without loss, over any outcomes that the generated
--- contracts of the calls allow. Definitions only.
+-- Packing and unpacking one after the other, as R22 says it: both ways without loss, over any outcomes (arguments
+-- in sequence, answer, parameters at exit) that the generated contracts of the calls allow. Definitions only.
 use Prim.Native.Nat.{ℕ, _*_, _≤_}
 use mathlib.Core.Path.{_≡_}
 use mathlib.Core.List.{List, _++_}
@@ -23,7 +23,7 @@ use Rattle.pack.proofs.pack.Reads as pack-reads
 
 -- ---- the calls
 
--- A call that unpacks some bytes.
+-- A call that unpacks some bytes; it is also lent numbers to write to.
 pub record Unpacking (bytes : List ℕ) : Type 0 where
   pub κs : Lfts 2
   pub args : Args unpack.signature κs
@@ -55,7 +55,7 @@ module _ {bytes : List ℕ} (u : Unpacking bytes) where
   abbrev pub unpacked : List ℤ
   unpacked = take (6 * jobsTold) numbersLeft
 
--- A call that packs a bus-free time and some numbers.
+-- A call that packs a bus-free time and some numbers; it is also lent bytes to write to.
 pub record Packing (t0 : ℤ) (numbers : List ℤ) : Type 0 where
   pub κs : Lfts 2
   pub args : Args pack.signature κs
