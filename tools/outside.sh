@@ -1,39 +1,46 @@
 #!/bin/sh
-# Everything outside Rattle, against target/staticlib/libleafanchor.a: the header from C and C++, the Rust
-# wrapper, both examples, the comparison of every call with an independent reference, and the stack use of
-# every call. The library is for x86-64; on another machine a cross compiler makes the programs and an
-# emulator runs them. Ends with 0 if all holds. `tools/outside.sh tools` only sees to it that the compilers and
-# the emulator are there.
+# Everything outside Rattle, against the library of tools/native.sh on the machine at hand: the header from C and
+# C++, the Rust wrapper, both examples, the comparison of every call with an independent reference, and the stack use
+# of every call. On a machine that is not x86-64 then the same against the shipped library, which is for x86-64: a
+# cross compiler makes the programs and an emulator runs them. `tools/outside.sh MACHINE` holds the library for that
+# machine alone, x86_64 or aarch64. `tools/outside.sh tools` only sees to it that the compilers and the emulator
+# are there: as root on Debian it installs what is missing, and says so before. Ends with 0 if all holds.
 set -eu
 cd "$(dirname "$0")/.."
 
-library=target/staticlib/libleafanchor.a
-target=x86_64-unknown-linux-gnu
-out=rust/target/outside
+here=$(uname -m)
 warnings='-O2 -Wall -Wextra -Wpedantic -Wconversion -Werror -Iinclude'
 
 say() { printf 'outside: %s\n' "$*"; }
 die() { printf 'outside: %s\n' "$*" >&2; exit 1; }
 
-if [ "$(uname -m)" = x86_64 ]; then
-    cc=gcc cxx=g++ emulator='' foreign=''
-    packages='gcc g++ libc6-dev rustc cargo'
-else
-    cc=x86_64-linux-gnu-gcc cxx=x86_64-linux-gnu-g++ emulator=qemu-x86_64 foreign=amd64
-    packages='gcc-x86-64-linux-gnu g++-x86-64-linux-gnu libc6-dev-amd64-cross qemu-user rustc cargo'
-    packages="$packages libstd-rust-dev:amd64"
-fi
+# at MACHINE: its library, its compilers, and what runs their programs here.
+at() {
+    machine=$1 triple=$1-unknown-linux-gnu out=$PWD/rust/target/outside/$1
+    built=$PWD/rust/target/$triple/release
+    library=$PWD/target/native/libleafanchor.a
+    cc=gcc cxx=g++ emulator='' foreign='' packages='gcc g++ libc6-dev rustc cargo'
+    mkdir -p "$out"
+    [ "$machine" != "$here" ] || return 0
+    case $machine in
+    x86_64) foreign=amd64 library=$PWD/target/staticlib/libleafanchor.a ;;
+    aarch64) foreign=arm64 library=$PWD/target/for-aarch64/libleafanchor.a ;;
+    *) die "there is no library for $machine" ;;
+    esac
+    cc=$machine-linux-gnu-gcc cxx=$machine-linux-gnu-g++ emulator=qemu-$machine
+    compilers=$(printf 'gcc-%s-linux-gnu g++-%s-linux-gnu' "$machine" "$machine" | tr _ -)
+    packages="$compilers libc6-dev-$foreign-cross qemu-user rustc cargo libstd-rust-dev:$foreign"
+}
 
-# The first cargo and rustc in the path that have Rust's own library for x86-64.
+# The first cargo and rustc in the path that have Rust's own library for the machine.
 find_rust() {
-    cargo='' rustc=''
     rest=$PATH:
     while [ -n "$rest" ]; do
-        folder=${rest%%:*} rest=${rest#*:}
-        if [ ! -x "$folder/cargo" ] || [ ! -x "$folder/rustc" ]; then continue; fi
-        libraries=$("$folder/rustc" --print target-libdir --target "$target" 2>/dev/null) || continue
+        rust=${rest%%:*} rest=${rest#*:}
+        if [ ! -x "$rust/cargo" ] || [ ! -x "$rust/rustc" ]; then continue; fi
+        libraries=$("$rust/rustc" --print target-libdir --target "$triple" 2>/dev/null) || continue
         for found in "$libraries"/libstd-*.rlib; do
-            [ -f "$found" ] && cargo=$folder/cargo rustc=$folder/rustc && return 0
+            [ ! -f "$found" ] || return 0
         done
     done
     return 1
@@ -51,9 +58,9 @@ have_tools() {
 # Installs what is missing, where that can be done.
 install_tools() {
     if [ "$(id -u)" != 0 ] || ! command -v apt-get >/dev/null; then
-        die "tools are missing; as root on Debian this would install: $packages"
+        die "tools for $machine are missing; as root on Debian this would install: $packages"
     fi
-    say "installing from Debian: $packages"
+    say "tools for $machine are missing: installs as root from Debian${foreign:+, with its architecture $foreign}: $packages"
     {
         [ -z "$foreign" ] || dpkg --add-architecture "$foreign"
         apt-get update
@@ -71,59 +78,87 @@ compile_both() {
     "$cxx" -std=c++17 $warnings -x c++ "$2" -x none "$library" -static-libstdc++ -o "$out/$1.cxx17"
 }
 
-# in_cargo WORDS: cargo, for x86-64, with nothing from the network.
+# in_cargo WORDS: cargo, for the machine, with nothing from the network.
 in_cargo() {
     command=$1
     shift
-    (cd rust && "$cargo" "$command" --quiet --release --offline --locked --target "$target" "$@")
+    (cd rust && "$rust/cargo" "$command" --quiet --release --offline --locked --target "$triple" "$@")
 }
 
-mkdir -p "$out"
-have_tools || install_tools
-[ "${1-}" != tools ] || exit 0
-[ -f "$library" ] || die "$library is missing: make it with rt staticlib leafanchor"
-export RUSTC="$rustc" LEAFANCHOR_LIB_DIR="$PWD/target/staticlib" CARGO_TARGET_DIR="$PWD/rust/target"
-export CARGO_TARGET_X86_64_UNKNOWN_LINUX_GNU_LINKER="$cc"
-[ -z "$emulator" ] || export CARGO_TARGET_X86_64_UNKNOWN_LINUX_GNU_RUNNER="$emulator"
-built=$PWD/rust/target/$target/release
+for_cargo() {
+    export RUSTC="$rust/rustc" RUSTDOC="$rust/rustdoc"
+    export LEAFANCHOR_LIB_DIR="${library%/*}" CARGO_TARGET_DIR="$PWD/rust/target"
+    name=$(printf '%s' "$triple" | tr a-z- A-Z_)
+    export "CARGO_TARGET_${name}_LINKER=$cc"
+    [ -z "$emulator" ] || export "CARGO_TARGET_${name}_RUNNER=$emulator"
+}
 
-say "the header, from C and C++"
-printf '#include "leafanchor.h"\n' >"$out/alone.c"
-# shellcheck disable=SC2086
-{
+hold_c() {
+    say "the header, from C and C++"
+    printf '#include "leafanchor.h"\n' >"$out/alone.c"
+    # shellcheck disable=SC2086
     "$cc" -std=c11 $warnings -fsyntax-only "$out/alone.c"
+    # shellcheck disable=SC2086
     "$cxx" -std=c++17 $warnings -fsyntax-only -x c++ "$out/alone.c"
+    compile_both layout tools/layout.c
+    compile_both every_call tools/every_call.c
+    compile_both plan_p1 examples/plan_p1.c
+    for made in c11 cxx17; do
+        $emulator "$out/every_call.$made"
+        $emulator "$out/layout.$made" >"$out/layout.$made.txt"
+    done
 }
-compile_both layout tools/layout.c
-compile_both every_call tools/every_call.c
-compile_both plan_p1 examples/plan_p1.c
-for made in c11 cxx17; do
-    $emulator "$out/every_call.$made"
-    $emulator "$out/layout.$made" >"$out/layout.$made.txt"
+
+# The wrapper's tests; those in its documentation, and clippy where it is at hand, on the machine at hand.
+hold_wrapper() {
+    say "the wrapper and its example"
+    in_cargo build -p leafanchor --example plan_p1
+    in_cargo test -p leafanchor
+    if [ -z "$emulator" ] && [ -x "$rust/cargo-clippy" ] && "$rust/cargo" clippy --version >/dev/null 2>&1; then
+        say "clippy"
+        in_cargo clippy --workspace --all-targets -- -D warnings
+    fi
+}
+
+hold_p1() {
+    say "P1 from C, C++ and Rust"
+    for program in "$out/plan_p1.c11" "$out/plan_p1.cxx17" "$built/examples/plan_p1"; do
+        $emulator "$program" <examples/p1.order >"$out/p1.txt"
+        cmp "$out/p1.txt" examples/p1.expected || die "$program prints another plan than examples/p1.expected"
+    done
+}
+
+hold_calls() {
+    say "every call against the reference"
+    in_cargo build -p outside
+    $emulator "$built/outside" layout >"$out/layout.rust.txt"
+    for made in cxx17 rust; do
+        cmp "$out/layout.c11.txt" "$out/layout.$made.txt" || die "the answers are laid out otherwise: $made"
+    done
+    $emulator "$built/outside" || die "the library and the reference differ"
+}
+
+hold_stack() {
+    say "the stack"
+    # shellcheck disable=SC2086
+    "$cc" -std=c11 $warnings tools/stack.c "$library" -Wl,-z,now -o "$out/stack"
+    $emulator "$out/stack" || die "a call uses too much stack"
+}
+
+only=''
+[ "${1-}" != tools ] || { only=tools && shift; }
+[ $# -gt 0 ] || { [ "$here" = x86_64 ] && set -- x86_64; } || set -- "$here" x86_64
+for machine in "$@"; do
+    at "$machine"
+    have_tools || install_tools
+    [ -z "$only" ] || continue
+    [ -f "$library" ] || die "$library is missing: tools/native.sh makes it"
+    say "the library for $machine${emulator:+, under $emulator}: ${library#"$PWD"/}"
+    for_cargo
+    hold_c
+    hold_wrapper
+    hold_p1
+    hold_calls
+    hold_stack
 done
-
-say "the wrapper and its example"
-in_cargo build -p leafanchor --example plan_p1
-in_cargo test -p leafanchor
-[ -z "$emulator" ] || say "the example in the wrapper's documentation is compiled and run on x86-64 machines alone"
-
-say "P1 from C, C++ and Rust"
-for program in "$out/plan_p1.c11" "$out/plan_p1.cxx17" "$built/examples/plan_p1"; do
-    $emulator "$program" <examples/p1.order >"$out/p1.txt"
-    cmp "$out/p1.txt" examples/p1.expected || die "$program prints another plan than examples/p1.expected"
-done
-
-say "every call against the reference"
-in_cargo build -p outside
-$emulator "$built/outside" layout >"$out/layout.rust.txt"
-for made in cxx17 rust; do
-    cmp "$out/layout.c11.txt" "$out/layout.$made.txt" || die "the answers are laid out otherwise: $made"
-done
-$emulator "$built/outside" || die "the library and the reference differ"
-
-say "the stack"
-# shellcheck disable=SC2086
-"$cc" -std=c11 $warnings tools/stack.c "$library" -Wl,-z,now -o "$out/stack"
-$emulator "$out/stack" || die "a call uses too much stack"
-
-say "all holds"
+[ -n "$only" ] || say "all holds"
