@@ -2,10 +2,9 @@
 //! of 48 jobs whose weights sum to 300, and 1,000 of 8 jobs. Both judge the order and clear the work area.
 //! Times mean nothing under an emulator; tools/speed.sh runs this on the machine at hand.
 
-mod ours;
 mod plain;
 
-use leafanchor::ffi::PlanAnswer;
+use leafanchor::calls::{self, PlanAnswer};
 use leafanchor::{MOST_JOBS, WORK_AREA};
 use std::time::Instant;
 use trials::{full_order, packed, Random};
@@ -51,7 +50,7 @@ fn compare(orders: &[Vec<u8>], buffers: &mut Buffers) -> u32 {
     let mut kept = 0;
     for order in orders {
         buffers.work.fill(7);
-        let ours = ours::plan(order, &mut buffers.starts, &mut buffers.work);
+        let ours = calls::plan(order, &mut buffers.starts, &mut buffers.work);
         let (starts, work) = (buffers.starts, buffers.work.clone());
         buffers.work.fill(7);
         let plain = plain::plan(order, &mut buffers.starts, &mut buffers.work);
@@ -64,7 +63,7 @@ fn compare(orders: &[Vec<u8>], buffers: &mut Buffers) -> u32 {
 
 /// Prints median and spread of both planners and the ratio of the medians.
 fn time_both(orders: &[Vec<u8>], buffers: &mut Buffers) {
-    let planners: [(&str, Planner); 2] = [("leafanchor", ours::plan), ("plain Rust", plain::plan)];
+    let planners: [(&str, Planner); 2] = [("leafanchor", calls::plan), ("plain Rust", plain::plan)];
     let mut times = [Vec::new(), Vec::new()];
     for round in 0..=ROUNDS {
         for turn in 0..2 {
@@ -96,7 +95,7 @@ fn time_once(planner: Planner, orders: &[Vec<u8>], buffers: &mut Buffers) -> f64
 
 /// Prints one planner's line and gives its median.
 fn report(name: &str, times: &mut [f64]) -> f64 {
-    times.sort_by(|a, b| a.total_cmp(b));
+    times.sort_by(f64::total_cmp);
     let median = times[times.len() / 2];
     let (least, most) = (times[0], times[times.len() - 1]);
     println!("  {name}: median {median:.0} ns an order, {least:.0} to {most:.0} in {} rounds", times.len());

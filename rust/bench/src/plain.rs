@@ -2,7 +2,7 @@
 //! It takes the same buffers as the library's planner, judges as it does and gives the same answers; it
 //! allocates nothing.
 
-use leafanchor::ffi::PlanAnswer;
+use leafanchor::calls::PlanAnswer;
 use leafanchor::{LEFT_OUT, MOST_JOBS, WORK_AREA};
 
 /// Cells of a row.

@@ -1,5 +1,5 @@
-//! The C boundary: the answers as C lays them out, the calls of libleafanchor.a, and one safe function over
-//! slices for each of them. This is the only module with unsafe code.
+//! The C boundary: the calls of libleafanchor.a, and one safe function over slices for each of them. This is
+//! the only module with unsafe code.
 //!
 //! Why every call here is sound: the library's contracts ask for pointers that are not null, lengths that are
 //! true, and that a buffer which a call writes overlaps no other. A slice's pointer is never null and its
@@ -7,70 +7,10 @@
 //! is proved to stay in its slices and to end, whatever they hold; it keeps no pointer, and never unwinds.
 #![allow(unsafe_code)]
 
-use crate::order::Job;
-use crate::JOB_NUMBERS;
-
-/// Declares an answer: plain figures in the order of the C header.
-macro_rules! answers {
-    ($($(#[$doc:meta])* $name:ident { $($field:ident: $kind:ty),* $(,)? })*) => {
-        $(
-            $(#[$doc])*
-            #[repr(C)]
-            #[derive(Clone, Copy, Debug, Default, PartialEq, Eq)]
-            #[allow(missing_docs)]
-            pub struct $name {
-                $(pub $field: $kind,)*
-            }
-        )*
-    };
-}
-
-answers! {
-    /// The answer of [`heat_up`].
-    HeatAnswer { refusal: u32, seconds: u32 }
-    /// The answer of [`unpack`].
-    UnpackAnswer { refusal: u32, place: usize, jobs: usize, t0: i32 }
-    /// The answer of [`pack`].
-    PackAnswer { refusal: u32, place: usize, bytes: usize }
-    /// The answer of [`open`].
-    OpenAnswer { refusal: u32, jobs: usize }
-    /// The answer of [`step`].
-    StepAnswer {
-        refusal: u32, place: usize, end: u32, number: i32, critical: i32, weight: i32, ready: i32, length: i32,
-        deadline: i32, next: usize,
-    }
-    /// One point of a profile: from this time on, this weight can have been kept.
-    Point { time: i32, weight: i32 }
-    /// The answer of [`lookup`] and [`lookup_records`].
-    LookupAnswer { refusal: u32, found: u32, weight: u32 }
-    /// The answer of [`better_of`].
-    BetterAnswer { refusal: u32, points: usize }
-    /// The answer of [`extend`].
-    ExtendAnswer { refusal: u32, place: usize, points: usize }
-    /// The answer of [`plan`].
-    PlanAnswer {
-        refusal: u32, place: usize, mask: u64, kept: u32, kept_weight: u32, lost_weight: u32, finish: i32,
-        points: u32,
-    }
-    /// The answer of [`question`].
-    QuestionAnswer { refusal: u32, winner: u32 }
-    /// The answer of [`choose`].
-    ChooseAnswer { refusal: u32, winner: u32, offset: usize, length: usize }
-}
-
-impl StepAnswer {
-    /// The six numbers of the job.
-    pub(crate) fn job(&self) -> Job {
-        Job {
-            number: self.number,
-            critical: self.critical,
-            weight: self.weight,
-            ready: self.ready,
-            length: self.length,
-            deadline: self.deadline,
-        }
-    }
-}
+use crate::answers::{
+    BetterAnswer, ChooseAnswer, ExtendAnswer, HeatAnswer, LookupAnswer, OpenAnswer, PackAnswer, PlanAnswer,
+    Point, QuestionAnswer, StepAnswer, UnpackAnswer,
+};
 
 #[rustfmt::skip]
 extern "C" {
@@ -118,27 +58,10 @@ pub fn unpack(order: &[u8], numbers: &mut [i32]) -> UnpackAnswer {
     unsafe { leafanchor_unpack(order.as_ptr(), order.len(), numbers.as_mut_ptr(), numbers.len()) }
 }
 
-/// Unpacks an order into jobs.
-pub(crate) fn unpack_jobs(order: &[u8], jobs: &mut [Job]) -> UnpackAnswer {
-    // SAFETY: as for `unpack`. A job is six i32 and nothing else (repr(C)), so the slice is as many numbers;
-    // the product is at most the slice's size in bytes and does not overflow.
-    unsafe {
-        leafanchor_unpack(order.as_ptr(), order.len(), jobs.as_mut_ptr().cast(), JOB_NUMBERS * jobs.len())
-    }
-}
-
 /// Packs six numbers a job.
 pub fn pack(t0: i32, numbers: &[i32], order: &mut [u8]) -> PackAnswer {
     // SAFETY: the numbers are only read, the bytes are lent alone; both lengths are the slices' own.
     unsafe { leafanchor_pack(t0, numbers.as_ptr(), numbers.len(), order.as_mut_ptr(), order.len()) }
-}
-
-/// Packs jobs.
-pub(crate) fn pack_jobs(t0: i32, jobs: &[Job], order: &mut [u8]) -> PackAnswer {
-    // SAFETY: as for `pack`, and jobs are numbers as in `unpack_jobs`.
-    unsafe {
-        leafanchor_pack(t0, jobs.as_ptr().cast(), JOB_NUMBERS * jobs.len(), order.as_mut_ptr(), order.len())
-    }
 }
 
 /// Whether a reader may stand over these bytes.
@@ -236,4 +159,13 @@ pub fn choose(first: &[u8], second: &[u8], t: i32, work: &mut [i32]) -> ChooseAn
             work.len(),
         )
     }
+}
+
+/// A cleared work area on the heap.
+#[cfg(feature = "alloc")]
+pub(crate) fn boxed_work_area() -> alloc::boxed::Box<crate::WorkArea> {
+    let numbers = alloc::boxed::Box::into_raw(alloc::vec![0_i32; crate::WORK_AREA].into_boxed_slice());
+    // SAFETY: the box has just been taken apart. A work area is an array of as many numbers and nothing else
+    // (repr(transparent)), so that its size and alignment are those of the slice.
+    unsafe { alloc::boxed::Box::from_raw(numbers.cast()) }
 }

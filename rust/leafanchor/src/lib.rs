@@ -1,68 +1,116 @@
 //! Plans the work on the one service bus of an air-taxi stand: the safe face of the proved library
 //! libleafanchor.a.
 //!
-//! An [`Order`] is packed bytes; every call judges them and gives a [`Refusal`] where they are not in order.
-//! Nothing here allocates: results go into slices that the caller lends, and planning works in a
-//! [`WorkArea`].
+//! An [`Order`] is packed bytes that the library has checked once, or that it has packed from [`Job`]s. It
+//! gives its jobs, its [`Plan`] and its [`Profile`]; profiles are extended, joined and looked up. Whatever is
+//! not in order is a [`Refusal`]. Nothing here allocates but [`WorkArea::boxed`]; planning works in the
+//! caller's [`WorkArea`]. Times are whole signed seconds.
 //!
 //! ```
-//! use leafanchor::{pack, plan, Job, Order, WorkArea, LEFT_OUT, ORDER_BYTES};
+//! use leafanchor::{Job, Order, WorkArea, ORDER_BYTES};
 //!
-//! // Two jobs want the bus from 0 to 10: the first is kept.
-//! let jobs = [Job::optional(4, 10, 0, 10, 10), Job::optional(9, 10, 0, 10, 10)];
-//! let mut bytes = [0; ORDER_BYTES];
-//! let order = Order::new(pack(0, &jobs, &mut bytes)?);
+//! let jobs = [Job::critical(7, -600, 495, 0), Job::optional(3, 20, -200, 300, 250)];
+//! let mut room = [0; ORDER_BYTES];
+//! let order = Order::pack(-600, &jobs, &mut room)?; // or Order::try_from(bytes)?
 //!
 //! let mut work = WorkArea::new();
-//! let mut starts = [0; 2];
-//! let plan = plan(order, &mut starts, &mut work)?;
-//! assert_eq!((plan.kept_weight, plan.lost_weight, plan.finish), (10, 10, 10));
-//! assert_eq!(starts, [0, LEFT_OUT]);
+//! let plan = order.plan(&mut work)?;
+//! for (job, start) in order.jobs().zip(plan.starts()) {
+//!     match start {
+//!         Some(start) => println!("{start}: {job}"),
+//!         None => println!("left out: {job}"),
+//!     }
+//! }
+//! assert_eq!(plan.finish, 195);
+//! assert_eq!(order.profile(&mut work).to_string(), "(-105, 0), (195, 20)");
 //! # Ok::<(), leafanchor::Refusal>(())
 //! ```
+//!
+//! docs/RULES.md has the exact rules; `R7` here cites one of them.
+//!
+//! Features: `alloc` (a work area on the heap) and `std` (a refusal is a `std::error::Error`), both on unless
+//! default features are off.
 
 #![no_std]
 #![deny(missing_docs)]
 #![deny(unsafe_code)]
 
+#[cfg(feature = "alloc")]
+extern crate alloc;
 #[cfg(feature = "std")]
 extern crate std;
 
-pub mod ffi;
+mod answers;
+mod ffi;
+mod job;
 mod openings;
 mod order;
-mod planning;
+mod plan;
 mod profile;
+mod reader;
 mod refusal;
+mod work;
 
-pub use ffi::Point;
+pub use answers::Point;
+pub use job::Job;
 pub use openings::{choose, question, Opening, Winner};
-pub use order::{pack, unpack, Job, Order, Reader};
-pub use planning::{plan, Plan, WorkArea};
-pub use profile::{better_of, extend, lookup, lookup_records, Profile};
+pub use order::Order;
+pub use plan::{KeptPlaces, Plan};
+pub use profile::Profile;
+pub use reader::Reader;
 pub use refusal::Refusal;
+pub use work::WorkArea;
+
+/// The library's calls as they stand, for those who lend their own buffers: they take any bytes and any
+/// numbers, and answer in figures as in C (R25 to R30). `accepted` turns an answer into a [`Result`].
+///
+/// ```
+/// use leafanchor::{calls, MOST_JOBS, WORK_AREA};
+///
+/// let (mut starts, mut work) = ([0; MOST_JOBS], [0; WORK_AREA]);
+/// # let bytes = [0x07, 0xFD, 0xA8, 0, 0x1E, 0x03, 0xFD, 0xA8, 0x07, 0xBC, 0, 0];
+/// let answer = calls::plan(&bytes, &mut starts, &mut work).accepted()?;
+/// assert_eq!((answer.kept, answer.finish, starts[0]), (1, -105, -600));
+/// # Ok::<(), leafanchor::Refusal>(())
+/// ```
+pub mod calls {
+    pub use crate::answers::{
+        BetterAnswer, ChooseAnswer, ExtendAnswer, HeatAnswer, LookupAnswer, OpenAnswer, PackAnswer,
+        PlanAnswer, Point, QuestionAnswer, StepAnswer, UnpackAnswer,
+    };
+    pub use crate::ffi::{
+        better_of, choose, extend, heat_up, lookup, lookup_records, open, pack, plan, question, step, unpack,
+    };
+}
 
 /// Jobs of one order, at most.
 pub const MOST_JOBS: usize = 48;
+/// Bytes of a packed order's header.
+pub const HEADER_BYTES: usize = 4;
 /// Bytes of the longest packed order.
-pub const ORDER_BYTES: usize = 4 + 8 * MOST_JOBS;
+pub const ORDER_BYTES: usize = HEADER_BYTES + 8 * MOST_JOBS;
 /// Numbers of an unpacked job.
 pub const JOB_NUMBERS: usize = 6;
 /// Numbers of the longest unpacked order.
 pub const ORDER_NUMBERS: usize = JOB_NUMBERS * MOST_JOBS;
+/// Points of one profile, at most.
+pub const MOST_POINTS: usize = 301;
 /// Numbers that extending and better-of ask room for.
-pub const PROFILE_ROOM: usize = 2 * 301;
+pub const PROFILE_ROOM: usize = 2 * MOST_POINTS;
 /// Numbers of the work area.
-pub const WORK_AREA: usize = 49 * 301;
-/// The start of a job that is left out.
+pub const WORK_AREA: usize = (MOST_JOBS + 1) * MOST_POINTS;
+/// What stands among the starts for a job that is left out.
 pub const LEFT_OUT: i32 = 200_000;
 
-/// The seconds of heating for the sampler's byte, which is a signed number of degrees.
+/// The seconds of heating for the sampler's byte, which is a signed number of degrees (R19, R20).
+///
+/// ```
+/// assert_eq!(leafanchor::heat_up(255), Ok(495)); // -1 degree
+/// assert_eq!(leafanchor::heat_up(225), Err(leafanchor::Refusal::CellTooCold)); // -31 degrees
+/// ```
 ///
 /// # Errors
-/// [`Refusal::CellTooCold`] below -30 degrees.
+/// Refusal 12 below -30 degrees.
 pub fn heat_up(byte: u8) -> Result<u32, Refusal> {
-    let answer = ffi::heat_up(byte);
-    Refusal::check(answer.refusal, 0)?;
-    Ok(answer.seconds)
+    Ok(calls::heat_up(byte).accepted()?.seconds)
 }

@@ -1,12 +1,12 @@
-//! Choosing between two openings of a morning.
+//! Choosing between two openings of a morning (R17, R18).
 
-use crate::ffi;
+use crate::calls;
 use crate::order::Order;
-use crate::planning::WorkArea;
 use crate::refusal::Refusal;
+use crate::work::WorkArea;
 
 /// One of the two openings.
-#[derive(Clone, Copy, Debug, PartialEq, Eq, Hash)]
+#[derive(Clone, Copy, Debug, PartialEq, Eq, PartialOrd, Ord, Hash)]
 pub enum Opening {
     /// The first, which also wins where both are worth the same.
     First,
@@ -24,11 +24,14 @@ impl Opening {
     }
 }
 
-/// The opening that won and its records.
-#[derive(Clone, Copy, Debug, PartialEq, Eq)]
+/// The opening that won.
+#[derive(Clone, Copy, Debug, PartialEq, Eq, Hash)]
+#[must_use]
 pub struct Winner<'a> {
     /// Which opening won.
     pub opening: Opening,
+    /// Its order.
+    pub order: Order<'a>,
     /// Its packed jobs, without the header.
     pub records: &'a [u8],
 }
@@ -36,19 +39,30 @@ pub struct Winner<'a> {
 /// Which opening is worth more at time `t`.
 ///
 /// # Errors
-/// Refusals 1 to 7 and 9 of either opening (the place is not told: 0), and 11.
+/// Refusal 11 if neither has a point by then.
 pub fn question(
     first: Order<'_>,
     second: Order<'_>,
     t: i32,
     work: &mut WorkArea,
 ) -> Result<Opening, Refusal> {
-    let answer = ffi::question(first.bytes(), second.bytes(), t, work.numbers());
-    Refusal::check(answer.refusal, 0)?;
+    let answer = calls::question(first.bytes(), second.bytes(), t, work.numbers()).accepted()?;
     Ok(Opening::of(answer.winner))
 }
 
-/// The same, with the winner's records.
+/// The same, with the winner's order and records.
+///
+/// ```
+/// use leafanchor::{choose, Job, Opening, Order, WorkArea, ORDER_BYTES};
+///
+/// let (mut slow, mut quick) = ([0; ORDER_BYTES], [0; ORDER_BYTES]);
+/// let slow = Order::pack(0, &[Job::optional(1, 10, 0, 10, 10)], &mut slow)?;
+/// let quick = Order::pack(0, &[Job::optional(1, 10, 0, 5, 10)], &mut quick)?;
+///
+/// let winner = choose(slow, quick, 9, &mut WorkArea::new())?;
+/// assert_eq!((winner.opening, winner.order), (Opening::Second, quick));
+/// # Ok::<(), leafanchor::Refusal>(())
+/// ```
 ///
 /// # Errors
 /// As for [`question`].
@@ -58,13 +72,12 @@ pub fn choose<'a>(
     t: i32,
     work: &mut WorkArea,
 ) -> Result<Winner<'a>, Refusal> {
-    let answer = ffi::choose(first.bytes(), second.bytes(), t, work.numbers());
-    Refusal::check(answer.refusal, 0)?;
+    let answer = calls::choose(first.bytes(), second.bytes(), t, work.numbers()).accepted()?;
     let opening = Opening::of(answer.winner);
     let order = match opening {
         Opening::First => first,
         Opening::Second => second,
     };
     let records = &order.bytes()[answer.offset..answer.offset + answer.length];
-    Ok(Winner { opening, records })
+    Ok(Winner { opening, order, records })
 }

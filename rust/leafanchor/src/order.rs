@@ -1,132 +1,113 @@
-//! Packed orders: packing, unpacking and the reader that stands over the caller's bytes.
+//! Orders whose bytes have been checked, and packing (R2, R3, R21, R22).
 
-use crate::ffi;
+use crate::calls;
+use crate::job::Job;
+use crate::plan::Plan;
+use crate::profile::Profile;
 use crate::refusal::Refusal;
+use crate::work::WorkArea;
+use crate::{HEADER_BYTES, JOB_NUMBERS, MOST_JOBS, ORDER_NUMBERS};
 
-/// The bytes of a packed order, as they came. Every call judges them, so a value of this type promises
-/// nothing.
-#[derive(Clone, Copy, Debug, PartialEq, Eq)]
-pub struct Order<'a>(&'a [u8]);
+/// A packed order that passed every check of an order, over the caller's bytes.
+///
+/// The proved library judges the bytes once, in `try_from`, with the refusals 1 to 7 and 9 and their places.
+/// No call refuses an `Order` for any of these again, save that [`Profile::extended`] adds the weight that
+/// the profile brings.
+///
+/// ```
+/// use leafanchor::{Job, Order};
+///
+/// # let bytes = [0x07, 0xFD, 0xA8, 0, 0x1E, 0x03, 0xFD, 0xA8, 0x07, 0xBC, 0, 0];
+/// let order = Order::try_from(&bytes[..])?;
+/// assert_eq!((order.t0(), order.count()), (-600, 1));
+/// assert_eq!(order.jobs().next(), Some(Job::critical(7, -600, 495, 0)));
+/// # Ok::<(), leafanchor::Refusal>(())
+/// ```
+#[derive(Clone, Copy, Debug, PartialEq, Eq, Hash)]
+#[must_use]
+pub struct Order<'a> {
+    bytes: &'a [u8],
+    t0: i32,
+    count: usize,
+}
+
+impl<'a> TryFrom<&'a [u8]> for Order<'a> {
+    type Error = Refusal;
+
+    /// Checks packed bytes.
+    fn try_from(bytes: &'a [u8]) -> Result<Self, Refusal> {
+        let mut numbers = [0; ORDER_NUMBERS];
+        let answer = calls::unpack(bytes, &mut numbers).accepted()?;
+        Ok(Order { bytes, t0: answer.t0, count: answer.jobs })
+    }
+}
 
 impl<'a> Order<'a> {
-    /// An order over these bytes, whatever they are.
-    pub fn new(bytes: &'a [u8]) -> Self {
-        Order(bytes)
-    }
-
-    /// The bytes, header first.
-    pub fn bytes(self) -> &'a [u8] {
-        self.0
-    }
-
-    /// A reader at the first job.
+    /// Packs a bus-free time and jobs into the front of `room`;
+    /// [`ORDER_BYTES`](crate::ORDER_BYTES) are enough for any order.
     ///
     /// # Errors
-    /// Refusals 1 to 5.
-    pub fn reader(self) -> Result<Reader<'a>, Refusal> {
-        let answer = ffi::open(self.0);
-        Refusal::check(answer.refusal, 0)?;
-        Ok(Reader { order: self, jobs: answer.jobs, place: 0, refused: false })
-    }
-}
-
-/// A job as six numbers. Any numbers may stand here; packing refuses those out of range.
-#[repr(C)]
-#[derive(Clone, Copy, Debug, Default, PartialEq, Eq, Hash)]
-pub struct Job {
-    /// The job's number, 0 to 63.
-    pub number: i32,
-    /// 1 for a critical job, 0 for one that may be left out.
-    pub critical: i32,
-    /// 0 for a critical job, else 1 to 50.
-    pub weight: i32,
-    /// The earliest start.
-    pub ready: i32,
-    /// Seconds on the bus.
-    pub length: i32,
-    /// The latest finish.
-    pub deadline: i32,
-}
-
-impl Job {
-    /// A job that stays in every plan.
-    pub const fn critical(number: i32, ready: i32, length: i32, deadline: i32) -> Self {
-        Job { number, critical: 1, weight: 0, ready, length, deadline }
-    }
-
-    /// A job that may be left out, at the loss of its weight.
-    pub const fn optional(number: i32, weight: i32, ready: i32, length: i32, deadline: i32) -> Self {
-        Job { number, critical: 0, weight, ready, length, deadline }
-    }
-
-    /// Whether the job stays in every plan.
-    pub const fn is_critical(&self) -> bool {
-        self.critical != 0
-    }
-}
-
-/// Packs a bus-free time and jobs into the front of `bytes`, and gives that part.
-///
-/// # Errors
-/// Refusals 3, 5 to 7, 9 and 10; `bytes` then stays as it was.
-pub fn pack<'o>(t0: i32, jobs: &[Job], bytes: &'o mut [u8]) -> Result<&'o [u8], Refusal> {
-    let answer = ffi::pack_jobs(t0, jobs, bytes);
-    Refusal::check(answer.refusal, answer.place)?;
-    Ok(&bytes[..answer.bytes])
-}
-
-/// Unpacks an order into the front of `jobs`, and gives its bus-free time and that part.
-///
-/// # Errors
-/// Refusals 1 to 7, 9 and 10; `jobs` then stays as it was.
-pub fn unpack<'o>(order: Order<'_>, jobs: &'o mut [Job]) -> Result<(i32, &'o [Job]), Refusal> {
-    let answer = ffi::unpack_jobs(order.0, jobs);
-    Refusal::check(answer.refusal, answer.place)?;
-    Ok((answer.t0, &jobs[..answer.jobs]))
-}
-
-/// A reader over the caller's bytes that moves job by job. As an iterator it ends after the last job or the
-/// first refusal; [`Reader::step`] stays at a refused job and says so again.
-#[derive(Clone, Debug)]
-pub struct Reader<'a> {
-    order: Order<'a>,
-    jobs: usize,
-    place: usize,
-    refused: bool,
-}
-
-impl Reader<'_> {
-    /// The jobs of the whole order.
-    pub fn jobs(&self) -> usize {
-        self.jobs
-    }
-
-    /// The place of the job that comes next.
-    pub fn place(&self) -> usize {
-        self.place
-    }
-
-    /// The next job, or none at the end.
-    ///
-    /// # Errors
-    /// Refusal 6 at a job out of range; the reader stays there.
-    pub fn step(&mut self) -> Result<Option<Job>, Refusal> {
-        let answer = ffi::step(self.order.0, self.place);
-        self.place = answer.next;
-        Refusal::check(answer.refusal, answer.place)?;
-        Ok(if answer.end == 1 { None } else { Some(answer.job()) })
-    }
-}
-
-impl Iterator for Reader<'_> {
-    type Item = Result<Job, Refusal>;
-
-    fn next(&mut self) -> Option<Self::Item> {
-        if self.refused {
-            return None;
+    /// Refusals 3, 5 to 7, 9 and 10; `room` then stays as it was.
+    pub fn pack(t0: i32, jobs: &[Job], room: &'a mut [u8]) -> Result<Self, Refusal> {
+        // Room for one job more than an order has: of too many jobs that many are enough for refusal 3.
+        let mut numbers = [0; ORDER_NUMBERS + JOB_NUMBERS];
+        let unpacked = jobs.iter().take(MOST_JOBS + 1);
+        let length = JOB_NUMBERS * unpacked.len();
+        for (place, job) in numbers.chunks_exact_mut(JOB_NUMBERS).zip(unpacked) {
+            place.copy_from_slice(&job.numbers());
         }
-        let job = self.step();
-        self.refused = job.is_err();
-        job.transpose()
+        let answer = calls::pack(t0, &numbers[..length], room).accepted()?;
+        Ok(Order { bytes: &room[..answer.bytes], t0, count: jobs.len() })
+    }
+
+    /// The packed bytes, header first.
+    #[must_use]
+    pub const fn bytes(self) -> &'a [u8] {
+        self.bytes
+    }
+
+    /// The packed jobs, without the header.
+    #[must_use]
+    pub fn records(self) -> &'a [u8] {
+        &self.bytes[HEADER_BYTES..]
+    }
+
+    /// The bus-free time.
+    #[must_use]
+    pub const fn t0(self) -> i32 {
+        self.t0
+    }
+
+    /// How many jobs there are.
+    #[must_use]
+    pub const fn count(self) -> usize {
+        self.count
+    }
+
+    /// The job at a place, if there is one.
+    #[must_use]
+    pub fn job(self, place: usize) -> Option<Job> {
+        calls::step(self.bytes, place).job()
+    }
+
+    /// The jobs in their order.
+    #[must_use]
+    pub fn jobs(self) -> impl ExactSizeIterator<Item = Job> + DoubleEndedIterator + Clone + 'a {
+        // Every place below the count has a job, by the checks that the order passed.
+        (0..self.count).map(move |place| calls::step(self.bytes, place).fields())
+    }
+
+    /// The order's profile: at each time the greatest weight that can have been kept by then. It is empty if
+    /// no choice is feasible.
+    pub fn profile(self, work: &mut WorkArea) -> Profile {
+        Profile::of(self, work)
+    }
+
+    /// The plan that loses the least weight.
+    ///
+    /// # Errors
+    /// Refusal 11 if no choice is feasible.
+    pub fn plan(self, work: &mut WorkArea) -> Result<Plan, Refusal> {
+        Plan::of(self, work)
     }
 }

@@ -1,76 +1,139 @@
-//! Profiles: the greatest weight that can have been kept by each time.
+//! Profiles: the greatest weight that can have been kept by each time (R11 to R15).
 
-use crate::ffi::{self, LookupAnswer, Point};
+use crate::calls::{self, Point};
 use crate::order::Order;
-use crate::planning::WorkArea;
 use crate::refusal::Refusal;
+use crate::work::WorkArea;
+use crate::PROFILE_ROOM;
+use core::fmt;
 
-/// A profile as alternating times and weights, both strictly rising. Every call judges it.
-#[derive(Clone, Copy, Debug, PartialEq, Eq)]
-pub struct Profile<'a>(&'a [i32]);
+/// A valid profile: up to 301 points, times and weights both strictly rising.
+///
+/// It owns its points, in some 2,400 bytes, and allocates nothing. It comes from an order
+/// ([`Order::profile`]), from another profile, or from points or alternating numbers that are checked.
+///
+/// ```
+/// use leafanchor::Profile;
+///
+/// let slow = Profile::try_from(&[0, 0, 20, 7][..])?; // alternating: time 0, weight 0, time 20, weight 7
+/// let quick = Profile::try_from(&[5, 7][..])?;
+/// let better = slow.better_of(&quick);
+/// assert_eq!(better.to_string(), "(0, 0), (5, 7)");
+/// assert_eq!((better.lookup(-1), better.lookup(4), better.lookup(5)), (None, Some(0), Some(7)));
+/// # Ok::<(), leafanchor::Refusal>(())
+/// ```
+#[derive(Clone, PartialEq, Eq, Hash)]
+#[must_use]
+pub struct Profile {
+    /// The points as alternating times and weights; 0 behind the last of them.
+    numbers: [i32; PROFILE_ROOM],
+    points: usize,
+}
 
-impl<'a> Profile<'a> {
-    /// A profile over these numbers, whatever they are.
-    pub fn new(numbers: &'a [i32]) -> Self {
-        Profile(numbers)
+impl Profile {
+    /// The profile of an order: the point (t0, 0) extended by it.
+    pub(crate) fn of(order: Order<'_>, work: &mut WorkArea) -> Self {
+        let mut profile = Profile::default();
+        let answer = calls::extend(&[order.t0(), 0], order.bytes(), &mut profile.numbers, work.numbers());
+        debug_assert_eq!(answer.refusal, 0, "an order that passed its checks has a profile");
+        profile.points = answer.points;
+        profile
     }
 
-    /// The alternating numbers.
-    pub fn numbers(self) -> &'a [i32] {
-        self.0
+    /// This profile extended by an order: over every point and every feasible choice run from that point's
+    /// time. The order's own bus-free time has no effect.
+    ///
+    /// # Errors
+    /// Refusal 9 if the profile's last weight and the order's weights sum to more than 300.
+    pub fn extended(&self, order: Order<'_>, work: &mut WorkArea) -> Result<Self, Refusal> {
+        let mut profile = Profile::default();
+        let answer = calls::extend(self.numbers(), order.bytes(), &mut profile.numbers, work.numbers());
+        profile.points = answer.accepted()?.points;
+        Ok(profile)
     }
 
-    /// The points one by one.
-    pub fn points(self) -> impl Iterator<Item = Point> + 'a {
-        self.0.chunks_exact(2).map(|pair| Point { time: pair[0], weight: pair[1] })
+    /// The shortest profile that gives at each time the greater weight of the two.
+    pub fn better_of(&self, other: &Profile) -> Self {
+        let mut profile = Profile::default();
+        let answer = calls::better_of(self.numbers(), other.numbers(), &mut profile.numbers);
+        debug_assert_eq!(answer.refusal, 0, "two valid profiles have a better-of");
+        profile.points = answer.points;
+        profile
+    }
+
+    /// The weight of the last point at or before `t`; none before the first point.
+    #[must_use]
+    pub fn lookup(&self, t: i32) -> Option<u32> {
+        calls::lookup(self.numbers(), t).weight()
+    }
+
+    /// The points, times rising.
+    #[must_use]
+    pub fn points(&self) -> impl ExactSizeIterator<Item = Point> + DoubleEndedIterator + Clone + '_ {
+        self.numbers().chunks_exact(2).map(|pair| Point { time: pair[0], weight: pair[1] })
+    }
+
+    /// The points as alternating times and weights: twice as many numbers as points.
+    #[must_use]
+    pub fn numbers(&self) -> &[i32] {
+        &self.numbers[..2 * self.points]
+    }
+
+    /// Whether there is no point, as for an order without a feasible choice.
+    #[must_use]
+    pub const fn is_empty(&self) -> bool {
+        self.points == 0
     }
 }
 
-/// The weight of the last point at or before `t`; none before the first point.
-///
-/// # Errors
-/// Refusal 8.
-pub fn lookup(profile: Profile<'_>, t: i32) -> Result<Option<u32>, Refusal> {
-    found(ffi::lookup(profile.0, t))
+impl Default for Profile {
+    /// The profile without a point.
+    fn default() -> Self {
+        Profile { numbers: [0; PROFILE_ROOM], points: 0 }
+    }
 }
 
-/// The same over a list of points.
-///
-/// # Errors
-/// Refusal 8.
-pub fn lookup_records(points: &[Point], t: i32) -> Result<Option<u32>, Refusal> {
-    found(ffi::lookup_records(points, t))
+impl TryFrom<&[i32]> for Profile {
+    type Error = Refusal;
+
+    /// A profile from alternating times and weights; refusal 8 if they are none.
+    fn try_from(numbers: &[i32]) -> Result<Self, Refusal> {
+        let _valid = calls::lookup(numbers, 0).accepted()?;
+        let mut profile = Profile { points: numbers.len() / 2, ..Profile::default() };
+        profile.numbers[..numbers.len()].copy_from_slice(numbers);
+        Ok(profile)
+    }
 }
 
-fn found(answer: LookupAnswer) -> Result<Option<u32>, Refusal> {
-    Refusal::check(answer.refusal, 0)?;
-    Ok(if answer.found == 1 { Some(answer.weight) } else { None })
+impl TryFrom<&[Point]> for Profile {
+    type Error = Refusal;
+
+    /// A profile from points; refusal 8 if they are none.
+    fn try_from(points: &[Point]) -> Result<Self, Refusal> {
+        let _valid = calls::lookup_records(points, 0).accepted()?;
+        let mut profile = Profile { points: points.len(), ..Profile::default() };
+        for (pair, point) in profile.numbers.chunks_exact_mut(2).zip(points) {
+            pair.copy_from_slice(&[point.time, point.weight]);
+        }
+        Ok(profile)
+    }
 }
 
-/// The shortest profile that gives at each time the greater weight of the two, written into the front of
-/// `out`, which has room for [`PROFILE_ROOM`](crate::PROFILE_ROOM) numbers.
-///
-/// # Errors
-/// Refusals 8 and 10; `out` then stays as it was.
-pub fn better_of<'o>(p: Profile<'_>, q: Profile<'_>, out: &'o mut [i32]) -> Result<Profile<'o>, Refusal> {
-    let answer = ffi::better_of(p.0, q.0, out);
-    Refusal::check(answer.refusal, 0)?;
-    Ok(Profile(&out[..2 * answer.points]))
+impl fmt::Display for Profile {
+    fn fmt(&self, f: &mut fmt::Formatter<'_>) -> fmt::Result {
+        if self.is_empty() {
+            return f.write_str("no point");
+        }
+        for (place, point) in self.points().enumerate() {
+            f.write_str(if place == 0 { "" } else { ", " })?;
+            write!(f, "{point}")?;
+        }
+        Ok(())
+    }
 }
 
-/// The profile extended by an order, written into the front of `out`, which has room for
-/// [`PROFILE_ROOM`](crate::PROFILE_ROOM) numbers. The profile of an order is the one point `[t0, 0]` extended
-/// by it.
-///
-/// # Errors
-/// Refusals 1 to 10; `out` then stays as it was.
-pub fn extend<'o>(
-    profile: Profile<'_>,
-    order: Order<'_>,
-    out: &'o mut [i32],
-    work: &mut WorkArea,
-) -> Result<Profile<'o>, Refusal> {
-    let answer = ffi::extend(profile.0, order.bytes(), out, work.numbers());
-    Refusal::check(answer.refusal, answer.place)?;
-    Ok(Profile(&out[..2 * answer.points]))
+impl fmt::Debug for Profile {
+    fn fmt(&self, f: &mut fmt::Formatter<'_>) -> fmt::Result {
+        f.debug_list().entries(self.points()).finish()
+    }
 }

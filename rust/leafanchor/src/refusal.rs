@@ -1,113 +1,116 @@
-//! Why a call refused, with the number and the place that the library gives.
+//! Why a call refused, with the number and the place that the library gives (R24 to R26).
 
 use core::fmt;
 
-/// Why a call refused. Where several reasons apply, the one of the lowest number is given.
-#[derive(Clone, Copy, Debug, PartialEq, Eq, Hash)]
-pub enum Refusal {
-    /// 1: the packed order is under 4 bytes.
-    OrderTooShort,
-    /// 2: the header's spare bits are not zero.
-    SpareBits,
-    /// 3: more than 48 jobs.
-    TooManyJobs,
-    /// 4: the length does not fit the number of jobs.
-    WrongLength,
-    /// 5: the bus-free time is out of range.
-    BusFreeOutOfRange,
-    /// 6: a job's field is out of range.
-    JobOutOfRange {
-        /// The place of the first such job.
-        place: usize,
-    },
-    /// 7: a job number stood earlier in the order.
-    NumberRepeated {
-        /// The smallest place whose number stood earlier.
-        place: usize,
-    },
-    /// 8: a given profile is not valid.
-    ProfileNotValid,
-    /// 9: the weights sum to more than 300.
-    TooMuchWeight,
-    /// 10: a buffer is too short.
-    BufferTooShort,
-    /// 11: no choice is feasible, or neither opening has a point by the time asked for.
-    NoFeasibleChoice,
-    /// 12: the cell is below -30 degrees.
-    CellTooCold,
+/// Declares every refusal once: its number, its name, the place where it is about one job, and a phrase for a
+/// person.
+macro_rules! refusals {
+    ($($number:literal $name:ident $({ $place:ident })? $phrase:literal,)*) => {
+        /// Why a call refused. Where several reasons apply, the one of the lowest number is given.
+        ///
+        /// Later versions may add reasons, and figures to the reasons that are about one job.
+        ///
+        /// ```
+        /// use leafanchor::{Order, Refusal};
+        ///
+        /// let refusal = Order::try_from(&[0x17, 0xFD][..]).unwrap_err();
+        /// assert_eq!(refusal, Refusal::OrderTooShort);
+        /// assert_eq!((refusal.number(), refusal.place()), (1, 0));
+        /// assert_eq!(refusal.to_string(), "the packed order is under 4 bytes");
+        /// ```
+        #[non_exhaustive]
+        #[derive(Clone, Copy, Debug, PartialEq, Eq, PartialOrd, Ord, Hash)]
+        pub enum Refusal {
+            $(
+                #[doc = concat!(stringify!($number), ": ", $phrase, ".")]
+                $(#[doc = concat!("`", stringify!($place), "` counts from 0.")] #[non_exhaustive])?
+                $name $({
+                    /// The first place at which this holds.
+                    $place: usize,
+                })?,
+            )*
+            /// A number that this version of the crate does not know.
+            #[non_exhaustive]
+            Other {
+                /// The number.
+                number: u32,
+                /// The place that came with it, 0 where it is not about one job.
+                place: usize,
+            },
+        }
+
+        impl Refusal {
+            /// The refusal's number.
+            #[must_use]
+            pub const fn number(self) -> u32 {
+                match self {
+                    $(Refusal::$name { .. } => $number,)*
+                    Refusal::Other { number, .. } => number,
+                }
+            }
+
+            /// The place of the job that is refused; 0 where the refusal is not about one job.
+            #[must_use]
+            pub const fn place(self) -> usize {
+                match self {
+                    $($(Refusal::$name { $place, .. } => $place,)?)*
+                    Refusal::Other { place, .. } => place,
+                    _ => 0,
+                }
+            }
+
+            /// What the library's refusal number and place mean; 0 is no refusal.
+            pub(crate) const fn check(number: u32, place: usize) -> Result<(), Refusal> {
+                match number {
+                    0 => Ok(()),
+                    $($number => Err(Refusal::$name $({ $place: place })?),)*
+                    _ => Err(Refusal::Other { number, place }),
+                }
+            }
+        }
+
+        impl fmt::Display for Refusal {
+            fn fmt(&self, f: &mut fmt::Formatter<'_>) -> fmt::Result {
+                match self {
+                    $(Refusal::$name { $($place,)? .. } => write!(f, $phrase),)*
+                    Refusal::Other { number, .. } => write!(f, "refusal {number}, unknown to this version"),
+                }
+            }
+        }
+    };
 }
 
-impl Refusal {
-    /// The refusal's number, 1 to 12.
-    pub fn number(self) -> u32 {
-        match self {
-            Refusal::OrderTooShort => 1,
-            Refusal::SpareBits => 2,
-            Refusal::TooManyJobs => 3,
-            Refusal::WrongLength => 4,
-            Refusal::BusFreeOutOfRange => 5,
-            Refusal::JobOutOfRange { .. } => 6,
-            Refusal::NumberRepeated { .. } => 7,
-            Refusal::ProfileNotValid => 8,
-            Refusal::TooMuchWeight => 9,
-            Refusal::BufferTooShort => 10,
-            Refusal::NoFeasibleChoice => 11,
-            Refusal::CellTooCold => 12,
-        }
-    }
-
-    /// The place of the job that is refused; 0 where the refusal is not about one job.
-    pub fn place(self) -> usize {
-        match self {
-            Refusal::JobOutOfRange { place } | Refusal::NumberRepeated { place } => place,
-            _ => 0,
-        }
-    }
-
-    /// What the library's refusal number and place mean; 0 is no refusal.
-    pub(crate) fn check(number: u32, place: usize) -> Result<(), Refusal> {
-        Err(match number {
-            0 => return Ok(()),
-            1 => Refusal::OrderTooShort,
-            2 => Refusal::SpareBits,
-            3 => Refusal::TooManyJobs,
-            4 => Refusal::WrongLength,
-            5 => Refusal::BusFreeOutOfRange,
-            6 => Refusal::JobOutOfRange { place },
-            7 => Refusal::NumberRepeated { place },
-            8 => Refusal::ProfileNotValid,
-            9 => Refusal::TooMuchWeight,
-            10 => Refusal::BufferTooShort,
-            11 => Refusal::NoFeasibleChoice,
-            12 => Refusal::CellTooCold,
-            _ => unreachable!("the library's contracts give no refusal above 12"),
-        })
-    }
-}
-
-impl fmt::Display for Refusal {
-    fn fmt(&self, f: &mut fmt::Formatter<'_>) -> fmt::Result {
-        let phrase = match self {
-            Refusal::OrderTooShort => "the packed order is under 4 bytes",
-            Refusal::SpareBits => "the spare bits are not zero",
-            Refusal::TooManyJobs => "more than 48 jobs",
-            Refusal::WrongLength => "the length does not fit the number of jobs",
-            Refusal::BusFreeOutOfRange => "the bus-free time is out of range",
-            Refusal::JobOutOfRange { place } => {
-                return write!(f, "a field of the job at place {} is out of range", place)
-            }
-            Refusal::NumberRepeated { place } => {
-                return write!(f, "the number of the job at place {} is repeated", place)
-            }
-            Refusal::ProfileNotValid => "a profile is not valid",
-            Refusal::TooMuchWeight => "the weights sum to more than 300",
-            Refusal::BufferTooShort => "a buffer is too short",
-            Refusal::NoFeasibleChoice => "no choice is feasible",
-            Refusal::CellTooCold => "the cell is below -30 degrees",
-        };
-        f.write_str(phrase)
-    }
+refusals! {
+    1 OrderTooShort "the packed order is under 4 bytes",
+    2 SpareBits "the spare bits are not zero",
+    3 TooManyJobs "more than 48 jobs",
+    4 WrongLength "the length does not fit the number of jobs",
+    5 BusFreeOutOfRange "the bus-free time is out of range",
+    6 JobOutOfRange { place } "the job at place {place} has a field out of range",
+    7 NumberRepeated { place } "the job at place {place} repeats a number",
+    8 ProfileNotValid "a profile is not valid",
+    9 TooMuchWeight "the weights sum to more than 300",
+    10 BufferTooShort "a buffer is too short",
+    11 NoFeasibleChoice "no choice is feasible",
+    12 CellTooCold "the cell is below -30 degrees",
 }
 
 #[cfg(feature = "std")]
 impl std::error::Error for Refusal {}
+
+#[cfg(test)]
+mod tests {
+    use super::Refusal;
+
+    #[test]
+    fn every_number_is_told_back() {
+        assert_eq!(Refusal::check(0, 0), Ok(()));
+        for number in (1..=40).chain([u32::MAX]) {
+            let refusal = Refusal::check(number, 3).unwrap_err();
+            let known = number <= 12;
+            assert_eq!(refusal.number(), number);
+            assert_eq!(matches!(refusal, Refusal::Other { .. }), !known);
+            assert_eq!(refusal.place(), if number == 6 || number == 7 || !known { 3 } else { 0 });
+        }
+    }
+}

@@ -1,7 +1,6 @@
-//! The worked figures P1 to P11 through the safe wrapper, and one refusal of each kind that the wrapper turns
-//! into words.
+//! The worked figures P1 to P11 through the safe wrapper.
 
-use leafanchor::*;
+use leafanchor::{heat_up, Job, Order, Plan, Point, Profile, Refusal, WorkArea, ORDER_BYTES};
 
 /// The five jobs of P1, bus free at -600.
 const P1: [Job; 5] = [
@@ -11,74 +10,86 @@ const P1: [Job; 5] = [
     Job::critical(5, 100, 100, 450),
     Job::optional(9, 15, 0, 100, 500),
 ];
+const P1_PACKED: &[u8] = include_bytes!("../../../examples/p1.order");
 
-/// Plans jobs and gives the figures and the starts.
-fn planned(t0: i32, jobs: &[Job]) -> Result<(Plan, Vec<i32>), Refusal> {
-    let mut bytes = [0; ORDER_BYTES];
-    let order = Order::new(pack(t0, jobs, &mut bytes)?);
-    let mut starts = vec![0; jobs.len()];
-    let plan = plan(order, &mut starts, &mut WorkArea::new())?;
-    Ok((plan, starts))
+/// The plan of jobs, bus free at 0.
+fn planned(jobs: &[Job]) -> Result<Plan, Refusal> {
+    Order::pack(0, jobs, &mut [0; ORDER_BYTES])?.plan(&mut WorkArea::new())
+}
+
+/// The starts of jobs, bus free at 0.
+fn starts(jobs: &[Job]) -> Vec<Option<i32>> {
+    planned(jobs).unwrap().starts().collect()
 }
 
 #[test]
-fn p1_is_packed_planned_and_read_back() {
-    let mut bytes = [0; ORDER_BYTES];
-    let packed = pack(-600, &P1, &mut bytes).unwrap();
-    assert_eq!(packed[..12], [0x17, 0xFD, 0xA8, 0, 0x1E, 0x03, 0xFD, 0xA8, 0x07, 0xBC, 0, 0]);
-    assert_eq!(packed, include_bytes!("../../../examples/p1.order"));
+fn p1_is_packed_and_read_back() {
+    let mut room = [0; ORDER_BYTES];
+    let order = Order::pack(-600, &P1, &mut room).unwrap();
+    assert_eq!(order.bytes()[..12], [0x17, 0xFD, 0xA8, 0, 0x1E, 0x03, 0xFD, 0xA8, 0x07, 0xBC, 0, 0]);
+    assert_eq!(order.bytes(), P1_PACKED);
+    assert_eq!(order.records(), &P1_PACKED[4..]);
 
-    let mut jobs = [Job::default(); MOST_JOBS];
-    assert_eq!(unpack(Order::new(packed), &mut jobs), Ok((-600, &P1[..])));
-    let read: Result<Vec<Job>, Refusal> = Order::new(packed).reader().unwrap().collect();
-    assert_eq!(read.unwrap(), P1);
+    assert_eq!(Order::try_from(P1_PACKED), Ok(order));
+    assert_eq!((order.t0(), order.count()), (-600, 5));
+    assert_eq!((order.jobs().len(), order.jobs().next_back()), (5, Some(P1[4])));
+    assert!(order.jobs().eq(P1));
+    assert_eq!((order.job(4), order.job(5)), (Some(P1[4]), None));
+}
 
-    let (plan, starts) = planned(-600, &P1).unwrap();
+#[test]
+fn p1_is_planned() {
+    let plan = Order::try_from(P1_PACKED).unwrap().plan(&mut WorkArea::boxed()).unwrap();
     assert_eq!((plan.kept, plan.kept_weight, plan.lost_weight), (4, 35, 15));
     assert_eq!((plan.finish, plan.points), (395, 10));
-    assert_eq!(starts, [-600, -105, LEFT_OUT, 195, 295]);
-    assert_eq!([0, 1, 2, 3, 4, 5].map(|place| plan.keeps(place)), [true, true, false, true, true, false]);
+    assert_eq!(plan.mask, 0b11011 << 59);
+    let starts = [Some(-600), Some(-105), None, Some(195), Some(295)];
+    assert!(plan.starts().eq(starts));
+    assert_eq!([0, 1, 2, 3, 4].map(|place| plan.start(place)), starts);
+    assert_eq!((plan.start(5), plan.keeps(4), plan.keeps(2), plan.keeps(64)), (None, true, false, false));
+    assert_eq!(plan.kept_places().len(), 4);
+    assert!(plan.kept_places().eq([0, 1, 3, 4]));
 }
 
 #[test]
 fn p2_and_p3_are_the_profile_of_p1() {
-    let mut bytes = [0; ORDER_BYTES];
-    let order = Order::new(pack(-600, &P1, &mut bytes).unwrap());
-    let mut out = [0; PROFILE_ROOM];
-    let profile = extend(Profile::new(&[-600, 0]), order, &mut out, &mut WorkArea::new()).unwrap();
+    let order = Order::try_from(P1_PACKED).unwrap();
+    let profile = order.profile(&mut WorkArea::new());
+    assert_eq!(profile.to_string(), "(200, 0), (295, 20), (395, 35)");
     assert_eq!(profile.numbers(), [200, 0, 295, 20, 395, 35]);
     let points: Vec<Point> = profile.points().collect();
+    assert_eq!((profile.points().len(), points[2]), (3, Point { time: 395, weight: 35 }));
+    assert_eq!(Profile::try_from(&points[..]).as_ref(), Ok(&profile));
+    assert_eq!(Profile::try_from(profile.numbers()).as_ref(), Ok(&profile));
     for (t, weight) in [(199, None), (200, Some(0)), (394, Some(20)), (395, Some(35))] {
-        assert_eq!(lookup(profile, t), Ok(weight));
-        assert_eq!(lookup_records(&points, t), Ok(weight));
+        assert_eq!(profile.lookup(t), weight);
     }
+    let bus_free = Profile::try_from(&[-600, 0][..]).unwrap();
+    assert_eq!(bus_free.extended(order, &mut WorkArea::new()), Ok(profile));
 }
 
 #[test]
-fn p4_to_p8_are_edges_of_the_plan() {
-    assert_eq!(planned(0, &[Job::critical(1, 0, 10, 10)]).unwrap().1, [0]);
-    assert_eq!(planned(0, &[Job::critical(1, 0, 10, 9)]), Err(Refusal::NoFeasibleChoice));
-    let (plan, starts) = planned(0, &[Job::optional(1, 5, 0, 10, 9)]).unwrap();
-    assert_eq!((plan.finish, starts), (0, vec![LEFT_OUT]));
+fn p4_and_p5_are_both_sides_of_a_deadline() {
+    assert_eq!(starts(&[Job::critical(1, 0, 10, 10)]), [Some(0)]);
+    assert_eq!(planned(&[Job::critical(1, 0, 10, 9)]), Err(Refusal::NoFeasibleChoice));
+    let plan = planned(&[Job::optional(1, 5, 0, 10, 9)]).unwrap();
+    assert_eq!((plan.finish, plan.start(0)), (0, None));
+}
 
-    let (_, starts) =
-        planned(0, &[Job::optional(1, 10, 0, 10, 10), Job::optional(2, 10, 0, 10, 10)]).unwrap();
-    assert_eq!(starts, [0, LEFT_OUT]);
-    let (plan, starts) =
-        planned(0, &[Job::optional(1, 10, 0, 10, 10), Job::optional(2, 10, 0, 5, 10)]).unwrap();
-    assert_eq!((plan.finish, starts), (5, vec![LEFT_OUT, 0]));
-
+#[test]
+fn p6_to_p8_are_ties() {
+    assert_eq!(starts(&[Job::optional(1, 10, 0, 10, 10), Job::optional(2, 10, 0, 10, 10)]), [Some(0), None]);
+    let plan = planned(&[Job::optional(1, 10, 0, 10, 10), Job::optional(2, 10, 0, 5, 10)]).unwrap();
+    assert_eq!((plan.start(0), plan.start(1), plan.finish), (None, Some(0), 5));
     let p8 = [Job::optional(1, 10, 0, 4, 4), Job::optional(2, 10, 0, 2, 4), Job::critical(3, 10, 1, 11)];
-    assert_eq!(planned(0, &p8).unwrap().1, [0, LEFT_OUT, 10]);
+    assert_eq!(starts(&p8), [Some(0), None, Some(10)]);
 }
 
 #[test]
 fn p9_is_better_of() {
-    let mut out = [0; PROFILE_ROOM];
-    let better = better_of(Profile::new(&[0, 0, 20, 7]), Profile::new(&[5, 7]), &mut out).unwrap();
-    assert_eq!(better.numbers(), [0, 0, 5, 7]);
-    assert_eq!(better_of(Profile::new(&[1]), Profile::new(&[]), &mut out), Err(Refusal::ProfileNotValid));
-    assert_eq!(better_of(Profile::new(&[]), Profile::new(&[]), &mut out[1..]), Err(Refusal::BufferTooShort));
+    let (p, q) = (Profile::try_from(&[0, 0, 20, 7][..]).unwrap(), Profile::try_from(&[5, 7][..]).unwrap());
+    assert_eq!(p.better_of(&q).numbers(), [0, 0, 5, 7]);
+    assert_eq!(q.better_of(&Profile::default()), q);
 }
 
 #[test]
@@ -87,52 +98,4 @@ fn p10_and_p11_are_heat_up_lengths() {
         assert_eq!(heat_up(byte), Ok(seconds));
     }
     assert_eq!(heat_up(225), Err(Refusal::CellTooCold));
-}
-
-#[test]
-fn openings_are_weighed_at_a_time() {
-    let (mut first, mut second) = ([0; ORDER_BYTES], [0; ORDER_BYTES]);
-    let first = Order::new(pack(0, &[Job::optional(1, 10, 0, 10, 10)], &mut first).unwrap());
-    let second = Order::new(pack(0, &[Job::optional(1, 10, 0, 5, 10)], &mut second).unwrap());
-    let mut work = WorkArea::new();
-    assert_eq!(question(first, second, 9, &mut work), Ok(Opening::Second));
-    let winner = choose(first, second, 9, &mut work).unwrap();
-    assert_eq!(winner, Winner { opening: Opening::Second, records: &second.bytes()[4..] });
-    let winner = choose(first, second, 10, &mut work).unwrap();
-    assert_eq!(winner, Winner { opening: Opening::First, records: &first.bytes()[4..] });
-    assert_eq!(choose(first, second, -1, &mut work), Err(Refusal::NoFeasibleChoice));
-}
-
-#[test]
-fn refusals_have_a_number_a_place_and_a_phrase() {
-    let four_nine = [4, 9, 4, 9].map(|number| Job::optional(number, 1, 0, 1, 1));
-    let repeated = planned(0, &four_nine).unwrap_err();
-    assert_eq!((repeated, repeated.number(), repeated.place()), (Refusal::NumberRepeated { place: 2 }, 7, 2));
-    assert_eq!(repeated.to_string(), "the number of the job at place 2 is repeated");
-
-    let mut heavy: Vec<Job> = (0..6).map(|number| Job::optional(number, 50, 0, 1, 100)).collect();
-    assert!(planned(0, &heavy).is_ok());
-    heavy.push(Job::optional(6, 1, 0, 1, 100));
-    assert_eq!(planned(0, &heavy), Err(Refusal::TooMuchWeight));
-
-    let long = planned(0, &[Job::critical(1, 0, 10_001, 0)]).unwrap_err();
-    assert_eq!((long.number(), long.place()), (6, 0));
-    assert_eq!(planned(100_001, &[]), Err(Refusal::BusFreeOutOfRange));
-    assert_eq!(planned(-7, &[]).unwrap().0.finish, -7);
-}
-
-#[test]
-fn a_reader_stays_at_a_refused_job_and_its_iterator_ends_there() {
-    let mut bytes = *include_bytes!("../../../examples/p1.order");
-    bytes[4 + 8 + 4] = 0;
-    bytes[4 + 8 + 5] &= 0x03; // the second job's length is now 0
-    let order = Order::new(&bytes);
-    let mut reader = order.reader().unwrap();
-    assert_eq!((reader.jobs(), reader.step()), (5, Ok(Some(P1[0]))));
-    for _ in 0..2 {
-        assert_eq!(reader.step(), Err(Refusal::JobOutOfRange { place: 1 }));
-        assert_eq!(reader.place(), 1);
-    }
-    assert_eq!(order.reader().unwrap().count(), 2);
-    assert_eq!(Order::new(&[]).reader().unwrap_err(), Refusal::OrderTooShort);
 }

@@ -1,6 +1,6 @@
 //! Inputs of every kind: orders and profiles that are in range, and the same with one or two damages.
 
-use leafanchor::ffi::Point;
+use leafanchor::calls::Point;
 use trials::{order_of, packed, profile_of, Order, Random, Style};
 
 /// Numbers at and past the ends of ranges.

@@ -1,6 +1,9 @@
 //! Prints the size of every answer and the offset of every field, as tools/layout.c does on the C side.
 
-use leafanchor::ffi::*;
+use leafanchor::calls::{
+    BetterAnswer, ChooseAnswer, ExtendAnswer, HeatAnswer, LookupAnswer, OpenAnswer, PackAnswer, PlanAnswer,
+    Point, QuestionAnswer, StepAnswer, UnpackAnswer,
+};
 
 /// Prints one struct: its C name and size, then each field's offset.
 macro_rules! layout {

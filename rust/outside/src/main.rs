@@ -1,6 +1,6 @@
-//! Compares every call of the library, over the C boundary, with a plain reference written from document 01,
-//! on inputs from a fixed generator; ends with a failure if anything differs. `outside layout` prints how the
-//! answers are laid out.
+//! Compares every call of the library, over the C boundary, and the wrapper's types with a plain reference
+//! written from docs/RULES.md, on inputs from a fixed generator; ends with a failure if anything differs.
+//! `outside layout` prints how the answers are laid out.
 
 mod calls;
 mod inputs;

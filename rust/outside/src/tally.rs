@@ -6,10 +6,30 @@ use std::fmt::Debug;
 /// Mismatches that are printed in full.
 const PRINTED: usize = 10;
 
+/// What is held against the reference.
+#[derive(Clone, Copy, PartialEq, Eq, PartialOrd, Ord)]
+pub enum Held {
+    /// A call of the library, over the C boundary.
+    Call(&'static str),
+    /// A type of the wrapper.
+    Type(&'static str),
+}
+
+impl Held {
+    fn name(self) -> &'static str {
+        match self {
+            Held::Call(name) | Held::Type(name) => name,
+        }
+    }
+}
+
+/// Counts by refusal number.
+type Counts = [usize; 13];
+
 /// All counts of a run.
 #[derive(Default)]
 pub struct Tally {
-    calls: BTreeMap<&'static str, [usize; 13]>,
+    counts: BTreeMap<Held, Counts>,
     mismatches: usize,
     /// Orders planned: with a feasible choice, and with none.
     pub feasible: usize,
@@ -30,47 +50,55 @@ impl Tally {
     pub fn compare<A: PartialEq + Debug>(
         &mut self,
         call: &'static str,
+        given: (u32, A, bool),
+        wanted: A,
+        input: &dyn Debug,
+    ) {
+        self.compare_held(Held::Call(call), given, wanted, input);
+    }
+
+    /// The same for any of the two.
+    pub fn compare_held<A: PartialEq + Debug>(
+        &mut self,
+        held: Held,
         (refusal, given, memory): (u32, A, bool),
         wanted: A,
         input: &dyn Debug,
     ) {
-        self.calls.entry(call).or_default()[refusal.min(12) as usize] += 1;
+        self.counts.entry(held).or_default()[refusal.min(12) as usize] += 1;
         if given == wanted && memory {
             return;
         }
         self.mismatches += 1;
         if self.mismatches <= PRINTED {
-            println!("mismatch: {call}\n  given  {given:?}\n  wanted {wanted:?}");
+            println!("mismatch: {}\n  given  {given:?}\n  wanted {wanted:?}", held.name());
             println!("  memory as it must be: {memory}\n  input  {input:?}");
         }
     }
 
-    /// Calls compared so far.
-    pub fn total(&self) -> usize {
-        self.calls.values().flatten().sum()
-    }
-
-    /// Prints the counts; true if nothing differed and every refusal 1 to 12 was seen.
+    /// Prints the counts; true if nothing differed and every refusal 1 to 12 was seen over the C boundary.
     pub fn report(&self) -> bool {
-        print!("{:>14}", "refusal");
+        print!("{:>18}", "refusal");
         (0..13).for_each(|number| print!("{number:>8}"));
         println!();
-        let mut seen = [0; 13];
-        for (call, counts) in &self.calls {
-            print!("{call:>14}");
+        let (mut of_calls, mut of_types) = ([0; 13], [0; 13]);
+        for (held, counts) in &self.counts {
+            print!("{:>18}", held.name());
             counts.iter().for_each(|count| print!("{count:>8}"));
             println!();
-            seen.iter_mut().zip(counts).for_each(|(sum, count)| *sum += count);
+            let sums = if matches!(held, Held::Call(_)) { &mut of_calls } else { &mut of_types };
+            sums.iter_mut().zip(counts).for_each(|(sum, count)| *sum += count);
         }
         println!("orders planned: {} feasible, {} infeasible", self.feasible, self.infeasible);
         println!("needed the tie rule: {} of {} over all choices", self.tied, self.tried);
         println!("another plan by earliest finishes alone: {}", self.slips);
         println!("of 48 jobs: {}, feasible {}", self.longest, self.longest_feasible);
-        let unseen: Vec<usize> = (0..13).filter(|&number| seen[number] == 0).collect();
+        let unseen: Vec<usize> = (0..13).filter(|&number| of_calls[number] == 0).collect();
         if !unseen.is_empty() {
             println!("never seen: refusals {unseen:?}");
         }
-        println!("inputs {}", self.total());
+        println!("inputs {}", of_calls.iter().sum::<usize>());
+        println!("inputs of the wrapper's types {}", of_types.iter().sum::<usize>());
         println!("mismatches {}", self.mismatches);
         self.mismatches == 0 && unseen.is_empty()
     }

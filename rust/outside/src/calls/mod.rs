@@ -1,15 +1,18 @@
 //! One comparison for each call: an input is made, the library is called over the C boundary, and its answer
-//! and all lent memory are held against the reference.
+//! and all lent memory are held against the reference. The wrapper's types are then held against it on the
+//! same input.
 
 mod openings;
 mod packing;
 mod planning;
 mod profiles;
+mod types;
 
 use crate::lent::Work;
 use crate::reference::{self, Point, Refused};
 use crate::tally::Tally;
-use leafanchor::ffi::{self, HeatAnswer};
+use leafanchor::calls::{self, HeatAnswer};
+use leafanchor::WorkArea;
 use trials::Random;
 
 /// What the comparisons share: the generator, the counts and the work area.
@@ -17,6 +20,7 @@ pub struct Trial {
     pub random: Random,
     pub tally: Tally,
     work: Work,
+    typed_work: Box<WorkArea>,
 }
 
 impl Trial {
@@ -24,13 +28,13 @@ impl Trial {
     pub fn new(seed: u64) -> Self {
         let mut random = Random::new(seed);
         let work = Work::new(&mut random);
-        Trial { random, tally: Tally::default(), work }
+        Trial { random, tally: Tally::default(), work, typed_work: WorkArea::boxed() }
     }
 
     /// Heat-up lengths of every byte.
     pub fn heat_up(&mut self) {
         for byte in 0..=255 {
-            let given = ffi::heat_up(byte);
+            let given = calls::heat_up(byte);
             let wanted = match reference::heat_up(byte) {
                 Ok(seconds) => HeatAnswer { refusal: 0, seconds },
                 Err(refused) => HeatAnswer { refusal: refused.number, ..Default::default() },

@@ -4,7 +4,7 @@ use super::{unless, Trial};
 use crate::inputs;
 use crate::lent::After;
 use crate::reference::{self, Point, Refused};
-use leafanchor::ffi::{self, ChooseAnswer, QuestionAnswer};
+use leafanchor::calls::{self, ChooseAnswer, QuestionAnswer};
 use trials::Order;
 
 impl Trial {
@@ -15,7 +15,7 @@ impl Trial {
         let second = if self.random.once_in(20) { &first } else { &other };
         let t = self.time_for(&first, second);
 
-        let given = ffi::question(&first, second, t, self.work.lend(&mut self.random));
+        let given = calls::question(&first, second, t, self.work.lend(&mut self.random));
         let wanted = match winner(&first, second, t, self.work.is_enough()) {
             Ok((winner, _)) => QuestionAnswer { refusal: 0, winner },
             Err(refused) => QuestionAnswer { refusal: refused.number, winner: 0 },
@@ -23,13 +23,15 @@ impl Trial {
         let memory = self.work.holds(after(wanted.refusal));
         self.tally.compare("question", (given.refusal, given, memory), wanted, &(&first, second, t));
 
-        let given = ffi::choose(&first, second, t, self.work.lend(&mut self.random));
-        let wanted = match winner(&first, second, t, self.work.is_enough()) {
+        let given = calls::choose(&first, second, t, self.work.lend(&mut self.random));
+        let won = winner(&first, second, t, self.work.is_enough());
+        let wanted = match won {
             Ok((winner, jobs)) => ChooseAnswer { refusal: 0, winner, offset: 4, length: 8 * jobs },
             Err(refused) => ChooseAnswer { refusal: refused.number, ..Default::default() },
         };
         let memory = self.work.holds(after(wanted.refusal));
         self.tally.compare("choose", (given.refusal, given, memory), wanted, &(&first, second, t));
+        self.typed_choose(&first, second, t, won.map(|(winner, _)| winner));
     }
 
     /// A time near the points of one of the openings.

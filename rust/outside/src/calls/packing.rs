@@ -4,7 +4,7 @@ use super::{jobs_by_length, unless, Trial};
 use crate::inputs;
 use crate::lent::Lent;
 use crate::reference::{self, Refused};
-use leafanchor::ffi::{self, OpenAnswer, PackAnswer, StepAnswer, UnpackAnswer};
+use leafanchor::calls::{self, OpenAnswer, PackAnswer, StepAnswer, UnpackAnswer};
 use trials::{packed, Order};
 
 impl Trial {
@@ -13,10 +13,11 @@ impl Trial {
         let bytes = inputs::bytes(&mut self.random);
         let needed = 6 * jobs_by_length(&bytes);
         let mut lent = Lent::new(inputs::room(&mut self.random, needed), || self.junk());
-        let given = ffi::unpack(&bytes, lent.lend());
-        let judged = reference::judged(&bytes)
-            .and_then(|order| unless(lent.lend().len() >= needed, 10).map(|()| order));
-        let (wanted, written) = match judged {
+        let given = calls::unpack(&bytes, lent.lend());
+        let judged = reference::judged(&bytes);
+        self.typed_order(&bytes, &judged);
+        let roomy = judged.and_then(|order| unless(lent.lend().len() >= needed, 10).map(|()| order));
+        let (wanted, written) = match roomy {
             Ok(Order { t0, jobs }) => {
                 let written = jobs.iter().flat_map(|job| job.numbers()).collect();
                 (UnpackAnswer { refusal: 0, place: 0, jobs: jobs.len(), t0 }, written)
@@ -33,7 +34,7 @@ impl Trial {
         let (t0, numbers) = inputs::numbers(&mut self.random);
         let needed = 4 + 8 * (numbers.len() / 6);
         let mut lent = Lent::new(inputs::room(&mut self.random, needed), || self.junk() as u8);
-        let given = ffi::pack(t0, &numbers, lent.lend());
+        let given = calls::pack(t0, &numbers, lent.lend());
         let judged = reference::judged_numbers(t0, &numbers)
             .and_then(|order| unless(lent.lend().len() >= needed, 10).map(|()| order));
         let (wanted, written) = match judged {
@@ -42,13 +43,14 @@ impl Trial {
                 (PackAnswer { refusal: number, place, ..Default::default() }, vec![])
             }
         };
-        self.tally.compare("pack", (given.refusal, given, lent.holds(&written)), wanted, &(t0, numbers));
+        self.tally.compare("pack", (given.refusal, given, lent.holds(&written)), wanted, &(t0, &numbers));
+        self.typed_pack(t0, &numbers);
     }
 
     /// Opens bytes of any kind and steps at places of any kind.
     pub fn read(&mut self) {
         let bytes = inputs::bytes(&mut self.random);
-        let given = ffi::open(&bytes);
+        let given = calls::open(&bytes);
         let wanted = match reference::header(&bytes) {
             Ok((jobs, _)) => OpenAnswer { refusal: 0, jobs },
             Err(refused) => OpenAnswer { refusal: refused.number, ..Default::default() },
@@ -57,7 +59,7 @@ impl Trial {
         let refused = (0..given.jobs).find(|&place| reference::reader_job(&bytes, place).is_err());
         let anywhere = self.random.below(given.jobs + 2);
         for place in [refused.unwrap_or(0), anywhere, self.random.one_of(&[given.jobs, 48, 64, usize::MAX])] {
-            let given = ffi::step(&bytes, place);
+            let given = calls::step(&bytes, place);
             let wanted = wanted_step(&bytes, place);
             self.tally.compare("step", (given.refusal, given, true), wanted, &(place, &bytes));
         }

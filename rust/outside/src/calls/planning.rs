@@ -4,7 +4,7 @@ use super::{jobs_by_length, unless, Trial};
 use crate::inputs;
 use crate::lent::{After, Lent};
 use crate::reference::{self, Best, Keep, Refused, MOST_JOBS_OF_ALL_CHOICES};
-use leafanchor::ffi::{self, PlanAnswer};
+use leafanchor::calls::{self, PlanAnswer};
 use leafanchor::LEFT_OUT;
 use trials::{packed, Order, Style};
 
@@ -32,7 +32,7 @@ impl Trial {
     fn plan_bytes(&mut self, bytes: &[u8]) {
         let needed = jobs_by_length(bytes);
         let mut lent = Lent::new(inputs::room(&mut self.random, needed), || self.junk());
-        let given = ffi::plan(bytes, lent.lend(), self.work.lend(&mut self.random));
+        let given = calls::plan(bytes, lent.lend(), self.work.lend(&mut self.random));
         let rooms = lent.lend().len() >= needed && self.work.is_enough();
         let planned = reference::judged(bytes)
             .and_then(|order| unless(rooms, 10).map(|()| order))
@@ -46,6 +46,7 @@ impl Trial {
         };
         let memory = lent.holds(&written) && self.work.holds(after);
         self.tally.compare("plan", (given.refusal, given, memory), wanted, &bytes);
+        self.typed_plan(bytes, wanted, &written);
     }
 
     /// The plan's choice, over all choices where there are few enough, and what was met on the way.
@@ -74,7 +75,7 @@ fn keeps(best: Best, place: usize) -> bool {
     best.choice >> place & 1 == 1
 }
 
-/// The plan's figures, each from its sentence in document 01.
+/// The plan's figures, each from its sentence in R8 and R9.
 fn wanted_plan(order: &Order, best: Best) -> PlanAnswer {
     let left_out = order.jobs.iter().enumerate().filter(|&(place, _)| !keeps(best, place));
     PlanAnswer {

@@ -4,8 +4,8 @@ use super::{numbers_of, points_of, unless, Trial};
 use crate::inputs;
 use crate::lent::{After, Lent};
 use crate::reference::{self, Point, Refused};
-use leafanchor::ffi::{self, BetterAnswer, ExtendAnswer, LookupAnswer};
-use leafanchor::PROFILE_ROOM;
+use leafanchor::calls::{self, BetterAnswer, ExtendAnswer, LookupAnswer};
+use leafanchor::{Profile, PROFILE_ROOM};
 
 impl Trial {
     /// Looks times up in numbers of any kind.
@@ -13,13 +13,10 @@ impl Trial {
         let profile = inputs::profile(&mut self.random);
         let times: Vec<i32> = profile.iter().step_by(2).copied().collect();
         let t = inputs::time_near(&mut self.random, &times);
-        let given = ffi::lookup(&profile, t);
-        self.tally.compare(
-            "lookup",
-            (given.refusal, given, true),
-            wanted_lookup(&profile, t),
-            &(t, &profile),
-        );
+        let given = calls::lookup(&profile, t);
+        let wanted = wanted_lookup(&profile, t);
+        self.tally.compare("lookup", (given.refusal, given, true), wanted, &(t, &profile));
+        self.typed_lookup(Profile::try_from(&profile[..]), t, wanted);
     }
 
     /// Looks times up in records of any kind.
@@ -27,10 +24,11 @@ impl Trial {
         let records = inputs::records(&mut self.random);
         let times: Vec<i32> = records.iter().map(|point| point.time).collect();
         let t = inputs::time_near(&mut self.random, &times);
-        let given = ffi::lookup_records(&records, t);
+        let given = calls::lookup_records(&records, t);
         let numbers: Vec<i32> = records.iter().flat_map(|point| [point.time, point.weight]).collect();
         let wanted = wanted_lookup(&numbers, t);
         self.tally.compare("lookup_records", (given.refusal, given, true), wanted, &(t, &records));
+        self.typed_lookup(Profile::try_from(&records[..]), t, wanted);
     }
 
     /// Better-of two lists of numbers of any kind, at times one list twice.
@@ -39,7 +37,7 @@ impl Trial {
         let other = inputs::profile(&mut self.random);
         let q = if self.random.once_in(20) { &p } else { &other };
         let mut lent = Lent::new(inputs::room(&mut self.random, PROFILE_ROOM), || self.junk());
-        let given = ffi::better_of(&p, q, lent.lend());
+        let given = calls::better_of(&p, q, lent.lend());
         let judged = unless(reference::is_valid(&p) && reference::is_valid(q), 8)
             .and_then(|()| unless(lent.lend().len() >= PROFILE_ROOM, 10));
         let (wanted, written) = match judged {
@@ -50,6 +48,7 @@ impl Trial {
             Err(refused) => (BetterAnswer { refusal: refused.number, ..Default::default() }, vec![]),
         };
         self.tally.compare("better_of", (given.refusal, given, lent.holds(&written)), wanted, &(&p, q));
+        self.typed_better_of(&p, q, wanted, &written);
     }
 
     /// Extends numbers of any kind by bytes of any kind.
@@ -57,7 +56,7 @@ impl Trial {
         let profile = inputs::profile(&mut self.random);
         let bytes = inputs::bytes(&mut self.random);
         let mut lent = Lent::new(inputs::room(&mut self.random, PROFILE_ROOM), || self.junk());
-        let given = ffi::extend(&profile, &bytes, lent.lend(), self.work.lend(&mut self.random));
+        let given = calls::extend(&profile, &bytes, lent.lend(), self.work.lend(&mut self.random));
         let rooms = lent.lend().len() >= PROFILE_ROOM && self.work.is_enough();
         let (wanted, written, after) = match wanted_extension(&profile, &bytes, rooms) {
             Ok(points) => {
@@ -70,6 +69,7 @@ impl Trial {
         };
         let memory = lent.holds(&written) && self.work.holds(after);
         self.tally.compare("extend", (given.refusal, given, memory), wanted, &(&profile, &bytes));
+        self.typed_extend(&profile, &bytes, wanted, &written);
     }
 }
 

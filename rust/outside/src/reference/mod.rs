@@ -1,4 +1,4 @@
-//! The rules of document 01 written out plainly, with no thought for speed: what every call must answer.
+//! The rules (docs/RULES.md) written out plainly, with no thought for speed: what every call must answer.
 
 mod packing;
 mod plans;

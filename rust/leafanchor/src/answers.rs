@@ -1,0 +1,182 @@
+//! The answers of the library's calls, laid out as in C.
+
+use crate::job::Job;
+use crate::refusal::Refusal;
+use core::fmt;
+
+/// Declares an answer: its refusal, the place where it has one, and its other figures in the header's order.
+macro_rules! answers {
+    ($(
+        $(#[$about:meta])*
+        $name:ident($refusal:ident $(, $place:ident)?) { $($(#[$told:meta])* $field:ident: $kind:ty,)* }
+    )*) => {
+        $(
+            $(#[$about])*
+            #[repr(C)]
+            #[derive(Clone, Copy, Debug, Default, PartialEq, Eq)]
+            #[must_use]
+            pub struct $name {
+                /// The number of the refusal, 0 if there is none.
+                pub $refusal: u32,
+                $(
+                    /// The place of the refused job, 0 where the refusal is not about one.
+                    pub $place: usize,
+                )?
+                $($(#[$told])* pub $field: $kind,)*
+            }
+
+            impl $name {
+                /// The answer, if it is not a refusal.
+                ///
+                /// # Errors
+                /// The refusal by its name.
+                pub fn accepted(self) -> Result<Self, Refusal> {
+                    // The place where there is one, else 0.
+                    let place = [$(self.$place,)? 0][0];
+                    Refusal::check(self.refusal, place).map(|()| self)
+                }
+            }
+        )*
+    };
+}
+
+answers! {
+    /// The answer of [`heat_up`](crate::calls::heat_up).
+    HeatAnswer(refusal) {
+        /// Seconds of heating.
+        seconds: u32,
+    }
+    /// The answer of [`unpack`](crate::calls::unpack).
+    UnpackAnswer(refusal, place) {
+        /// How many jobs the order has.
+        jobs: usize,
+        /// Its bus-free time.
+        t0: i32,
+    }
+    /// The answer of [`pack`](crate::calls::pack).
+    PackAnswer(refusal, place) {
+        /// Bytes written.
+        bytes: usize,
+    }
+    /// The answer of [`open`](crate::calls::open).
+    OpenAnswer(refusal) {
+        /// How many jobs the order has.
+        jobs: usize,
+    }
+    /// The answer of [`step`](crate::calls::step).
+    StepAnswer(refusal, place) {
+        /// 1 at the end of the order, else 0.
+        end: u32,
+        /// The job's number; this and the next five are 0 where no job is given.
+        number: i32,
+        /// 1 for a critical job, else 0.
+        critical: i32,
+        /// Its weight.
+        weight: i32,
+        /// Its ready time.
+        ready: i32,
+        /// Its length.
+        length: i32,
+        /// Its deadline.
+        deadline: i32,
+        /// The place where the reader then stands, refused or not.
+        next: usize,
+    }
+    /// The answer of [`lookup`](crate::calls::lookup) and [`lookup_records`](crate::calls::lookup_records).
+    LookupAnswer(refusal) {
+        /// 1 or 0.
+        found: u32,
+        /// The weight found, else 0.
+        weight: u32,
+    }
+    /// The answer of [`better_of`](crate::calls::better_of).
+    BetterAnswer(refusal) {
+        /// Points written, two numbers each.
+        points: usize,
+    }
+    /// The answer of [`extend`](crate::calls::extend).
+    ExtendAnswer(refusal, place) {
+        /// Points written, two numbers each.
+        points: usize,
+    }
+    /// The answer of [`plan`](crate::calls::plan).
+    PlanAnswer(refusal, place) {
+        /// The jobs kept, the highest bit for place 0.
+        mask: u64,
+        /// How many jobs are kept.
+        kept: u32,
+        /// The weight of the jobs kept.
+        kept_weight: u32,
+        /// The weight of the jobs left out.
+        lost_weight: u32,
+        /// When the bus is free again.
+        finish: i32,
+        /// The points in the profiles of the order's prefixes, together.
+        points: u32,
+    }
+    /// The answer of [`question`](crate::calls::question).
+    QuestionAnswer(refusal) {
+        /// 1 or 2, 0 if refused.
+        winner: u32,
+    }
+    /// The answer of [`choose`](crate::calls::choose).
+    ChooseAnswer(refusal) {
+        /// 1 or 2, 0 if refused.
+        winner: u32,
+        /// Where the winner's records begin in its bytes.
+        offset: usize,
+        /// How many bytes they are.
+        length: usize,
+    }
+}
+
+impl StepAnswer {
+    /// The job, if there is one: none at the end or if refused.
+    #[must_use]
+    pub fn job(&self) -> Option<Job> {
+        if self.refusal != 0 || self.end == 1 {
+            return None;
+        }
+        Some(self.fields())
+    }
+
+    /// The six fields, whether or not they are a job's.
+    pub(crate) fn fields(&self) -> Job {
+        Job {
+            number: self.number,
+            critical: self.critical == 1,
+            weight: self.weight,
+            ready: self.ready,
+            length: self.length,
+            deadline: self.deadline,
+        }
+    }
+}
+
+impl LookupAnswer {
+    /// The weight, if one was found.
+    #[must_use]
+    pub fn weight(&self) -> Option<u32> {
+        if self.found == 1 {
+            Some(self.weight)
+        } else {
+            None
+        }
+    }
+}
+
+/// One point of a profile: from this time on, this weight can have been kept.
+#[repr(C)]
+#[derive(Clone, Copy, Debug, Default, PartialEq, Eq, PartialOrd, Ord, Hash)]
+pub struct Point {
+    /// The time.
+    pub time: i32,
+    /// The weight.
+    pub weight: i32,
+}
+
+impl fmt::Display for Point {
+    fn fmt(&self, f: &mut fmt::Formatter<'_>) -> fmt::Result {
+        write!(f, "({}, {})", self.time, self.weight)
+    }
+}

@@ -1,0 +1,108 @@
+//! The plan that loses the least weight (R7 to R10).
+
+use crate::calls;
+use crate::order::Order;
+use crate::refusal::Refusal;
+use crate::work::WorkArea;
+use crate::{LEFT_OUT, MOST_JOBS};
+use core::iter::FusedIterator;
+
+/// The plan of an order: its figures, and for each job its start or none.
+///
+/// ```
+/// use leafanchor::{Job, Order, WorkArea, ORDER_BYTES};
+///
+/// // Two jobs want the bus from 0 to 10: the first is kept.
+/// let jobs = [Job::optional(4, 10, 0, 10, 10), Job::optional(9, 10, 0, 10, 10)];
+/// let mut room = [0; ORDER_BYTES];
+/// let plan = Order::pack(0, &jobs, &mut room)?.plan(&mut WorkArea::new())?;
+/// assert_eq!((plan.kept_weight, plan.lost_weight, plan.finish), (10, 10, 10));
+/// assert!(plan.starts().eq([Some(0), None]));
+/// assert!(plan.kept_places().eq([0]));
+/// # Ok::<(), leafanchor::Refusal>(())
+/// ```
+#[derive(Clone, Copy, Debug, PartialEq, Eq, Hash)]
+#[must_use]
+pub struct Plan {
+    /// The jobs kept, the highest bit for place 0.
+    pub mask: u64,
+    /// How many jobs are kept.
+    pub kept: u32,
+    /// The weight of the jobs kept.
+    pub kept_weight: u32,
+    /// The weight of the jobs left out.
+    pub lost_weight: u32,
+    /// When the bus is free again.
+    pub finish: i32,
+    /// The points in the profiles of the order's prefixes, together.
+    pub points: u32,
+    jobs: usize,
+    starts: [i32; MOST_JOBS],
+}
+
+impl Plan {
+    /// The plan of an order.
+    pub(crate) fn of(order: Order<'_>, work: &mut WorkArea) -> Result<Self, Refusal> {
+        let mut starts = [0; MOST_JOBS];
+        let answer = calls::plan(order.bytes(), &mut starts, work.numbers()).accepted()?;
+        Ok(Plan {
+            mask: answer.mask,
+            kept: answer.kept,
+            kept_weight: answer.kept_weight,
+            lost_weight: answer.lost_weight,
+            finish: answer.finish,
+            points: answer.points,
+            jobs: order.count(),
+            starts,
+        })
+    }
+
+    /// The starts in place order, one a job: none for a job left out.
+    #[must_use]
+    pub fn starts(&self) -> impl ExactSizeIterator<Item = Option<i32>> + DoubleEndedIterator + Clone + '_ {
+        self.starts[..self.jobs].iter().map(|&start| if start == LEFT_OUT { None } else { Some(start) })
+    }
+
+    /// The start of the job at a place; none if it is left out or there is no such place.
+    #[must_use]
+    pub fn start(&self, place: usize) -> Option<i32> {
+        self.starts().nth(place).flatten()
+    }
+
+    /// Whether the job at a place is kept.
+    #[must_use]
+    pub fn keeps(&self, place: usize) -> bool {
+        self.start(place).is_some()
+    }
+
+    /// The places of the jobs kept, rising.
+    #[must_use]
+    pub fn kept_places(&self) -> KeptPlaces {
+        KeptPlaces(self.mask)
+    }
+}
+
+/// The places of a plan's kept jobs, rising: those of the ones in its mask.
+#[derive(Clone, Debug)]
+pub struct KeptPlaces(u64);
+
+impl Iterator for KeptPlaces {
+    type Item = usize;
+
+    fn next(&mut self) -> Option<usize> {
+        if self.0 == 0 {
+            return None;
+        }
+        let place = self.0.leading_zeros();
+        self.0 &= !(1 << (63 - place));
+        Some(place as usize)
+    }
+
+    fn size_hint(&self) -> (usize, Option<usize>) {
+        let left = self.0.count_ones() as usize;
+        (left, Some(left))
+    }
+}
+
+impl ExactSizeIterator for KeptPlaces {}
+impl FusedIterator for KeptPlaces {}

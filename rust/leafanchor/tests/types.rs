@@ -1,0 +1,130 @@
+//! What the wrapper's types say of orders and profiles that are refused, of openings, and of themselves.
+
+use leafanchor::{
+    calls, choose, question, Job, Opening, Order, Point, Profile, Reader, Refusal, WorkArea, MOST_JOBS,
+    ORDER_BYTES, WORK_AREA,
+};
+
+const P1_PACKED: [u8; 44] = *include_bytes!("../../../examples/p1.order");
+
+/// What packing jobs is refused with, bus free at 0: number, place and phrase.
+fn refused(jobs: &[Job]) -> (u32, usize, String) {
+    let refusal = Order::pack(0, jobs, &mut [0; ORDER_BYTES]).unwrap_err();
+    (refusal.number(), refusal.place(), refusal.to_string())
+}
+
+/// As many jobs as asked for, all alike but for their numbers.
+fn jobs(count: i32, weight: i32) -> Vec<Job> {
+    (0..count).map(|number| Job::optional(number, weight, 0, 1, 100)).collect()
+}
+
+#[test]
+fn packing_refuses_with_number_place_and_phrase() {
+    let four_nine = [4, 9, 4, 9].map(|number| Job::optional(number, 1, 0, 1, 1));
+    assert_eq!(refused(&four_nine), (7, 2, "the job at place 2 repeats a number".to_string()));
+    let long = [Job::critical(1, 0, 10_000, 0), Job::critical(2, 0, 10_001, 0)];
+    assert_eq!(refused(&long), (6, 1, "the job at place 1 has a field out of range".to_string()));
+    assert_eq!(refused(&jobs(7, 50)).0, 9);
+
+    let mut room = [7; ORDER_BYTES];
+    assert_eq!(Order::pack(0, &jobs(6, 50), &mut room).map(Order::count), Ok(6));
+    assert_eq!(Order::pack(100_001, &[], &mut room), Err(Refusal::BusFreeOutOfRange));
+    assert_eq!(Order::pack(0, &jobs(1, 1), &mut room[..11]), Err(Refusal::BufferTooShort));
+}
+
+#[test]
+fn packing_takes_48_jobs_and_no_more() {
+    let mut room = [7; ORDER_BYTES];
+    assert_eq!(Order::pack(-7, &jobs(48, 1), &mut room).map(Order::count), Ok(MOST_JOBS));
+    assert_eq!(Order::try_from(&room[..]).map(|order| (order.t0(), order.count())), Ok((-7, MOST_JOBS)));
+    for count in [49, 50, 64, 1000] {
+        assert_eq!(refused(&jobs(count, 1)), (3, 0, "more than 48 jobs".to_string()));
+    }
+}
+
+#[test]
+fn an_order_is_refused_once_and_then_only_for_want_of_a_choice() {
+    assert_eq!(Order::try_from(&P1_PACKED[..3]), Err(Refusal::OrderTooShort));
+    assert_eq!(Order::try_from(&P1_PACKED[..43]), Err(Refusal::WrongLength));
+    let mut bytes = P1_PACKED;
+    bytes[3] = 1;
+    assert_eq!(Order::try_from(&bytes[..]), Err(Refusal::SpareBits));
+
+    let mut room = [0; ORDER_BYTES];
+    let late = Order::pack(0, &[Job::critical(1, 0, 10, 9)], &mut room).unwrap();
+    let mut work = WorkArea::new();
+    assert_eq!(late.plan(&mut work), Err(Refusal::NoFeasibleChoice));
+    let profile = late.profile(&mut work);
+    assert!(profile.is_empty());
+    assert_eq!((profile.to_string(), profile.lookup(i32::MAX)), ("no point".to_string(), None));
+
+    let none = Order::try_from(&[0; 4][..]).unwrap();
+    assert_eq!((none.count(), none.jobs().next(), none.plan(&mut work).unwrap().finish), (0, None, 0));
+}
+
+#[test]
+fn a_reader_stays_at_a_refused_job_and_its_iterator_ends_there() {
+    let mut bytes = P1_PACKED;
+    bytes[4 + 8 + 4] = 0;
+    bytes[4 + 8 + 5] &= 0x03; // the second job's length is now 0
+    let mut reader = Reader::open(&bytes).unwrap();
+    assert_eq!((reader.jobs(), reader.size_hint()), (5, (1, Some(5))));
+    assert_eq!(reader.step(), Ok(Some(Job::critical(7, -600, 495, 0))));
+    for _ in 0..2 {
+        let refusal = reader.step().unwrap_err();
+        assert!(matches!(refusal, Refusal::JobOutOfRange { place: 1, .. }));
+        assert_eq!((reader.place(), reader.size_hint()), (1, (1, Some(4))));
+    }
+    assert!(reader.next().unwrap().is_err());
+    assert_eq!((reader.next(), reader.size_hint()), (None, (0, Some(0))));
+    assert_eq!(Reader::open(&P1_PACKED).unwrap().map(Result::unwrap).count(), 5);
+    assert_eq!(Reader::open(&[]).unwrap_err(), Refusal::OrderTooShort);
+}
+
+#[test]
+fn openings_are_weighed_at_a_time() {
+    let (mut first, mut second) = ([0; ORDER_BYTES], [0; ORDER_BYTES]);
+    let first = Order::pack(0, &[Job::optional(1, 10, 0, 10, 10)], &mut first).unwrap();
+    let second = Order::pack(0, &[Job::optional(1, 10, 0, 5, 10)], &mut second).unwrap();
+    let mut work = WorkArea::new();
+    for (t, opening, order) in [(9, Opening::Second, second), (10, Opening::First, first)] {
+        assert_eq!(question(first, second, t, &mut work), Ok(opening));
+        let winner = choose(first, second, t, &mut work).unwrap();
+        assert_eq!((winner.opening, winner.order, winner.records), (opening, order, order.records()));
+    }
+    assert_eq!(choose(first, second, -1, &mut work), Err(Refusal::NoFeasibleChoice));
+    assert_eq!(question(first, second, -1, &mut work), Err(Refusal::NoFeasibleChoice));
+}
+
+#[test]
+fn profiles_are_checked() {
+    for numbers in [&[1][..], &[0, 0, 0, 1], &[0, 1, 1, 1], &[100_001, 0], &[0, 301], &[0; 604]] {
+        assert_eq!(Profile::try_from(numbers), Err(Refusal::ProfileNotValid));
+    }
+    let points = |count: i32| (0..count).map(|at| Point { time: at, weight: at }).collect::<Vec<_>>();
+    assert_eq!(Profile::try_from(&points(302)[..]), Err(Refusal::ProfileNotValid));
+    let full = Profile::try_from(&points(301)[..]).unwrap();
+    assert!(full.points().eq(points(301)));
+    assert_eq!(full.lookup(500), Some(300));
+    let heavier = Order::try_from(&P1_PACKED[..]).unwrap();
+    assert_eq!(full.extended(heavier, &mut WorkArea::new()), Err(Refusal::TooMuchWeight));
+    assert_eq!(Profile::default().extended(heavier, &mut WorkArea::new()), Ok(Profile::default()));
+}
+
+#[test]
+fn a_boxed_work_area_never_stands_on_the_stack() {
+    let small = std::thread::Builder::new().stack_size(32 * 1024);
+    let plan = || Order::try_from(&P1_PACKED[..])?.plan(&mut WorkArea::boxed());
+    assert_eq!(small.spawn(plan).unwrap().join().unwrap().unwrap().finish, 395);
+}
+
+#[test]
+fn plain_calls_take_anything() {
+    let (mut starts, mut work) = ([7; MOST_JOBS], vec![7; WORK_AREA]);
+    let answer = calls::plan(&[], &mut starts, &mut work);
+    assert_eq!(answer.accepted(), Err(Refusal::OrderTooShort));
+    let answer = calls::plan(&P1_PACKED, &mut starts, &mut work[1..]);
+    assert_eq!(answer.accepted(), Err(Refusal::BufferTooShort));
+    assert!(starts == [7; MOST_JOBS] && work.iter().all(|&number| number == 7));
+    assert_eq!(calls::plan(&P1_PACKED, &mut starts, &mut work).accepted().unwrap().finish, 395);
+}

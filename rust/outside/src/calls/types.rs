@@ -1,0 +1,170 @@
+//! The wrapper's types against the reference, on inputs that were made for the calls. Their buffers are
+//! always long enough, so an input that a call refused with 10 is passed by.
+
+use super::{numbers_of, Trial};
+use crate::reference::{self, Refused};
+use crate::tally::Held;
+use leafanchor::calls::{BetterAnswer, ExtendAnswer, LookupAnswer, PlanAnswer};
+use leafanchor::{choose, Job, Opening, Order, Plan, Profile, Refusal, LEFT_OUT, ORDER_BYTES};
+use std::fmt::Debug;
+
+impl Trial {
+    /// `Order::try_from` judges as the reference does, and gives the same bus-free time and jobs.
+    pub(super) fn typed_order(&mut self, bytes: &[u8], judged: &Result<trials::Order, Refused>) {
+        let given = Order::try_from(bytes).map(contents);
+        let wanted = judged.as_ref().map(wanted_order).map_err(|&refused| refused);
+        self.compare_types("Order::try_from", given, wanted, &bytes);
+    }
+
+    /// `Order::pack` judges as the reference does, and gives an order of these jobs over the packed bytes.
+    pub(super) fn typed_pack(&mut self, t0: i32, numbers: &[i32]) {
+        let unpacked: Option<Vec<Job>> = numbers.chunks(6).map(job_of_numbers).collect();
+        let jobs = match unpacked {
+            Some(jobs) => jobs,
+            None => return, // No list of jobs has these numbers.
+        };
+        let mut room = [0; ORDER_BYTES];
+        let given = Order::pack(t0, &jobs, &mut room).map(|order| (contents(order), order.bytes().to_vec()));
+        let wanted = reference::judged_numbers(t0, numbers)
+            .map(|order| (wanted_order(&order), trials::packed(&order)));
+        self.compare_types("Order::pack", given, wanted, &(t0, numbers));
+    }
+
+    /// `Order::plan` gives the reference's figures, starts and kept places.
+    pub(super) fn typed_plan(&mut self, bytes: &[u8], wanted: PlanAnswer, starts: &[i32]) {
+        let work = &mut self.typed_work;
+        let given = Order::try_from(bytes).and_then(|order| order.plan(work)).map(figures);
+        let kept = (0..starts.len()).filter(|&place| starts[place] != LEFT_OUT).collect();
+        let wanted = wanted_unless(wanted.refusal, wanted.place, (wanted, starts.to_vec(), kept));
+        self.compare_types("Order::plan", given, wanted, &bytes);
+    }
+
+    /// `Profile::lookup` over a list that a profile takes.
+    pub(super) fn typed_lookup(&mut self, profile: Result<Profile, Refusal>, t: i32, wanted: LookupAnswer) {
+        let input = (t, format!("{profile:?}"));
+        let given = profile.map(|profile| profile.lookup(t));
+        let found = if wanted.found == 1 { Some(wanted.weight) } else { None };
+        self.compare_types("Profile::lookup", given, wanted_unless(wanted.refusal, 0, found), &input);
+    }
+
+    /// `Profile::better_of` of two lists that profiles take.
+    pub(super) fn typed_better_of(&mut self, p: &[i32], q: &[i32], wanted: BetterAnswer, written: &[i32]) {
+        let given = Profile::try_from(p)
+            .and_then(|p| Profile::try_from(q).map(|q| p.better_of(&q)))
+            .map(|better| better.numbers().to_vec());
+        let wanted = wanted_unless(wanted.refusal, 0, written.to_vec());
+        self.compare_types("Profile::better_of", given, wanted, &(p, q));
+    }
+
+    /// `Profile::extended`, and for one point at the bus-free time `Order::profile`, of an order and a list
+    /// that a profile takes.
+    pub(super) fn typed_extend(
+        &mut self,
+        profile: &[i32],
+        bytes: &[u8],
+        wanted: ExtendAnswer,
+        written: &[i32],
+    ) {
+        let order = match Order::try_from(bytes) {
+            Ok(order) => order,
+            Err(_) => return, // The order is judged before a profile comes into it.
+        };
+        let work = &mut self.typed_work;
+        let given = Profile::try_from(profile)
+            .and_then(|profile| profile.extended(order, work))
+            .map(|extended| extended.numbers().to_vec());
+        let wanted = wanted_unless(wanted.refusal, wanted.place, written.to_vec());
+        self.compare_types("Profile::extended", given, wanted, &(profile, bytes));
+
+        let given = order.profile(&mut self.typed_work).numbers().to_vec();
+        let jobs = reference::judged(bytes).map(|order| order.jobs);
+        let wanted = jobs.map(|jobs| numbers_of(&reference::extended(&[(order.t0(), 0)], &jobs)));
+        self.compare_types("Order::profile", Ok(given), wanted, &bytes);
+    }
+
+    /// The choice between two orders.
+    pub(super) fn typed_choose(&mut self, first: &[u8], second: &[u8], t: i32, wanted: Result<u32, Refused>) {
+        let work = &mut self.typed_work;
+        let given = Order::try_from(first)
+            .and_then(|first| Order::try_from(second).and_then(|second| choose(first, second, t, work)))
+            .map(|winner| {
+                let number = if winner.opening == Opening::First { 1 } else { 2 };
+                (number, winner.order.bytes(), winner.records)
+            });
+        let wanted = wanted.map(|number| {
+            let won = if number == 1 { first } else { second };
+            (number, won, &won[4..])
+        });
+        self.compare_types("choose orders", given, wanted, &(first, second, t));
+    }
+
+    /// Compares what a type gave with what the reference wants, unless that is refusal 10.
+    fn compare_types<A: PartialEq + Debug>(
+        &mut self,
+        name: &'static str,
+        given: Result<A, Refusal>,
+        wanted: Result<A, Refused>,
+        input: &dyn Debug,
+    ) {
+        if matches!(wanted, Err(Refused { number: 10, .. })) {
+            return;
+        }
+        let given = given.map_err(|refusal| Refused { number: refusal.number(), place: refusal.place() });
+        let number = given.as_ref().map_or_else(|refused| refused.number, |_| 0);
+        self.tally.compare_held(Held::Type(name), (number, given, true), wanted, input);
+    }
+}
+
+/// What is wanted where the call was not refused.
+fn wanted_unless<A>(refusal: u32, place: usize, wanted: A) -> Result<A, Refused> {
+    match refusal {
+        0 => Ok(wanted),
+        number => Err(Refused { number, place }),
+    }
+}
+
+/// What an order holds, its jobs read in both directions and by place.
+fn contents(order: Order<'_>) -> (i32, Vec<Job>) {
+    let jobs: Vec<Job> = order.jobs().collect();
+    assert_eq!((order.count(), order.jobs().len()), (jobs.len(), jobs.len()));
+    assert!(order.jobs().rev().eq(jobs.iter().rev().copied()));
+    assert!((0..jobs.len() + 2).all(|place| order.job(place).as_ref() == jobs.get(place)));
+    (order.t0(), jobs)
+}
+
+fn wanted_order(order: &trials::Order) -> (i32, Vec<Job>) {
+    (order.t0, order.numbers().chunks(6).filter_map(job_of_numbers).collect())
+}
+
+/// The job of six numbers, if there is one.
+fn job_of_numbers(n: &[i32]) -> Option<Job> {
+    match *n {
+        [number, 0, weight, ready, length, deadline] => {
+            Some(Job::optional(number, weight, ready, length, deadline))
+        }
+        [number, 1, weight, ready, length, deadline] => {
+            let mut job = Job::critical(number, ready, length, deadline);
+            job.weight = weight;
+            Some(job)
+        }
+        _ => None,
+    }
+}
+
+/// A plan as the call answers it, its starts as the call writes them, and its kept places.
+fn figures(plan: Plan) -> (PlanAnswer, Vec<i32>, Vec<usize>) {
+    let answer = PlanAnswer {
+        refusal: 0,
+        place: 0,
+        mask: plan.mask,
+        kept: plan.kept,
+        kept_weight: plan.kept_weight,
+        lost_weight: plan.lost_weight,
+        finish: plan.finish,
+        points: plan.points,
+    };
+    let starts: Vec<i32> = plan.starts().map(|start| start.unwrap_or(LEFT_OUT)).collect();
+    assert_eq!(plan.kept_places().len(), plan.kept as usize);
+    assert!((0..64).all(|place| plan.keeps(place) == (plan.mask << place >> 63 == 1)));
+    (answer, starts, plan.kept_places().collect())
+}
