@@ -46,56 +46,60 @@ extern "C" {
     ) -> ChooseAnswer;
 }
 
-/// The heat-up length for a byte of the sampler.
+/// The heat-up length for a byte of the sampler. Refusal 12.
 pub fn heat_up(byte: u8) -> HeatAnswer {
     // SAFETY: it takes no memory.
     unsafe { leafanchor_heat_up(byte) }
 }
 
-/// Unpacks an order into six numbers a job.
+/// Unpacks an order into the front of `numbers`, six a job. Refusals 1 to 7, 9 and 10.
 pub fn unpack(order: &[u8], numbers: &mut [i32]) -> UnpackAnswer {
     // SAFETY: the bytes are only read, the numbers are lent alone; both lengths are the slices' own.
     unsafe { leafanchor_unpack(order.as_ptr(), order.len(), numbers.as_mut_ptr(), numbers.len()) }
 }
 
-/// Packs six numbers a job.
+/// Packs a bus-free time and six numbers a job into the front of `order`: 4 bytes, and 8 a job. Refusals 3 to
+/// 7, 9 and 10.
 pub fn pack(t0: i32, numbers: &[i32], order: &mut [u8]) -> PackAnswer {
     // SAFETY: the numbers are only read, the bytes are lent alone; both lengths are the slices' own.
     unsafe { leafanchor_pack(t0, numbers.as_ptr(), numbers.len(), order.as_mut_ptr(), order.len()) }
 }
 
-/// Whether a reader may stand over these bytes.
+/// Whether a reader may stand over these bytes, and how many jobs it will meet. Refusals 1 to 5.
 pub fn open(order: &[u8]) -> OpenAnswer {
     // SAFETY: the bytes are only read; the length is the slice's own.
     unsafe { leafanchor_open(order.as_ptr(), order.len()) }
 }
 
-/// One step of the reader.
+/// One step of a reader that stands at `place`. Refusals 1 to 6.
 pub fn step(order: &[u8], place: usize) -> StepAnswer {
     // SAFETY: the bytes are only read; the length is the slice's own. The place is any number.
     unsafe { leafanchor_step(order.as_ptr(), order.len(), place) }
 }
 
-/// Looks a time up in alternating numbers.
+/// Looks a time up in a profile of alternating numbers. Refusal 8.
 pub fn lookup(profile: &[i32], t: i32) -> LookupAnswer {
     // SAFETY: the numbers are only read; the length is the slice's own.
     unsafe { leafanchor_lookup(profile.as_ptr(), profile.len(), t) }
 }
 
-/// Looks a time up in point records.
+/// Looks a time up in a profile of point records. Refusal 8.
 pub fn lookup_records(points: &[Point], t: i32) -> LookupAnswer {
     // SAFETY: the records are only read and laid out as in C; the length is the slice's own.
     unsafe { leafanchor_lookup_records(points.as_ptr(), points.len(), t) }
 }
 
-/// Better-of two profiles.
+/// Writes the better of two profiles into the front of `out`, which has room for
+/// [`PROFILE_ROOM`](crate::PROFILE_ROOM) numbers. Refusals 8 and 10.
 pub fn better_of(p: &[i32], q: &[i32], out: &mut [i32]) -> BetterAnswer {
     // SAFETY: p and q are only read, and may be one slice; out is lent alone; the lengths are the slices'
     // own.
     unsafe { leafanchor_better_of(p.as_ptr(), p.len(), q.as_ptr(), q.len(), out.as_mut_ptr(), out.len()) }
 }
 
-/// Extends a profile by an order.
+/// Writes a profile extended by an order into the front of `out`, which has room for
+/// [`PROFILE_ROOM`](crate::PROFILE_ROOM) numbers; `work` has room for [`WORK_AREA`](crate::WORK_AREA).
+/// Refusals 1 to 10.
 pub fn extend(profile: &[i32], order: &[u8], out: &mut [i32], work: &mut [i32]) -> ExtendAnswer {
     // SAFETY: profile and order are only read; out and work are each lent alone; the lengths are the slices'
     // own.
@@ -113,7 +117,9 @@ pub fn extend(profile: &[i32], order: &[u8], out: &mut [i32], work: &mut [i32]) 
     }
 }
 
-/// Plans an order.
+/// Plans an order and writes its starts into the front of `starts`, one a job,
+/// [`LEFT_OUT`](crate::LEFT_OUT) for a job left out; `work` has room for [`WORK_AREA`](crate::WORK_AREA).
+/// Refusals 1 to 7 and 9 to 11.
 pub fn plan(order: &[u8], starts: &mut [i32], work: &mut [i32]) -> PlanAnswer {
     // SAFETY: the order is only read; starts and work are each lent alone; the lengths are the slices' own.
     unsafe {
@@ -128,7 +134,8 @@ pub fn plan(order: &[u8], starts: &mut [i32], work: &mut [i32]) -> PlanAnswer {
     }
 }
 
-/// Asks which opening is worth more.
+/// Asks which opening is worth more at time `t`; `work` has room for [`WORK_AREA`](crate::WORK_AREA).
+/// Refusals 1 to 7 and 9 of the first, then of the second, then 10 and 11; no place is told.
 pub fn question(first: &[u8], second: &[u8], t: i32, work: &mut [i32]) -> QuestionAnswer {
     // SAFETY: the openings are only read, and may be one slice; work is lent alone; the lengths are the
     // slices' own.
@@ -145,7 +152,7 @@ pub fn question(first: &[u8], second: &[u8], t: i32, work: &mut [i32]) -> Questi
     }
 }
 
-/// Chooses an opening.
+/// The same, and where the winner's records lie in its bytes.
 pub fn choose(first: &[u8], second: &[u8], t: i32, work: &mut [i32]) -> ChooseAnswer {
     // SAFETY: as for `question`.
     unsafe {

@@ -64,6 +64,9 @@ pub use work::WorkArea;
 /// The library's calls as they stand, for those who lend their own buffers: they take any bytes and any
 /// numbers, and answer in figures as in C (R25 to R30). `accepted` turns an answer into a [`Result`].
 ///
+/// A refusal writes nothing, save that 11 leaves the work area cleared. What lies past the part that a call
+/// writes stays as it was.
+///
 /// ```
 /// use leafanchor::{calls, MOST_JOBS, WORK_AREA};
 ///

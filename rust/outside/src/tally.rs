@@ -57,7 +57,7 @@ impl Tally {
         self.compare_held(Held::Call(call), given, wanted, input);
     }
 
-    /// The same for any of the two.
+    /// The same for a call or a type.
     pub fn compare_held<A: PartialEq + Debug>(
         &mut self,
         held: Held,
