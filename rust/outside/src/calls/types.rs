@@ -35,7 +35,7 @@ impl Trial {
         let work = &mut self.typed_work;
         let given = Order::try_from(bytes).and_then(|order| order.plan(work)).map(figures);
         let kept = (0..starts.len()).filter(|&place| starts[place] != LEFT_OUT).collect();
-        let wanted = wanted_unless(wanted.refusal, wanted.place, (wanted, starts.to_vec(), kept));
+        let wanted = unless_refused(wanted.refusal, wanted.place, (wanted, starts.to_vec(), kept));
         self.compare_types("Order::plan", given, wanted, &bytes);
     }
 
@@ -44,7 +44,7 @@ impl Trial {
         let input = (t, format!("{profile:?}"));
         let given = profile.map(|profile| profile.lookup(t));
         let found = if wanted.found == 1 { Some(wanted.weight) } else { None };
-        self.compare_types("Profile::lookup", given, wanted_unless(wanted.refusal, 0, found), &input);
+        self.compare_types("Profile::lookup", given, unless_refused(wanted.refusal, 0, found), &input);
     }
 
     /// `Profile::better_of` of two lists that profiles take.
@@ -52,7 +52,7 @@ impl Trial {
         let given = Profile::try_from(p)
             .and_then(|p| Profile::try_from(q).map(|q| p.better_of(&q)))
             .map(|better| better.numbers().to_vec());
-        let wanted = wanted_unless(wanted.refusal, 0, written.to_vec());
+        let wanted = unless_refused(wanted.refusal, 0, written.to_vec());
         self.compare_types("Profile::better_of", given, wanted, &(p, q));
     }
 
@@ -73,7 +73,7 @@ impl Trial {
         let given = Profile::try_from(profile)
             .and_then(|profile| profile.extended(order, work))
             .map(|extended| extended.numbers().to_vec());
-        let wanted = wanted_unless(wanted.refusal, wanted.place, written.to_vec());
+        let wanted = unless_refused(wanted.refusal, wanted.place, written.to_vec());
         self.compare_types("Profile::extended", given, wanted, &(profile, bytes));
 
         let given = order.profile(&mut self.typed_work).numbers().to_vec();
@@ -116,7 +116,7 @@ impl Trial {
 }
 
 /// What is wanted where the call was not refused.
-fn wanted_unless<A>(refusal: u32, place: usize, wanted: A) -> Result<A, Refused> {
+fn unless_refused<A>(refusal: u32, place: usize, wanted: A) -> Result<A, Refused> {
     match refusal {
         0 => Ok(wanted),
         number => Err(Refused { number, place }),
