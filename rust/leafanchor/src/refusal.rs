@@ -86,8 +86,8 @@ macro_rules! refusals {
 
 refusals! {
     1 OrderTooShort "the packed order is under 4 bytes",
-    2 SpareBits "the spare bits are not zero",
-    3 TooManyJobs "more than 48 jobs",
+    2 SpareBits "the header's spare bits are not zero",
+    3 TooManyJobs "there are more than 48 jobs",
     4 WrongLength "the length does not fit the number of jobs",
     5 BusFreeOutOfRange "the bus-free time is out of range",
     6 JobOutOfRange { place } "the job at place {place} has a field out of range",

@@ -38,7 +38,7 @@ fn packing_takes_48_jobs_and_no_more() {
     assert_eq!(Order::pack(-7, &jobs(48, 1), &mut room).map(Order::count), Ok(MOST_JOBS));
     assert_eq!(Order::try_from(&room[..]).map(|order| (order.t0(), order.count())), Ok((-7, MOST_JOBS)));
     for count in [49, 50, 64, 1000] {
-        assert_eq!(refused(&jobs(count, 1)), (3, 0, "more than 48 jobs".to_string()));
+        assert_eq!(refused(&jobs(count, 1)), (3, 0, "there are more than 48 jobs".to_string()));
     }
 }
 
