@@ -35,19 +35,21 @@ keeping_kit() {
 # compiled WORDS: the kit's compiler on the module, for the machine, with the words that the kit has for x86-64.
 compiled() {
     quietly "$clang" --target="$machine-unknown-linux-gnu" --no-default-config -Wno-override-module -O3 -fPIC \
-        -ffunction-sections -fdata-sections -mllvm -trap-unreachable -mllvm -no-trap-after-noreturn -x ir "$room/module.bc" "$@"
+        -ffunction-sections -fdata-sections -mllvm -trap-unreachable -mllvm -no-trap-after-noreturn \
+        -x ir "$room/module.bc" "$@"
 }
 
 # The module for the machine, with the shim before the calls that need it.
 library_of_module() {
-    cc=${CC-}
-    [ -n "$cc" ] || { [ "$machine" = "$here" ] && cc=cc; } || cc=$machine-linux-gnu-gcc
+    cc=cc
+    [ "$machine" = "$here" ] || cc=$machine-linux-gnu-gcc
+    cc=${CC:-$cc}
     command -v "$cc" >/dev/null || die "no C compiler for $machine: $cc is not there (CC can name another)"
     compiled -S -emit-llvm -Xclang -disable-llvm-passes -o "$room/module.ll"
     compiled -c -o "$room/leafanchor.o"
     "$cc" -std=c11 -E -P include/leafanchor.h >"$room/header.i"
     : >"$room/behind"
-    awk -v behind="$room/behind" -f tools/shim.awk "$room/module.ll" "$room/header.i" >"$room/shim.c"
+    awk -v machine="$machine" -v behind="$room/behind" -f tools/shim.awk "$room/module.ll" "$room/header.i" >"$room/shim.c"
     quietly "$cc" -std=c11 -O2 -fPIC -Wall -Wextra -Wpedantic -Werror -Iinclude -c "$room/shim.c" -o "$room/shim.o"
     ln -s "$clang" "$room/llvm-objcopy"
     quietly "$room/llvm-objcopy" --redefine-syms="$room/behind" "$room/leafanchor.o"

@@ -146,8 +146,14 @@ hold_stack() {
 }
 
 only=''
-[ "${1-}" != tools ] || { only=tools && shift; }
-[ $# -gt 0 ] || { [ "$here" = x86_64 ] && set -- x86_64; } || set -- "$here" x86_64
+if [ "${1-}" = tools ]; then
+    only=tools
+    shift
+fi
+if [ $# = 0 ]; then
+    set -- "$here"
+    [ "$here" = x86_64 ] || set -- "$here" x86_64
+fi
 for machine in "$@"; do
     at "$machine"
     have_tools || install_tools

@@ -1,7 +1,8 @@
 # Writes the C shim of tools/native.sh: for each call whose answer the module hands over in memory, the header's call
 # over the module's. It reads the module's text (1) and include/leafanchor.h after the preprocessor (2), and
 # stops where the two do not declare the same calls, or where a form is used that is not known to be handed over
-# alike on x86-64 and on Arm. The calls that it stands before go into the file that the variable `behind` names.
+# alike on x86-64 and on Arm. The variable `machine` names the machine; the calls that the shim stands before go, with
+# their names in the module, into the file that `behind` names.
 
 function stop(words) { print "native: " words >"/dev/stderr"; stopped = 1; exit 1 }
 
@@ -57,6 +58,7 @@ function in_memory(answer, name, parameters, names,    module) {
 BEGIN {
     size["i32"] = 4; size["i64"] = 8; size["{ i64, i32 }"] = 12; size["{ i64, i64 }"] = 16
     printf "/* Written by tools/native.sh from the header. */\n#include \"leafanchor.h\"\n"
+    printf "#ifndef __%s__\n#error \"the C compiler is for another machine\"\n#endif\n", machine
 }
 
 FNR == 1 { file++ }
