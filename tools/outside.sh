@@ -109,12 +109,16 @@ hold_c() {
     done
 }
 
-# The wrapper's tests; those in its documentation, and clippy where it is at hand, on the machine at hand.
+# The wrapper's tests; on the machine at hand also those in its documentation, the wrapper without std, and clippy
+# where it is at hand.
 hold_wrapper() {
     say "the wrapper and its example"
     in_cargo build -p leafanchor --example plan_p1
     in_cargo test -p leafanchor
-    if [ -z "$emulator" ] && [ -x "$rust/cargo-clippy" ] && "$rust/cargo" clippy --version >/dev/null 2>&1; then
+    [ -z "$emulator" ] || return 0
+    in_cargo build -p leafanchor --no-default-features
+    in_cargo build -p leafanchor --no-default-features --features alloc
+    if [ -x "$rust/cargo-clippy" ] && "$rust/cargo" clippy --version >/dev/null 2>&1; then
         say "clippy"
         in_cargo clippy --workspace --all-targets -- -D warnings
     fi
