@@ -1,12 +1,13 @@
-/* The C header of Leafanchor, the planner of an air-taxi stand's one service bus. It declares every call of
- * libleafanchor.a, every answer and every size. Times are whole signed seconds.
+/** @file
+ * The C header of Leafanchor, the planner of an air-taxi stand's one service bus. It declares every call of
+ * libleafanchor.a, every answer and every size. Times are whole signed seconds. docs/RULES.md has the rules.
  *
  * What the caller owes, and no call checks: a pointer is never null, also where its length is 0; it points to
  * as many elements as the length beside it says; a buffer that a call writes overlaps no other buffer of that
  * call. Beyond that a call takes any numbers and any bytes and ends with an answer.
  *
  * Lengths count elements: bytes of an order, numbers of a list, records of a list of points. A buffer may be
- * longer than a call needs; what lies past the part needed stays as it was.
+ * longer than a call needs; what lies past the part needed stays as it was. No call allocates or keeps a pointer.
  *
  * Of several refusals the lowest number is given; those of a second opening, 1 to 9, come after all of the
  * first's. In a refused answer every figure is 0 but the refusal, the place for 6 and 7, and where a reader stands.
@@ -23,34 +24,60 @@
 extern "C" {
 #endif
 
-/* Sizes. */
-#define LEAFANCHOR_MOST_JOBS 48        /* jobs of one order, at most */
-#define LEAFANCHOR_ORDER_BYTES 388     /* bytes of the longest packed order: 4 + 8 a job */
-#define LEAFANCHOR_JOB_NUMBERS 6       /* a job unpacked: number, critical, weight, ready, length, deadline */
-#define LEAFANCHOR_ORDER_NUMBERS 288   /* numbers of the longest unpacked order */
-#define LEAFANCHOR_STARTS 48           /* starts of the longest plan */
-#define LEAFANCHOR_PROFILE_ROOM 602    /* numbers that extend and better-of ask room for: 301 points */
-#define LEAFANCHOR_WORK_AREA 14749     /* numbers of the work area that planning is lent */
-#define LEAFANCHOR_LEFT_OUT 200000     /* the start of a job that is left out */
+/** The version's first figure: it rises when a call or an answer changes for its callers. */
+#define LEAFANCHOR_VERSION_MAJOR 0
+/** The version's second figure: it rises when something is added. */
+#define LEAFANCHOR_VERSION_MINOR 1
+/** The version's third figure: it rises when something is mended. */
+#define LEAFANCHOR_VERSION_PATCH 0
+/** The version as text, "MAJOR.MINOR.PATCH". */
+#define LEAFANCHOR_VERSION \
+    LEAFANCHOR_QUOTED(LEAFANCHOR_VERSION_MAJOR) "." LEAFANCHOR_QUOTED(LEAFANCHOR_VERSION_MINOR) "." \
+    LEAFANCHOR_QUOTED(LEAFANCHOR_VERSION_PATCH)
+/** A macro's value as text. */
+#define LEAFANCHOR_QUOTED(value) LEAFANCHOR_QUOTED_AS_IS(value)
+/** A word as text. */
+#define LEAFANCHOR_QUOTED_AS_IS(word) #word
 
-/* Why a call refused; 0 where it did not. */
+/** Before a call whose answer must be used, where the compiler has a mark for that. */
+#if (defined(__cplusplus) && __cplusplus >= 201703L) || (defined(__STDC_VERSION__) && __STDC_VERSION__ >= 202311L)
+#define LEAFANCHOR_MUST_USE [[nodiscard]]
+#elif defined(__GNUC__)
+#define LEAFANCHOR_MUST_USE __attribute__((warn_unused_result))
+#else
+#define LEAFANCHOR_MUST_USE
+#endif
+
+#define LEAFANCHOR_MOST_JOBS 48      /**< jobs of one order, at most */
+#define LEAFANCHOR_ORDER_BYTES 388   /**< bytes of the longest packed order: 4 + 8 a job */
+#define LEAFANCHOR_JOB_NUMBERS 6     /**< numbers of an unpacked job, those of leafanchor_job in its order */
+#define LEAFANCHOR_ORDER_NUMBERS 288 /**< numbers of the longest unpacked order */
+#define LEAFANCHOR_STARTS 48         /**< starts of the longest plan */
+#define LEAFANCHOR_PROFILE_ROOM 602  /**< numbers that extend and better-of ask room for: 301 points */
+#define LEAFANCHOR_WORK_AREA 14749   /**< numbers of the work area that planning is lent */
+#define LEAFANCHOR_LEFT_OUT 200000   /**< the start of a job that is left out */
+
+/** Why a call refused; 0 where it did not. */
 enum leafanchor_refusal {
-    LEAFANCHOR_NONE = 0,                  /* not refused */
-    LEAFANCHOR_ORDER_TOO_SHORT = 1,       /* the packed order is under 4 bytes */
-    LEAFANCHOR_SPARE_BITS = 2,            /* the header's spare bits are not zero */
-    LEAFANCHOR_TOO_MANY_JOBS = 3,         /* more than 48 jobs (packing: more than 288 numbers) */
-    LEAFANCHOR_WRONG_LENGTH = 4,          /* not 4 + 8n bytes (packing: not a multiple of 6 numbers) */
-    LEAFANCHOR_BUS_FREE_OUT_OF_RANGE = 5, /* the bus-free time is out of range */
-    LEAFANCHOR_JOB_OUT_OF_RANGE = 6,      /* a job's field is out of range; the place is the first such job's */
-    LEAFANCHOR_NUMBER_REPEATED = 7,       /* a job number came earlier; the place is the first such job's */
-    LEAFANCHOR_PROFILE_NOT_VALID = 8,     /* a given profile is not valid */
-    LEAFANCHOR_TOO_MUCH_WEIGHT = 9,       /* the weights sum to more than 300 */
-    LEAFANCHOR_BUFFER_TOO_SHORT = 10,     /* a buffer is too short */
-    LEAFANCHOR_NO_FEASIBLE_CHOICE = 11,   /* no choice is feasible (choosing: neither has a point by t) */
-    LEAFANCHOR_CELL_TOO_COLD = 12         /* the cell is below -30 degrees */
+    LEAFANCHOR_NONE = 0,                  /**< not refused */
+    LEAFANCHOR_ORDER_TOO_SHORT = 1,       /**< the packed order is under 4 bytes */
+    LEAFANCHOR_SPARE_BITS = 2,            /**< the header's spare bits are not zero */
+    LEAFANCHOR_TOO_MANY_JOBS = 3,         /**< more than 48 jobs (packing: more than 288 numbers) */
+    LEAFANCHOR_WRONG_LENGTH = 4,          /**< not 4 + 8n bytes (packing: not a multiple of 6 numbers) */
+    LEAFANCHOR_BUS_FREE_OUT_OF_RANGE = 5, /**< the bus-free time is out of range */
+    LEAFANCHOR_JOB_OUT_OF_RANGE = 6,      /**< a job's field is out of range; the place is the first such job's */
+    LEAFANCHOR_NUMBER_REPEATED = 7,       /**< a job number came earlier; the place is the first such job's */
+    LEAFANCHOR_PROFILE_NOT_VALID = 8,     /**< a given profile is not valid */
+    LEAFANCHOR_TOO_MUCH_WEIGHT = 9,       /**< the weights sum to more than 300 */
+    LEAFANCHOR_BUFFER_TOO_SHORT = 10,     /**< a buffer is too short */
+    LEAFANCHOR_NO_FEASIBLE_CHOICE = 11,   /**< no choice is feasible (choosing: neither has a point by t) */
+    LEAFANCHOR_CELL_TOO_COLD = 12         /**< the cell is below -30 degrees */
 };
 
-/* A phrase for a person, for each refusal number. */
+/** A phrase for a person.
+ * @param refusal the refusal's number, or any other
+ * @return the phrase, in memory that stays */
+LEAFANCHOR_MUST_USE
 static inline const char *leafanchor_phrase(uint32_t refusal)
 {
     switch (refusal) {
@@ -71,143 +98,416 @@ static inline const char *leafanchor_phrase(uint32_t refusal)
     }
 }
 
+/** The heat-up length. */
 typedef struct leafanchor_heat_answer {
-    uint32_t refusal;
-    uint32_t seconds; /* of heating */
+    uint32_t refusal; /**< 12 or 0 */
+    uint32_t seconds; /**< of heating */
 } leafanchor_heat_answer;
 
+/** What unpacking gives beside the numbers. */
 typedef struct leafanchor_unpack_answer {
-    uint32_t refusal;
-    size_t place;
-    size_t jobs; /* of the order */
-    int32_t t0;  /* its bus-free time */
+    uint32_t refusal; /**< 1 to 7, 9, 10 or 0 */
+    size_t place;     /**< of the refused job, for 6 and 7 */
+    size_t jobs;      /**< of the order */
+    int32_t t0;       /**< its bus-free time */
 } leafanchor_unpack_answer;
 
+/** What packing gives beside the bytes. */
 typedef struct leafanchor_pack_answer {
-    uint32_t refusal;
-    size_t place;
-    size_t bytes; /* written */
+    uint32_t refusal; /**< 3 to 7, 9, 10 or 0 */
+    size_t place;     /**< of the refused job, for 6 and 7 */
+    size_t bytes;     /**< written */
 } leafanchor_pack_answer;
 
+/** What a reader will meet. */
 typedef struct leafanchor_open_answer {
-    uint32_t refusal;
-    size_t jobs; /* of the order */
+    uint32_t refusal; /**< 1 to 5 or 0 */
+    size_t jobs;      /**< of the order */
 } leafanchor_open_answer;
 
+/** One step of a reader: a job, the end or a refusal. The job's fields are 0 where there is none. */
 typedef struct leafanchor_step_answer {
-    uint32_t refusal;
-    size_t place;     /* of the refused job */
-    uint32_t end;     /* 1 at the end of the order, else 0 */
-    int32_t number;   /* this and the next five are the job's fields, 0 where none is given */
-    int32_t critical;
-    int32_t weight;
-    int32_t ready;
-    int32_t length;
-    int32_t deadline;
-    size_t next;      /* the place where the reader then stands, refused or not */
+    uint32_t refusal; /**< 1 to 6 or 0 */
+    size_t place;     /**< of the refused job, for 6 */
+    uint32_t end;     /**< 1 at the end of the order, else 0 */
+    int32_t number;   /**< the job's number, 0 to 63 */
+    int32_t critical; /**< 1 where it is critical, else 0 */
+    int32_t weight;   /**< its weight, 0 where it is critical */
+    int32_t ready;    /**< the second from which it may run */
+    int32_t length;   /**< in seconds */
+    int32_t deadline; /**< the second by which it must have ended */
+    size_t next;      /**< the place where the reader then stands, refused or not */
 } leafanchor_step_answer;
 
-/* One point of a profile: from this time on, this weight can have been kept. */
+/** One point of a profile: from this time on, this weight can have been kept. */
 typedef struct leafanchor_point {
-    int32_t time;
-    int32_t weight;
+    int32_t time;   /**< the second from which the bus is free */
+    int32_t weight; /**< the weight kept */
 } leafanchor_point;
 
+/** What a profile gives at a time. */
 typedef struct leafanchor_lookup_answer {
-    uint32_t refusal;
-    uint32_t found;  /* 1 or 0 */
-    uint32_t weight; /* 0 where not found */
+    uint32_t refusal; /**< 8 or 0 */
+    uint32_t found;   /**< 1 or 0 */
+    uint32_t weight;  /**< 0 where not found */
 } leafanchor_lookup_answer;
 
+/** What better-of gives beside the profile. */
 typedef struct leafanchor_better_answer {
-    uint32_t refusal;
-    size_t points; /* written */
+    uint32_t refusal; /**< 8, 10 or 0 */
+    size_t points;    /**< written; each is two numbers */
 } leafanchor_better_answer;
 
+/** What extending gives beside the profile. */
 typedef struct leafanchor_extend_answer {
-    uint32_t refusal;
-    size_t place;
-    size_t points; /* written */
+    uint32_t refusal; /**< 1 to 10 or 0 */
+    size_t place;     /**< of the refused job, for 6 and 7 */
+    size_t points;    /**< written; each is two numbers */
 } leafanchor_extend_answer;
 
+/** What planning gives beside the starts. */
 typedef struct leafanchor_plan_answer {
-    uint32_t refusal;
-    size_t place;
-    uint64_t mask;        /* the jobs kept, the highest bit for place 0 */
-    uint32_t kept;        /* how many are kept */
-    uint32_t kept_weight;
-    uint32_t lost_weight; /* of the jobs left out */
-    int32_t finish;       /* when the bus is free again */
-    uint32_t points;      /* in the profiles of the order's prefixes, together */
+    uint32_t refusal;     /**< 1 to 7, 9 to 11 or 0 */
+    size_t place;         /**< of the refused job, for 6 and 7 */
+    uint64_t mask;        /**< the jobs kept, the highest bit for place 0 */
+    uint32_t kept;        /**< how many are kept */
+    uint32_t kept_weight; /**< of the jobs kept */
+    uint32_t lost_weight; /**< of the jobs left out */
+    int32_t finish;       /**< when the bus is free again */
+    uint32_t points;      /**< in the profiles of the order's prefixes, together */
 } leafanchor_plan_answer;
 
+/** Which opening is worth more. */
 typedef struct leafanchor_question_answer {
-    uint32_t refusal;
-    uint32_t winner; /* 1 or 2; 0 if refused */
+    uint32_t refusal; /**< 1 to 7, 9 to 11 or 0 */
+    uint32_t winner;  /**< 1 or 2; 0 if refused */
 } leafanchor_question_answer;
 
+/** Which opening is worth more, and where its records lie: its bytes offset .. offset + length. */
 typedef struct leafanchor_choose_answer {
-    uint32_t refusal;
-    uint32_t winner; /* 1 or 2; 0 if refused */
-    size_t offset;   /* the winner's records are its bytes offset .. offset + length */
-    size_t length;
+    uint32_t refusal; /**< 1 to 7, 9 to 11 or 0 */
+    uint32_t winner;  /**< 1 or 2; 0 if refused */
+    size_t offset;    /**< of the winner's first record */
+    size_t length;    /**< of its records together, in bytes */
 } leafanchor_choose_answer;
 
-/* The heat-up length for the sampler's byte, which is a signed number of degrees.
- * Refusal 12 gives 0 seconds. */
+/** The heat-up length for a sample of the cell's temperature. Refusal 12 gives 0 seconds.
+ * @param byte the sampler's byte, which is a signed number of degrees
+ * @return the seconds */
+LEAFANCHOR_MUST_USE
 leafanchor_heat_answer leafanchor_heat_up(uint8_t byte);
 
-/* Writes six numbers a job and gives the number of jobs and the bus-free time. Room: 6 numbers a job.
- * Refusals 1 to 7, 9 and 10 write nothing. */
+/** Unpacks an order: six numbers a job. Refusals 1 to 7, 9 and 10 write nothing.
+ * @param order the packed order
+ * @param order_len its bytes
+ * @param numbers written: number, critical, weight, ready, length and deadline of each job
+ * @param numbers_len room for 6 numbers a job
+ * @return the number of jobs and the bus-free time */
+LEAFANCHOR_MUST_USE
 leafanchor_unpack_answer leafanchor_unpack(const uint8_t *order, size_t order_len, int32_t *numbers,
                                            size_t numbers_len);
 
-/* Writes the packed order of a bus-free time and six numbers a job, and gives its length. Room: 4 bytes
- * and 8 a job. Refusals 3 to 7, 9 and 10 write nothing. */
+/** Packs an order. Refusals 3 to 7, 9 and 10 write nothing.
+ * @param t0 the bus-free time
+ * @param numbers six numbers a job, as unpacking writes them
+ * @param numbers_len how many numbers
+ * @param order written: the packed order
+ * @param order_len room for 4 bytes and 8 a job
+ * @return the bytes written */
+LEAFANCHOR_MUST_USE
 leafanchor_pack_answer leafanchor_pack(int32_t t0, const int32_t *numbers, size_t numbers_len, uint8_t *order,
                                        size_t order_len);
 
-/* Whether a reader may stand over these bytes, and how many jobs it will meet.
- * Refusals 1 to 5 give 0 jobs. */
+/** Whether a reader may stand over these bytes. Refusals 1 to 5 give 0 jobs.
+ * @param order the packed order
+ * @param order_len its bytes
+ * @return how many jobs the reader will meet */
+LEAFANCHOR_MUST_USE
 leafanchor_open_answer leafanchor_open(const uint8_t *order, size_t order_len);
 
-/* The job at a place of the order, or its end, and the place where the reader then stands.
- * Refusals 1 to 6 give no job, and the reader stays at its place. */
+/** Reads the job at a place of the order. Refusals 1 to 6 give no job, and the reader stays at its place.
+ * @param order the packed order
+ * @param order_len its bytes
+ * @param place where the reader stands; 0 at first
+ * @return the job or the end, and the place where the reader then stands */
+LEAFANCHOR_MUST_USE
 leafanchor_step_answer leafanchor_step(const uint8_t *order, size_t order_len, size_t place);
 
-/* The weight of the last point at or before t of a profile held as alternating times and weights.
- * Refusal 8 gives not found, weight 0. */
+/** Looks a profile up: the weight of its last point at or before t. Refusal 8 gives not found, weight 0.
+ * @param profile alternating times and weights
+ * @param profile_len how many numbers: twice the points
+ * @param t any time
+ * @return found and weight */
+LEAFANCHOR_MUST_USE
 leafanchor_lookup_answer leafanchor_lookup(const int32_t *profile, size_t profile_len, int32_t t);
 
-/* The same over a list of point records.
- * Refusal 8 gives not found, weight 0. */
+/** Looks a list of point records up, as leafanchor_lookup does. Refusal 8 gives not found, weight 0.
+ * @param points the profile's points
+ * @param points_len how many points
+ * @param t any time
+ * @return found and weight */
+LEAFANCHOR_MUST_USE
 leafanchor_lookup_answer leafanchor_lookup_records(const leafanchor_point *points, size_t points_len, int32_t t);
 
-/* Writes the shortest profile that gives at each time the greater weight of p and q. Room:
- * LEAFANCHOR_PROFILE_ROOM. Refusals 8 and 10 write nothing. */
+/** Joins two profiles: the shortest profile that gives at each time the greater weight of both. Refusals 8 and
+ * 10 write nothing.
+ * @param p alternating times and weights
+ * @param p_len how many numbers: twice the points
+ * @param q alternating times and weights
+ * @param q_len how many numbers: twice the points
+ * @param out written: the profile, two numbers a point
+ * @param out_len room for LEAFANCHOR_PROFILE_ROOM numbers
+ * @return the points written */
+LEAFANCHOR_MUST_USE
 leafanchor_better_answer leafanchor_better_of(const int32_t *p, size_t p_len, const int32_t *q, size_t q_len,
                                               int32_t *out, size_t out_len);
 
-/* Writes the profile extended by the order; (t0, 0) extended by an order is that order's profile. Room:
- * LEAFANCHOR_PROFILE_ROOM and the work area. Refusals 1 to 10 write nothing. */
+/** Extends a profile by an order; (t0, 0) extended by an order is that order's profile. Refusals 1 to 10 write
+ * nothing.
+ * @param profile alternating times and weights
+ * @param profile_len how many numbers: twice the points
+ * @param order the packed order
+ * @param order_len its bytes
+ * @param out written: the profile, two numbers a point
+ * @param out_len room for LEAFANCHOR_PROFILE_ROOM numbers
+ * @param work the work area
+ * @param work_len room for LEAFANCHOR_WORK_AREA numbers
+ * @return the points written */
+LEAFANCHOR_MUST_USE
 leafanchor_extend_answer leafanchor_extend(const int32_t *profile, size_t profile_len, const uint8_t *order,
                                            size_t order_len, int32_t *out, size_t out_len, int32_t *work,
                                            size_t work_len);
 
-/* The plan that loses the least weight; writes one start a job, LEAFANCHOR_LEFT_OUT for a job left out. Room:
- * one start a job and the work area. Refusals 1 to 7 and 9 to 11 write no start. */
+/** Plans an order: the plan that loses the least weight. Refusals 1 to 7 and 9 to 11 write no start.
+ * @param order the packed order
+ * @param order_len its bytes
+ * @param starts written: the start of each job, LEAFANCHOR_LEFT_OUT for a job left out
+ * @param starts_len room for one start a job
+ * @param work the work area
+ * @param work_len room for LEAFANCHOR_WORK_AREA numbers
+ * @return the jobs kept, the weights, the finish and the point total */
+LEAFANCHOR_MUST_USE
 leafanchor_plan_answer leafanchor_plan(const uint8_t *order, size_t order_len, int32_t *starts, size_t starts_len,
                                        int32_t *work, size_t work_len);
 
-/* Which of two openings is worth more at time t; equal goes to the first. Room: the work area.
- * Refusals 1 to 7 and 9 of either opening, 10 and 11 name no winner. */
+/** Asks which of two openings is worth more at a time; equal goes to the first. Refusals 1 to 7 and 9 of either
+ * opening, 10 and 11 name no winner. Which opening a refusal of 1 to 9 is about: plan the first alone; it gives
+ * that refusal, with its place, or it is the second's, and planning the second alone gives it.
+ * @param first the first packed order
+ * @param first_len its bytes
+ * @param second the second packed order
+ * @param second_len its bytes
+ * @param t any time
+ * @param work the work area
+ * @param work_len room for LEAFANCHOR_WORK_AREA numbers
+ * @return the winner */
+LEAFANCHOR_MUST_USE
 leafanchor_question_answer leafanchor_question(const uint8_t *first, size_t first_len, const uint8_t *second,
                                                size_t second_len, int32_t t, int32_t *work, size_t work_len);
 
-/* The same, and where the winner's records lie in its bytes, without the header. Room: the work area.
- * Refusals as for the question hand back an empty part of the first. */
+/** Chooses between two openings: leafanchor_question, and where the winner's records lie in its bytes, without
+ * the header. Refused as the question is, it hands back an empty part of the first.
+ * @param first the first packed order
+ * @param first_len its bytes
+ * @param second the second packed order
+ * @param second_len its bytes
+ * @param t any time
+ * @param work the work area
+ * @param work_len room for LEAFANCHOR_WORK_AREA numbers
+ * @return the winner and its part */
+LEAFANCHOR_MUST_USE
 leafanchor_choose_answer leafanchor_choose(const uint8_t *first, size_t first_len, const uint8_t *second,
                                            size_t second_len, int32_t t, int32_t *work, size_t work_len);
+
+/** A job. An array of jobs is a list of unpacked numbers, six a job. */
+typedef struct leafanchor_job {
+    int32_t number;   /**< 0 to 63, unlike any other of the order */
+    int32_t critical; /**< 1 where it may not be left out, else 0 */
+    int32_t weight;   /**< 0 where it is critical, else 1 to 50 */
+    int32_t ready;    /**< the second from which it may run */
+    int32_t length;   /**< in seconds, 1 to 10,000 */
+    int32_t deadline; /**< the second by which it must have ended */
+} leafanchor_job;
+
+/** A profile with its length: what the calls over it write, and nothing else, is read by the next. It takes 2,416
+ * bytes, also on a stack. {0, {0}} is the profile of no points. */
+typedef struct leafanchor_profile {
+    size_t numbers_len;                       /**< how many of the numbers are the profile: twice the points */
+    int32_t numbers[LEAFANCHOR_PROFILE_ROOM]; /**< alternating times and weights; the rest means nothing */
+} leafanchor_profile;
+
+/** leafanchor_unpack into jobs. It takes no stack of its own.
+ * @param order the packed order
+ * @param order_len its bytes
+ * @param jobs written: the jobs
+ * @param jobs_len room for the order's jobs, LEAFANCHOR_MOST_JOBS at most
+ * @return the number of jobs and the bus-free time */
+LEAFANCHOR_MUST_USE
+static inline leafanchor_unpack_answer leafanchor_unpack_jobs(const uint8_t *order, size_t order_len,
+                                                              leafanchor_job *jobs, size_t jobs_len)
+{
+    return leafanchor_unpack(order, order_len, (int32_t *)(void *)jobs, LEAFANCHOR_JOB_NUMBERS * jobs_len);
+}
+
+/** leafanchor_pack of jobs. It takes no stack of its own.
+ * @param t0 the bus-free time
+ * @param jobs the jobs
+ * @param jobs_len how many
+ * @param order written: the packed order
+ * @param order_len room for 4 bytes and 8 a job, LEAFANCHOR_ORDER_BYTES at most
+ * @return the bytes written */
+LEAFANCHOR_MUST_USE
+static inline leafanchor_pack_answer leafanchor_pack_jobs(int32_t t0, const leafanchor_job *jobs, size_t jobs_len,
+                                                          uint8_t *order, size_t order_len)
+{
+    return leafanchor_pack(t0, (const int32_t *)(const void *)jobs, LEAFANCHOR_JOB_NUMBERS * jobs_len, order,
+                           order_len);
+}
+
+/** The job that a reader's step gave.
+ * @param step the answer of leafanchor_step, neither refused nor the end
+ * @return its job; all 0 where it gave none */
+LEAFANCHOR_MUST_USE
+static inline leafanchor_job leafanchor_job_of_step(leafanchor_step_answer step)
+{
+    leafanchor_job job = {step.number, step.critical, step.weight, step.ready, step.length, step.deadline};
+    return job;
+}
+
+/** leafanchor_extend over profiles. Refused, it leaves out the profile of no points.
+ * @param profile the profile
+ * @param order the packed order
+ * @param order_len its bytes
+ * @param out written: the profile extended by the order; another one than profile
+ * @param work the work area
+ * @param work_len room for LEAFANCHOR_WORK_AREA numbers
+ * @return the refusal and its place, and the points of out */
+LEAFANCHOR_MUST_USE
+static inline leafanchor_extend_answer leafanchor_profile_extended(const leafanchor_profile *profile,
+                                                                   const uint8_t *order, size_t order_len,
+                                                                   leafanchor_profile *out, int32_t *work,
+                                                                   size_t work_len)
+{
+    leafanchor_extend_answer answer = leafanchor_extend(profile->numbers, profile->numbers_len, order, order_len,
+                                                        out->numbers, LEAFANCHOR_PROFILE_ROOM, work, work_len);
+    out->numbers_len = 2 * answer.points;
+    return answer;
+}
+
+/** The profile of an order: its bus-free time with weight 0, extended by it. Refused, it is the profile of no
+ * points. The order is unpacked into out on the way, and 8 bytes of stack hold the time.
+ * @param order the packed order
+ * @param order_len its bytes
+ * @param out written: the profile of the order
+ * @param work the work area
+ * @param work_len room for LEAFANCHOR_WORK_AREA numbers
+ * @return the refusal and its place, and the points of out */
+LEAFANCHOR_MUST_USE
+static inline leafanchor_extend_answer leafanchor_profile_of_order(const uint8_t *order, size_t order_len,
+                                                                   leafanchor_profile *out, int32_t *work,
+                                                                   size_t work_len)
+{
+    leafanchor_unpack_answer unpacked = leafanchor_unpack(order, order_len, out->numbers, LEAFANCHOR_PROFILE_ROOM);
+    leafanchor_extend_answer answer = {unpacked.refusal, unpacked.place, 0};
+    if (unpacked.refusal == LEAFANCHOR_NONE) {
+        const int32_t bus_free[] = {unpacked.t0, 0};
+        answer = leafanchor_extend(bus_free, 2, order, order_len, out->numbers, LEAFANCHOR_PROFILE_ROOM, work,
+                                   work_len);
+    }
+    out->numbers_len = 2 * answer.points;
+    return answer;
+}
+
+/** leafanchor_better_of over profiles. Refused, it leaves out the profile of no points.
+ * @param p a profile
+ * @param q a profile
+ * @param out written: the better of both; another one than they
+ * @return the refusal, and the points of out */
+LEAFANCHOR_MUST_USE
+static inline leafanchor_better_answer leafanchor_profile_better(const leafanchor_profile *p,
+                                                                 const leafanchor_profile *q,
+                                                                 leafanchor_profile *out)
+{
+    leafanchor_better_answer answer = leafanchor_better_of(p->numbers, p->numbers_len, q->numbers, q->numbers_len,
+                                                           out->numbers, LEAFANCHOR_PROFILE_ROOM);
+    out->numbers_len = 2 * answer.points;
+    return answer;
+}
+
+/** leafanchor_lookup in a profile.
+ * @param profile the profile
+ * @param t any time
+ * @return found and weight */
+LEAFANCHOR_MUST_USE
+static inline leafanchor_lookup_answer leafanchor_profile_lookup(const leafanchor_profile *profile, int32_t t)
+{
+    return leafanchor_lookup(profile->numbers, profile->numbers_len, t);
+}
+
+/** How every answer is laid out where pointers have 64 bits: SIZE(NAME, BYTES) for each struct leafanchor_NAME,
+ * OFFSET(NAME, MEMBER, BYTES) for each of its members. */
+#define LEAFANCHOR_LAYOUT(SIZE, OFFSET)                                                                       \
+    SIZE(heat_answer, 8)                                                                                      \
+    OFFSET(heat_answer, refusal, 0) OFFSET(heat_answer, seconds, 4)                                           \
+    SIZE(unpack_answer, 32)                                                                                   \
+    OFFSET(unpack_answer, refusal, 0) OFFSET(unpack_answer, place, 8) OFFSET(unpack_answer, jobs, 16)         \
+    OFFSET(unpack_answer, t0, 24)                                                                             \
+    SIZE(pack_answer, 24)                                                                                     \
+    OFFSET(pack_answer, refusal, 0) OFFSET(pack_answer, place, 8) OFFSET(pack_answer, bytes, 16)              \
+    SIZE(open_answer, 16)                                                                                     \
+    OFFSET(open_answer, refusal, 0) OFFSET(open_answer, jobs, 8)                                              \
+    SIZE(step_answer, 56)                                                                                     \
+    OFFSET(step_answer, refusal, 0) OFFSET(step_answer, place, 8) OFFSET(step_answer, end, 16)                \
+    OFFSET(step_answer, number, 20) OFFSET(step_answer, critical, 24) OFFSET(step_answer, weight, 28)         \
+    OFFSET(step_answer, ready, 32) OFFSET(step_answer, length, 36) OFFSET(step_answer, deadline, 40)          \
+    OFFSET(step_answer, next, 48)                                                                             \
+    SIZE(point, 8)                                                                                            \
+    OFFSET(point, time, 0) OFFSET(point, weight, 4)                                                           \
+    SIZE(lookup_answer, 12)                                                                                   \
+    OFFSET(lookup_answer, refusal, 0) OFFSET(lookup_answer, found, 4) OFFSET(lookup_answer, weight, 8)        \
+    SIZE(better_answer, 16)                                                                                   \
+    OFFSET(better_answer, refusal, 0) OFFSET(better_answer, points, 8)                                        \
+    SIZE(extend_answer, 24)                                                                                   \
+    OFFSET(extend_answer, refusal, 0) OFFSET(extend_answer, place, 8) OFFSET(extend_answer, points, 16)       \
+    SIZE(plan_answer, 48)                                                                                     \
+    OFFSET(plan_answer, refusal, 0) OFFSET(plan_answer, place, 8) OFFSET(plan_answer, mask, 16)               \
+    OFFSET(plan_answer, kept, 24) OFFSET(plan_answer, kept_weight, 28) OFFSET(plan_answer, lost_weight, 32)   \
+    OFFSET(plan_answer, finish, 36) OFFSET(plan_answer, points, 40)                                           \
+    SIZE(question_answer, 8)                                                                                  \
+    OFFSET(question_answer, refusal, 0) OFFSET(question_answer, winner, 4)                                    \
+    SIZE(choose_answer, 24)                                                                                   \
+    OFFSET(choose_answer, refusal, 0) OFFSET(choose_answer, winner, 4) OFFSET(choose_answer, offset, 8)       \
+    OFFSET(choose_answer, length, 16)
+
+/** A fact that the compiler checks, where it can. */
+#if defined(__cplusplus) && __cplusplus >= 201103L
+#define LEAFANCHOR_HOLDS(fact, words) static_assert(fact, words);
+#elif defined(__STDC_VERSION__) && __STDC_VERSION__ >= 201112L
+#define LEAFANCHOR_HOLDS(fact, words) _Static_assert(fact, words);
+#else
+#define LEAFANCHOR_HOLDS(fact, words)
+#endif
+/** The size of an answer is as the library has it. */
+#define LEAFANCHOR_HAS_SIZE(name, bytes) LEAFANCHOR_HOLDS(sizeof(leafanchor_##name) == bytes, "leafanchor_" #name)
+/** A member of an answer lies where the library has it. */
+#define LEAFANCHOR_LIES_AT(name, member, bytes) \
+    LEAFANCHOR_HOLDS(offsetof(leafanchor_##name, member) == bytes, "leafanchor_" #name "." #member)
+
+LEAFANCHOR_LAYOUT(LEAFANCHOR_HAS_SIZE, LEAFANCHOR_LIES_AT)
+LEAFANCHOR_HAS_SIZE(job, LEAFANCHOR_JOB_NUMBERS * sizeof(int32_t))
+LEAFANCHOR_LIES_AT(job, number, 0)
+LEAFANCHOR_LIES_AT(job, critical, 4)
+LEAFANCHOR_LIES_AT(job, weight, 8)
+LEAFANCHOR_LIES_AT(job, ready, 12)
+LEAFANCHOR_LIES_AT(job, length, 16)
+LEAFANCHOR_LIES_AT(job, deadline, 20)
+LEAFANCHOR_HAS_SIZE(profile, 2416)
+LEAFANCHOR_HOLDS(LEAFANCHOR_ORDER_BYTES == 4 + 8 * LEAFANCHOR_MOST_JOBS, "bytes of an order")
+LEAFANCHOR_HOLDS(LEAFANCHOR_ORDER_NUMBERS == LEAFANCHOR_JOB_NUMBERS * LEAFANCHOR_MOST_JOBS, "numbers of an order")
+LEAFANCHOR_HOLDS(LEAFANCHOR_STARTS == LEAFANCHOR_MOST_JOBS, "starts of a plan")
+LEAFANCHOR_HOLDS(LEAFANCHOR_PROFILE_ROOM == 2 * 301, "numbers of a profile")
+LEAFANCHOR_HOLDS(LEAFANCHOR_PROFILE_ROOM >= LEAFANCHOR_ORDER_NUMBERS, "an order unpacks into a profile's room")
+LEAFANCHOR_HOLDS(LEAFANCHOR_WORK_AREA == (1 + LEAFANCHOR_MOST_JOBS) * 301, "numbers of the work area")
 
 #ifdef __cplusplus
 }

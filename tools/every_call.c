@@ -1,5 +1,6 @@
-/* Calls every function of the header once, on the worked figures P1 to P11, and says which answer differs.
- * That the header declares what the library defines is seen here from C. Compiles as C11 and as C++17. */
+/* Calls every function of the header, on the worked figures P1 to P11, and says which answer differs. That the
+ * header declares what the library defines, and that its own calls over jobs and profiles give what the plain
+ * ones give, is seen here from C. Compiles as C11 and as C++17. */
 #include "leafanchor.h"
 
 #include <stdio.h>
@@ -47,6 +48,33 @@ static void packed_orders(void)
     CHECK(leafanchor_step(order, 3, 0).refusal == LEAFANCHOR_ORDER_TOO_SHORT);
 }
 
+/* P1 as jobs: packed, unpacked and read, and a room of one job too few. */
+static void jobs(void)
+{
+    static const leafanchor_job wanted[] = {
+        {7, 1, 0, -600, 495, 0}, {3, 0, 20, -200, 300, 250}, {12, 0, 15, 0, 200, 300},
+        {5, 1, 0, 100, 100, 450}, {9, 0, 15, 0, 100, 500}};
+    static leafanchor_job got[LEAFANCHOR_MOST_JOBS];
+    static uint8_t bytes[LEAFANCHOR_ORDER_BYTES];
+    leafanchor_pack_answer packed = leafanchor_pack_jobs(-600, wanted, 5, bytes, LEAFANCHOR_ORDER_BYTES);
+    CHECK(packed.refusal == 0 && packed.place == 0 && packed.bytes == 44);
+    CHECK(memcmp(bytes, order, 44) == 0);
+    leafanchor_unpack_answer unpacked = leafanchor_unpack_jobs(bytes, 44, got, LEAFANCHOR_MOST_JOBS);
+    CHECK(unpacked.refusal == 0 && unpacked.place == 0 && unpacked.jobs == 5 && unpacked.t0 == -600);
+    CHECK(memcmp(got, wanted, sizeof wanted) == 0);
+    CHECK(got[1].number == 3 && got[1].critical == 0 && got[1].weight == 20);
+    CHECK(got[1].ready == -200 && got[1].length == 300 && got[1].deadline == 250);
+    for (size_t place = 0; place < 5; place++) {
+        leafanchor_job job = leafanchor_job_of_step(leafanchor_step(bytes, 44, place));
+        CHECK(memcmp(&job, &wanted[place], sizeof job) == 0);
+    }
+    CHECK(leafanchor_unpack_jobs(bytes, 44, got, 4).refusal == LEAFANCHOR_BUFFER_TOO_SHORT);
+    CHECK(leafanchor_pack_jobs(-600, wanted, 5, bytes, 43).refusal == LEAFANCHOR_BUFFER_TOO_SHORT);
+    got[2].number = 7;
+    packed = leafanchor_pack_jobs(-600, got, 5, bytes, LEAFANCHOR_ORDER_BYTES);
+    CHECK(packed.refusal == LEAFANCHOR_NUMBER_REPEATED && packed.place == 2 && packed.bytes == 0);
+}
+
 /* The plan of P1, with its starts. */
 static void plans(void)
 {
@@ -82,6 +110,46 @@ static void profiles(void)
     CHECK(memcmp(profile, p9, sizeof p9) == 0);
 }
 
+/* Whether a profile is these numbers. */
+static int is(const leafanchor_profile *got, const int32_t *wanted, size_t wanted_len)
+{
+    return got->numbers_len == wanted_len && memcmp(got->numbers, wanted, wanted_len * sizeof *wanted) == 0;
+}
+
+/* P2, P3 and P9 over profiles that carry their length: P1's order in one and in two parts, and what a refusal leaves. */
+static void held_profiles(void)
+{
+    static const int32_t p2[] = {200, 0, 295, 20, 395, 35}, p9[] = {0, 0, 5, 7};
+    static const leafanchor_profile p = {4, {0, 0, 20, 7}}, q = {2, {5, 7}}, odd = {3, {0, 0, 5}};
+    static leafanchor_profile made, front, whole;
+    static uint8_t part[LEAFANCHOR_ORDER_BYTES];
+    leafanchor_extend_answer answer =
+        leafanchor_profile_of_order(order, 44, &made, work, LEAFANCHOR_WORK_AREA);
+    CHECK(answer.refusal == 0 && answer.place == 0 && answer.points == 3 && is(&made, p2, 6));
+    CHECK(leafanchor_profile_lookup(&made, 199).found == 0 && leafanchor_profile_lookup(&made, 200).found == 1);
+    CHECK(leafanchor_profile_lookup(&made, 394).weight == 20 && leafanchor_profile_lookup(&made, 395).weight == 35);
+
+    size_t bytes = leafanchor_pack(-600, p1, 12, part, LEAFANCHOR_ORDER_BYTES).bytes;
+    CHECK(leafanchor_profile_of_order(part, bytes, &front, work, LEAFANCHOR_WORK_AREA).refusal == 0);
+    bytes = leafanchor_pack(0, p1 + 12, 18, part, LEAFANCHOR_ORDER_BYTES).bytes;
+    answer = leafanchor_profile_extended(&front, part, bytes, &whole, work, LEAFANCHOR_WORK_AREA);
+    CHECK(answer.refusal == 0 && answer.points == 3 && is(&whole, p2, 6));
+
+    leafanchor_better_answer better = leafanchor_profile_better(&p, &q, &made);
+    CHECK(better.refusal == 0 && better.points == 2 && is(&made, p9, 4));
+    CHECK(leafanchor_profile_better(&p, &odd, &made).refusal == LEAFANCHOR_PROFILE_NOT_VALID);
+    CHECK(made.numbers_len == 0 && leafanchor_profile_lookup(&made, 100).found == 0);
+    answer = leafanchor_profile_extended(&odd, part, bytes, &whole, work, LEAFANCHOR_WORK_AREA);
+    CHECK(answer.refusal == LEAFANCHOR_PROFILE_NOT_VALID && whole.numbers_len == 0);
+    answer = leafanchor_profile_of_order(part, 3, &whole, work, LEAFANCHOR_WORK_AREA);
+    CHECK(answer.refusal == LEAFANCHOR_ORDER_TOO_SHORT && whole.numbers_len == 0);
+    part[4 + 8] = part[4];
+    answer = leafanchor_profile_of_order(part, bytes, &whole, work, LEAFANCHOR_WORK_AREA);
+    CHECK(answer.refusal == LEAFANCHOR_JOB_OUT_OF_RANGE && answer.place == 1 && whole.numbers_len == 0);
+    answer = leafanchor_profile_of_order(order, 44, &whole, work, LEAFANCHOR_WORK_AREA - 1);
+    CHECK(answer.refusal == LEAFANCHOR_BUFFER_TOO_SHORT && whole.numbers_len == 0);
+}
+
 /* P1 as the first opening against an order of no jobs, and the other way round. */
 static void openings(void)
 {
@@ -104,15 +172,28 @@ static void heat_up(void)
     CHECK(leafanchor_heat_up(226).seconds == 3300);
     CHECK(leafanchor_heat_up(225).refusal == LEAFANCHOR_CELL_TOO_COLD && leafanchor_heat_up(225).seconds == 0);
     CHECK(strcmp(leafanchor_phrase(12), "the cell is below -30 degrees") == 0);
+    CHECK(strcmp(leafanchor_phrase(13), "no such refusal") == 0);
+}
+
+/* The version's text is its figures. */
+static void version(void)
+{
+    char text[32];
+    snprintf(text, sizeof text, "%d.%d.%d", LEAFANCHOR_VERSION_MAJOR, LEAFANCHOR_VERSION_MINOR,
+             LEAFANCHOR_VERSION_PATCH);
+    CHECK(strcmp(text, LEAFANCHOR_VERSION) == 0);
 }
 
 int main(void)
 {
     packed_orders();
+    jobs();
     plans();
     profiles();
+    held_profiles();
     openings();
     heat_up();
+    version();
     puts(wrong ? "every call: differs" : "every call: as worked out");
     return wrong;
 }

@@ -26,45 +26,73 @@ static int32_t profile[LEAFANCHOR_PROFILE_ROOM], other[LEAFANCHOR_PROFILE_ROOM],
 static leafanchor_point points[POINTS];
 static int32_t starts[LEAFANCHOR_STARTS], work[LEAFANCHOR_WORK_AREA];
 static uint8_t packed[LEAFANCHOR_ORDER_BYTES];
+static leafanchor_job job_list[LEAFANCHOR_MOST_JOBS];
+static leafanchor_profile held[3];
 
-/* One call on one of the inputs. The answers are dropped: the stack is what counts here. */
-typedef void call(size_t input);
+/* One call on one of the inputs; it gives the refusal. */
+typedef uint32_t call(size_t input);
 
-static void nothing(size_t i) { (void)i; }
-static void heat_up(size_t i) { (void)leafanchor_heat_up((uint8_t)(i * 60)); }
-static void unpack(size_t i) { (void)leafanchor_unpack(orders[i], bytes[i], copy, LEAFANCHOR_ORDER_NUMBERS); }
-static void pack(size_t i) { (void)leafanchor_pack(0, numbers, 6 * jobs[i], packed, LEAFANCHOR_ORDER_BYTES); }
-static void open(size_t i) { (void)leafanchor_open(orders[i], bytes[i]); }
-static void step(size_t i) { (void)leafanchor_step(orders[i], bytes[i], i); }
-static void lookup(size_t i) { (void)leafanchor_lookup(profile, LEAFANCHOR_PROFILE_ROOM - i, 5); }
-static void lookup_records(size_t i) { (void)leafanchor_lookup_records(points, POINTS - i, 500); }
-static void better_of(size_t i)
+static uint32_t nothing(size_t i) { return (uint32_t)i; }
+static uint32_t heat_up(size_t i) { return leafanchor_heat_up((uint8_t)(i * 60)).refusal; }
+static uint32_t unpack(size_t i)
 {
-    (void)leafanchor_better_of(profile, LEAFANCHOR_PROFILE_ROOM - i, other, LEAFANCHOR_PROFILE_ROOM, out,
-                               LEAFANCHOR_PROFILE_ROOM);
+    return leafanchor_unpack(orders[i], bytes[i], copy, LEAFANCHOR_ORDER_NUMBERS).refusal;
 }
-static void extend(size_t i)
+static uint32_t pack(size_t i)
 {
-    (void)leafanchor_extend(profile, 2, orders[i], bytes[i], out, LEAFANCHOR_PROFILE_ROOM, work,
-                            LEAFANCHOR_WORK_AREA);
+    return leafanchor_pack(0, numbers, 6 * jobs[i], packed, LEAFANCHOR_ORDER_BYTES).refusal;
 }
-static void plan(size_t i)
+static uint32_t open(size_t i) { return leafanchor_open(orders[i], bytes[i]).refusal; }
+static uint32_t step(size_t i) { return leafanchor_step(orders[i], bytes[i], i).refusal; }
+static uint32_t lookup(size_t i) { return leafanchor_lookup(profile, LEAFANCHOR_PROFILE_ROOM - i, 5).refusal; }
+static uint32_t lookup_records(size_t i) { return leafanchor_lookup_records(points, POINTS - i, 500).refusal; }
+static uint32_t better_of(size_t i)
 {
-    (void)leafanchor_plan(orders[i], bytes[i], starts, LEAFANCHOR_STARTS, work, LEAFANCHOR_WORK_AREA);
+    return leafanchor_better_of(profile, LEAFANCHOR_PROFILE_ROOM - i, other, LEAFANCHOR_PROFILE_ROOM, out,
+                                LEAFANCHOR_PROFILE_ROOM).refusal;
 }
-static void question(size_t i)
+static uint32_t extend(size_t i)
 {
-    (void)leafanchor_question(orders[i], bytes[i], orders[0], bytes[0], 9000, work, LEAFANCHOR_WORK_AREA);
+    return leafanchor_extend(profile, 2, orders[i], bytes[i], out, LEAFANCHOR_PROFILE_ROOM, work,
+                             LEAFANCHOR_WORK_AREA).refusal;
 }
-static void choose(size_t i)
+static uint32_t plan(size_t i)
 {
-    (void)leafanchor_choose(orders[i], bytes[i], orders[0], bytes[0], 9000, work, LEAFANCHOR_WORK_AREA);
+    return leafanchor_plan(orders[i], bytes[i], starts, LEAFANCHOR_STARTS, work, LEAFANCHOR_WORK_AREA).refusal;
 }
+static uint32_t question(size_t i)
+{
+    return leafanchor_question(orders[i], bytes[i], orders[0], bytes[0], 9000, work, LEAFANCHOR_WORK_AREA).refusal;
+}
+static uint32_t choose(size_t i)
+{
+    return leafanchor_choose(orders[i], bytes[i], orders[0], bytes[0], 9000, work, LEAFANCHOR_WORK_AREA).refusal;
+}
+static uint32_t unpack_jobs(size_t i)
+{
+    return leafanchor_unpack_jobs(orders[i], bytes[i], job_list, LEAFANCHOR_MOST_JOBS).refusal;
+}
+static uint32_t pack_jobs(size_t i)
+{
+    return leafanchor_pack_jobs(0, job_list, jobs[i], packed, LEAFANCHOR_ORDER_BYTES).refusal;
+}
+static uint32_t profile_of_order(size_t i)
+{
+    return leafanchor_profile_of_order(orders[i], bytes[i], &held[0], work, LEAFANCHOR_WORK_AREA).refusal;
+}
+static uint32_t profile_extended(size_t i)
+{
+    return leafanchor_profile_extended(&held[0], orders[i], bytes[i], &held[1], work, LEAFANCHOR_WORK_AREA).refusal;
+}
+static uint32_t profile_better(size_t i) { return leafanchor_profile_better(&held[0], &held[i % 2], &held[2]).refusal; }
+static uint32_t profile_lookup(size_t i) { return leafanchor_profile_lookup(&held[i % 3], 500).refusal; }
 
 static const struct { const char *name; call *run; } calls[] = {
     {"heat_up", heat_up}, {"unpack", unpack}, {"pack", pack}, {"open", open}, {"step", step}, {"lookup", lookup},
     {"lookup_records", lookup_records}, {"better_of", better_of}, {"extend", extend}, {"plan", plan},
-    {"question", question}, {"choose", choose}};
+    {"question", question}, {"choose", choose}, {"unpack_jobs", unpack_jobs}, {"pack_jobs", pack_jobs},
+    {"profile_of_order", profile_of_order}, {"profile_extended", profile_extended},
+    {"profile_better", profile_better}, {"profile_lookup", profile_lookup}};
 
 /* Ends the program where the system refuses something. */
 static void must(int result, const char *what)
@@ -75,13 +103,13 @@ static void must(int result, const char *what)
     }
 }
 
-static struct { call *run; size_t input; } task;
+static struct { call *run; size_t input; uint32_t refusal; } task;
 static ucontext_t here, there;
 
 /* What runs on the painted stack. It leaves by the switch and never returns, so that leaving adds no depth. */
 static void run_task(void)
 {
-    task.run(task.input);
+    task.refusal = task.run(task.input);
     must(swapcontext(&there, &here), "the way back");
 }
 

@@ -1,0 +1,459 @@
+#!/bin/sh
+# Tries the shell's command, ./leafanchor, sentence by sentence: its output, what it says and its status. Plans are made by the
+# program as built. Builds go through a stand-in for rt over a checkout of three crates, so that they take a second or two.
+# A line for each case; ends with 0 if every one is as it should be.
+# shellcheck disable=SC2016,SC2034
+set -u
+cd "$(dirname "$0")/.." || exit 1
+root=$(pwd -P)
+room=$(mktemp -d) || exit 1
+trap 'rm -rf "$room"' EXIT
+trap 'exit 1' HUP INT TERM
+chmod 755 "$room"
+built=$root/target/bin/plan_order
+[ -x "$built" ] || { echo "shell: $built is missing: build it with ./leafanchor plan"; exit 1; }
+
+# ---- cases
+
+cases=0 wrong=0 out=$room/out err=$room/err status=0
+
+# try COMMAND: keeps what it wrote, what it said and its status.
+try() {
+    "$@" >"$out" 2>"$err"
+    status=$?
+}
+
+# holds NAME CONDITION: one case, and what was seen where it is wrong.
+holds() {
+    cases=$((cases + 1))
+    if eval "$2"; then
+        echo "shell: $1"
+    else
+        wrong=$((wrong + 1))
+        printf 'shell: WRONG: %s\n  status %s\n  written: %s\n  said: %s\n' "$1" "$status" "$(cat "$out")" "$(cat "$err")"
+    fi
+}
+
+# gives NAME STATUS WRITTEN SAID: of the last try; WRITTEN is the text itself, SAID a pattern for all that was said.
+gives() {
+    wanted=$2 written=$3 said=$4
+    holds "$1" '[ "$status" = "$wanted" ] && [ "$(cat "$out")" = "$written" ] && case $(cat "$err") in $said) ;; *) false ;; esac'
+}
+
+# ---- orders
+
+octets() { # COUNT VALUE
+    left=$1
+    while [ "$left" -gt 0 ]; do
+        left=$((left - 1))
+        # shellcheck disable=SC2059
+        printf "\\$(printf %03o $(($2 >> 8 * left & 255)))"
+    done
+}
+header() { octets 4 $(($1 << 26 | ($2 & 262143) << 8)); }                     # JOBS T0
+job() { octets 8 $(($1 << 58 | $2 << 57 | $3 << 50 | $4 << 18 | $5)); }       # NUMBER CRITICAL WEIGHT LENGTH DEADLINE, ready at 0
+
+cp examples/p1.order "$room/p1"
+p1=$(cat examples/p1.expected)
+
+# ---- checkouts, and a stand-in for rt
+
+real_rt=$(command -v rt)
+mkdir "$room/bin" "$room/tmp" "$room/tools" "$room/links"
+chmod 1777 "$room/tmp"
+export TMPDIR="$room/tmp"
+
+# Counts its builds in the folder above the checkout; what the file 'mood' there says comes after the first crate.
+cat >"$room/bin/rt" <<END
+#!/bin/sh
+[ "\$1" = check ] || exec "$real_rt" "\$@"
+echo "\$*" >>../builds
+echo 'rt: first proved (1 s)'
+[ ! -f ../mood ] || . ../mood
+echo 'rt: second proved (unchanged since it was last proved)'
+echo 'rt: plan_order proved (2 s)'
+[ -f target/bin/plan_order ] || { mkdir -p target/bin && cp "$built" target/bin/plan_order; }
+echo "rt: plan_order ran, and wrote what its file 'stdout' has (0 s)"
+END
+chmod 755 "$room/bin/rt"
+PATH=$room/bin:$PATH
+
+# checkout NAME: a checkout of its own that is not built. The program is made of three of its four crates.
+checkout() {
+    here=$room/$1/stand
+    mkdir -p "$here/include" "$room/$1/other"
+    cp "$root/leafanchor" "$here/leafanchor"
+    cp "$root/include/leafanchor.h" "$here/include/leafanchor.h"
+    printf '# crates\nfirst:\nsecond: first io\nplan_order: second libc # the program\nother: first\n' >"$here/crates.txt"
+    for crate in first second plan_order other; do
+        mkdir -p "$here/crates/$crate/src" "$here/crates/$crate/must-fail"
+        echo '// a source' >"$here/crates/$crate/src/lib.rt"
+    done
+    touch -d '1 hour ago' "$here/crates.txt" "$here"/crates/* "$here"/crates/*/*  "$here"/crates/*/src/*
+}
+built_checkout() {
+    checkout "$1"
+    mkdir -p "$here/target/bin"
+    cp "$built" "$here/target/bin/plan_order"
+}
+builds() { if [ -f "$here/../builds" ]; then wc -l <"$here/../builds"; else echo 0; fi; }
+
+# soon CONDITION: waits for it, ten seconds at most.
+soon() {
+    tries=0
+    until eval "$1" || [ "$tries" = 100 ]; do
+        tries=$((tries + 1))
+        sleep 0.1
+    done
+}
+
+# mood WORDS: what rt does after the first crate of the next builds. 'wait' is up to the file 'go' beside the checkout.
+mood() {
+    rm -f "$here/../go"
+    case $1 in
+    wait) echo 'n=0; until [ -f ../go ] || [ "$n" = 100 ]; do n=$((n + 1)); sleep 0.1; done' ;;
+    *) echo "$1" ;;
+    esac >"$here/../mood"
+}
+
+# program TEXT: the program of this checkout does this.
+program() {
+    printf '#!/bin/sh\n%s\n' "$1" >"$here/target/bin/plan_order"
+}
+
+# Root may read and write everything: where we are root, nobody tries what is not allowed.
+plainly() {
+    if [ "$(id -u)" = 0 ]; then setpriv --reuid=65534 --regid=65534 --clear-groups "$@"; else "$@"; fi
+}
+
+# ---- a plan: words, files and standard input
+
+try ./leafanchor plan examples/p1.order
+gives "plan FILE, in this checkout" 0 "$p1" ''
+built_checkout plans
+leafanchor=$here/leafanchor
+try "$leafanchor" plan <"$room/p1"
+gives "plan, from standard input" 0 "$p1" ''
+try "$leafanchor" plan - <"$room/p1"
+gives "plan -, from standard input" 0 "$p1" ''
+piped() { { head -c 21 "$room/p1"; sleep 0.2; tail -c +22 "$room/p1"; } | "$leafanchor" plan; }
+try piped
+gives "a slow pipe is waited for" 0 "$p1" ''
+cp "$room/p1" "$room/a * file"
+try "$leafanchor" plan "$room/a * file"
+gives "a file whose name has spaces" 0 "$p1" ''
+cp "$room/p1" "$here/-x"
+cd "$here" && try ./leafanchor plan ./-x
+gives "a file whose name begins with -" 0 "$p1" ''
+try ./leafanchor plan -x
+gives "an option that there is not" 2 '' "leafanchor: plan has no option '-x' (the file of that name is ./-x)"
+cd "$room/tmp" && try ../plans/stand/leafanchor plan ../p1
+gives "from another directory" 0 "$p1" ''
+ln -s "$here/leafanchor" "$room/links/far"
+ln -s far "$room/links/near"
+cd "$room/links" && try ./near plan "$room/p1"
+gives "through two symbolic links" 0 "$p1" ''
+PATH=$room/links:$PATH try far plan "$room/p1"
+gives "through a symbolic link on PATH" 0 "$p1" ''
+cd "$room" && CDPATH=$room try "$leafanchor" plan p1
+gives "with CDPATH set" 0 "$p1" ''
+for shell in dash 'bash --posix' 'busybox sh'; do
+    command -v "${shell%% *}" >/dev/null || continue
+    # shellcheck disable=SC2086
+    try $shell "$leafanchor" plan p1
+    gives "by $shell" 0 "$p1" ''
+done
+
+try "$leafanchor" plan p1 p1
+gives "two files" 2 '' "leafanchor: 'plan' takes one file at most: *"
+try "$leafanchor" plan no/such/file
+gives "a file that is not there" 3 '' "leafanchor: there is no file 'no/such/file'"
+try "$leafanchor" plan ''
+gives "a file with no name" 3 '' "leafanchor: there is no file ''"
+try "$leafanchor" plan "$room"
+gives "a directory" 3 '' "leafanchor: '$room' is a directory, and a packed order is a file"
+cp p1 closed && chmod 0 closed
+try plainly "$leafanchor" plan closed
+gives "a file that may not be read" 3 '' "leafanchor: the file 'closed' may not be read: there is no permission"
+try "$leafanchor" plan <"$room"
+gives "a directory as standard input" 3 '' "leafanchor: standard input cannot be read: Is a directory"
+closed_input() { "$leafanchor" plan <&-; }
+try closed_input
+gives "standard input closed" 3 '' "leafanchor: standard input cannot be read: it is closed"
+closed_and_file() { timeout 10 "$leafanchor" plan p1 <&-; }
+try closed_and_file
+gives "a file, with standard input closed" 0 "$p1" ''
+
+# ---- other words
+
+for word in --help -h help 'plan --help' 'plan -h'; do
+    # shellcheck disable=SC2086
+    try "$leafanchor" $word
+    holds "$word" '[ "$status" = 0 ] && [ ! -s "$err" ] && grep -q "^usage: ./leafanchor plan \[FILE\]" "$out" && grep -q "^Status: 0 planned; 1 refused; 2 " "$out"'
+done
+try "$leafanchor"
+gives "no word" 2 '' 'usage: *'
+try "$leafanchor" fly
+gives "a command that there is not" 2 '' "leafanchor: there is no command 'fly': *"
+for word in 'help me' 'test me' '--version 2'; do
+    # shellcheck disable=SC2086
+    try "$leafanchor" $word
+    gives "$word" 2 '' "leafanchor: '${word% *}' takes no more words: *"
+done
+version=$(sed -n 's/^version = "\(.*\)"/\1/p' "$root/rust/leafanchor/Cargo.toml")
+try "$leafanchor" --version
+gives "--version: ours as the Rust crate has it, and the kit's" 0 "leafanchor $version
+$("$real_rt" version)" ''
+
+# ---- refusals: the line as it is, the status and a phrase
+
+# refused NAME LINE PHRASE: the order in the file of that name.
+refused() {
+    try "$leafanchor" plan order
+    gives "refused: $1" 1 "$2" "leafanchor: refusal ${2%% *}: $3"
+}
+printf abc >order
+refused "three bytes" '1 0' 'the packed order is under 4 bytes'
+: >order
+refused "no bytes" '1 0' 'the packed order is under 4 bytes'
+octets 4 1 >order
+refused "a spare bit" '2 0' "the header's spare bits are not zero"
+header 49 0 >order
+refused "49 jobs" '3 0' 'there are more than 48 jobs'
+header 1 0 >order
+refused "a job missing" '4 0' 'the length does not fit the number of jobs: 4 bytes and 8 for each'
+header 0 100001 >order
+refused "a bus-free time of 100,001" '5 0' 'the bus-free time is out of range'
+{ header 2 0 && job 1 0 1 10 10 && job 2 0 1 0 10; } >order
+refused "a length of 0" '6 1' 'the job at place 1 has a field out of range'
+{ header 4 0 && job 4 0 1 10 10 && job 9 0 1 10 10 && job 4 0 1 10 10 && job 9 0 1 10 10; } >order
+refused "numbers 4, 9, 4, 9" '7 2' 'the job at place 2 repeats a number'
+{ header 7 0 && for number in 1 2 3 4 5 6; do job "$number" 0 50 10 10; done && job 7 0 1 10 10; } >order
+refused "weights of 301" '9 0' 'the weights sum to more than 300'
+{ header 1 0 && job 0 1 0 10 9; } >order
+refused "a critical job with no time" '11 0' 'no choice of jobs keeps every critical job and meets every deadline'
+{ header 1 0 && job 0 0 10 10 9; } >order
+try "$leafanchor" plan order
+gives "not refused: the same job, not critical" 0 '0 0 0 0 10 0 1
+0 -' ''
+header 0 -100000 >order
+try "$leafanchor" plan order
+gives "not refused: no jobs" 0 '0 0 0 0 0 -100000 0' ''
+{ cat p1 && head -c 345 /dev/zero; } >order
+refused "389 bytes" '4 0' 'the length does not fit *'
+endless() { timeout 10 "$leafanchor" plan </dev/zero; }
+try endless
+gives "an endless input is not read to its end" 1 '4 0' 'leafanchor: refusal 4: *'
+endless_pipe() { { cat p1 && yes; } | timeout 10 "$leafanchor" plan; }
+try endless_pipe
+gives "an endless pipe is not read to its end" 1 '4 0' 'leafanchor: refusal 4: *'
+
+built_checkout stand_ins
+program 'echo 10 0'
+cp p1 order
+leafanchor=$here/leafanchor
+refused "a buffer too short" '10 0' 'a buffer is too short'
+program 'echo 6 2 4'
+refused "a line with a third figure" '6 2 4' 'the job at place 2 has a field out of range'
+program 'exit 5'
+try "$leafanchor" plan p1
+gives "a program that fails" 3 '' "leafanchor: the program $here/target/bin/plan_order cannot be run here: it ended with status 5"
+program ''
+try "$leafanchor" plan p1
+gives "a program that says nothing" 3 '' "leafanchor: the program $here/target/bin/plan_order gave no answer"
+
+# ---- standard output that cannot be written
+
+leafanchor=$room/plans/stand/leafanchor
+unwritten='leafanchor: standard output cannot be written: *'
+full() { "$leafanchor" "$@" >/dev/full; }
+shut() { "$leafanchor" "$@" >&-; }
+gone() {
+    { sleep 0.3; "$leafanchor" "$@"; echo "$?" >"$room/ended"; } | true
+    return "$(cat "$room/ended")"
+}
+for output in full shut gone; do
+    for word in 'plan p1' '--help' '--version'; do
+        # shellcheck disable=SC2086
+        try "$output" $word
+        gives "standard output $output: $word" 3 '' "$unwritten"
+    done
+done
+header 1 0 >order
+try full plan order
+gives "standard output full: a refused order" 3 '' "$unwritten"
+
+# ---- at a terminal
+
+# at_terminal COMMAND: with a terminal that has no more to say; what it showed is in $out.
+at_terminal() {
+    script -qec "$1" /dev/null </dev/null >"$out" 2>/dev/null
+    status=$?
+}
+at_terminal "$leafanchor plan >$room/written 2>$err"
+mv "$room/written" "$out"
+gives "at a terminal it says what it waits for" 1 '1 0' 'leafanchor: waiting for a packed order on standard input, up to its end (Ctrl-D)
+leafanchor: refusal 1: *'
+at_terminal "$leafanchor plan p1 2>$err"
+holds "at a terminal, with a file, it waits for nothing" '[ "$status" = 0 ] && [ ! -s "$err" ] && [ "$(tr -d "\r" <"$out")" = "$p1" ]'
+
+# ---- building
+
+checkout first_use
+mood wait
+"$here/leafanchor" plan p1 >"$out" 2>"$err" &
+soon 'grep -q "crate 1" "$err"'
+touch "$here/../go"
+wait "$!"
+status=$?
+gives "the first use builds, with a line of progress for each step" 0 "$p1" 'leafanchor: building the program: *
+leafanchor: building: crate 1 of 3, [0-9]* s
+leafanchor: built in [0-9]* s'
+try "$here/leafanchor" plan p1
+gives "the second does not" 0 "$p1" ''
+touch "$here/crates/other/src/lib.rt" "$here/crates/first/must-fail/an.edit"
+try "$here/leafanchor" plan p1
+gives "nor does another crate or an edit make it" 0 "$p1" ''
+echo '// another' >"$here/crates/first/src/lib.rt"
+try "$here/leafanchor" plan p1
+holds "a source that is newer does" '[ "$status" = 0 ] && grep -q "built in" "$err" && [ "$(builds)" = 2 ]'
+try "$here/leafanchor" plan p1
+gives "and once is enough" 0 "$p1" ''
+rm "$here/crates/first/src/lib.rt"
+try "$here/leafanchor" plan p1
+holds "a source that is gone does" '[ "$status" = 0 ] && [ "$(builds)" = 3 ]'
+mood 'touch crates/first/src/lib.rt'
+touch "$here/crates.txt"
+try "$here/leafanchor" plan p1
+rm "$here/../mood"
+try "$here/leafanchor" plan p1
+holds "what is edited during a build is built again" '[ "$status" = 0 ] && [ "$(builds)" = 5 ]'
+
+checkout at_terminal
+mood wait
+renewed() { tr '\r' '\n' <"$out" | grep -c "^leafanchor: building: crate $1 of 3, [0-9]* s$"; }
+{ soon '[ "$(renewed 1)" -ge 2 ]' && touch "$here/../go"; } &
+at_terminal "$here/leafanchor plan p1 >$room/written"
+holds "at a terminal the progress is one line that renews itself" '[ "$status" = 0 ] && [ "$(cat "$room/written")" = "$p1" ] &&
+    [ "$(renewed 1)" -ge 2 ] && [ "$(renewed 3)" = 1 ] && [ "$(wc -l <"$out")" = 3 ]'
+
+checkout failing
+mood 'echo "rt: second NOT PROVED (exit 1, 3 s)"; exit 1'
+try "$here/leafanchor" plan p1
+gives "a build that fails" 3 '' "leafanchor: building the program: *
+rt: second NOT PROVED (exit 1, 3 s)
+leafanchor: the build failed; all that it said: $here/target/build.log"
+holds "its log is there" 'grep -q "NOT PROVED" "$here/target/build.log"'
+try "$here/leafanchor" plan no/such/file
+gives "a file that is not there is told before a build" 3 '' "leafanchor: there is no file 'no/such/file'"
+
+checkout at_once
+mood wait
+"$here/leafanchor" plan p1 >"$room/written" 2>&1 &
+one=$!
+soon '[ "$(builds)" = 1 ]'
+"$here/leafanchor" plan p1 >"$out" 2>"$err" &
+two=$!
+soon 'grep -q waiting "$err"'
+touch "$here/../go"
+wait "$two"
+status=$?
+gives "a second build waits for the first, and then has nothing to do" 0 "$p1" "leafanchor: another build of this checkout is under way: waiting for it"
+wait "$one"
+holds "there was one build, and both planned" '[ "$(builds)" = 1 ] && [ "$(tail -n 6 "$room/written")" = "$p1" ]'
+
+checkout stale
+mkdir "$here/target" && : >"$here/target/build.lock"
+try "$here/leafanchor" plan p1
+holds "a lock left behind holds up nobody" '[ "$status" = 0 ] && ! grep -q waiting "$err"'
+
+checkout killed
+mood wait
+"$here/leafanchor" plan p1 >/dev/null 2>&1 &
+one=$!
+soon '[ "$(builds)" = 1 ]'
+kill -s KILL "$one"
+wait "$one" 2>/dev/null
+"$here/leafanchor" plan p1 >"$out" 2>"$err" &
+two=$!
+soon 'grep -q waiting "$err"'
+touch "$here/../go"
+wait "$two"
+status=$?
+gives "killed, it leaves its build to end, and the next waits for that" 0 "$p1" "leafanchor: another build *: waiting for it"
+
+# Whether the stand-in for rt ended with the command.
+rt_ended() {
+    soon '! kill -0 "$(cat "$here/../pid")" 2>/dev/null'
+    ! kill -0 "$(cat "$here/../pid")" 2>/dev/null
+}
+checkout stopped
+mood 'echo $$ >../pid; sleep 30'
+"$here/leafanchor" plan p1 >"$out" 2>"$err" &
+one=$!
+soon '[ -s "$here/../pid" ]'
+kill -s TERM "$one"
+wait "$one" 2>/dev/null
+status=$?
+holds "ended by a signal it ends its build too" '[ "$status" = 143 ] && rt_ended'
+rm "$here/../pid"
+interrupted() { { soon '[ -s "$here/../pid" ]' && printf '\003'; } | script -qec "$here/leafanchor plan p1" /dev/null; }
+try interrupted
+holds "and so it is with Ctrl-C" '[ "$status" = 130 ] && rt_ended'
+rm "$here/../mood"
+try "$here/leafanchor" plan p1
+holds "the next build waits for nothing" '[ "$status" = 0 ] && ! grep -q waiting "$err"'
+
+# ---- a checkout that cannot be written
+
+built_checkout read_only
+chmod -R a-w "$here"
+try plainly "$here/leafanchor" plan p1
+gives "a read-only checkout that is built" 0 "$p1" ''
+checkout not_built
+chmod -R a-w "$here"
+try plainly "$here/leafanchor" plan p1
+gives "a read-only checkout that is not built" 3 '' "leafanchor: the program is not built, and $here cannot be written"
+built_checkout old
+touch "$here/crates.txt"
+chmod -R a-w "$here"
+try plainly "$here/leafanchor" plan p1
+gives "a read-only checkout whose program is old" 3 '' "leafanchor: the program is older than its sources, and $here cannot be written"
+chmod -R u+w "$room"
+
+# ---- no rt, and another machine
+
+for tool in sh awk cat date dirname find flock grep mkdir od readlink sed setsid sleep tail touch tr uname wc; do
+    ln -s "$(command -v "$tool")" "$room/tools/$tool"
+done
+checkout no_rt
+PATH=$room/tools try "$here/leafanchor" plan p1
+gives "not built, and no rt on PATH" 3 '' 'leafanchor: the program is not built, and rt, which builds it, is not on PATH'
+PATH=$room/tools try "$here/leafanchor" --version
+gives "--version, and no rt on PATH" 0 "leafanchor $version" "leafanchor: rt is not on PATH, so the kit's version is not known"
+if [ "$(uname -m)" = x86_64 ]; then
+    PATH=$room/tools try "$room/plans/stand/leafanchor" plan p1
+    gives "built, and no rt on PATH" 0 "$p1" ''
+fi
+
+# A machine of another kind: its kit's emulator is a stand-in that says what it is given.
+kit=$room/kit
+mkdir -p "$kit/docs" "$kit/on/other/toolchain/bin" "$room/machine"
+printf '#!/bin/sh\n[ "$1" = doc ] && echo "%s/docs/START-HERE.md"\n' "$kit" >"$room/machine/rt"
+printf '#!/bin/sh\necho other\n' >"$room/machine/uname"
+printf '#!/bin/sh\n[ "$*" = "%s" ] && echo 0 0 0 0 0 7 0\n' \
+    "$kit/on/other/toolchain/lib/ld-linux-x86-64.so.2 --library-path $kit/on/other/toolchain/lib $room/plans/stand/target/bin/plan_order" \
+    >"$kit/on/other/toolchain/bin/qemu-x86_64"
+chmod 755 "$room/machine/rt" "$room/machine/uname" "$kit/on/other/toolchain/bin/qemu-x86_64"
+PATH=$room/machine:$PATH try "$room/plans/stand/leafanchor" plan p1
+gives "on another machine the kit's emulator runs the program" 0 '0 0 0 0 0 7 0' ''
+rm "$room/machine/rt"
+PATH=$room/machine:$room/tools try "$room/plans/stand/leafanchor" plan p1
+gives "on another machine, and no rt on PATH" 3 '' "leafanchor: on this machine the program runs under the kit's emulator, and rt, *"
+
+# ---- nothing is left behind
+
+holds "no temporary file is left" '[ -z "$(ls -A "$room/tmp")" ]'
+
+[ "$wrong" = 0 ] || { echo "shell: $wrong of $cases cases are wrong"; exit 1; }
+echo "shell: all $cases cases are as they should be"
