@@ -1,6 +1,7 @@
 /** @file
  * The C header of Leafanchor, the planner of an air-taxi stand's one service bus. It declares every call of
- * libleafanchor.a, every answer and every size. Times are whole signed seconds. docs/RULES.md has the rules.
+ * libleafanchor.a, every answer and every size. Times are whole signed seconds. The rules, R1 and on, are in
+ * docs/RULES.md.
  *
  * What the caller owes, and no call checks: a pointer is never null, also where its length is 0; it points to
  * as many elements as the length beside it says; a buffer that a call writes overlaps no other buffer of that
@@ -10,10 +11,11 @@
  * longer than a call needs; what lies past the part needed stays as it was. No call allocates or keeps a pointer.
  *
  * Of several refusals the lowest number is given; those of a second opening, 1 to 9, come after all of the
- * first's. In a refused answer every figure is 0 but the refusal, the place for 6 and 7, and where a reader stands.
+ * first's (R25). In a refused answer every figure is 0 but the refusal, the place for 6 and 7, and where a reader
+ * stands (R26).
  *
  * The work area's first LEAFANCHOR_WORK_AREA numbers are 0 after every call that has one and passes refusal
- * 10, refused with 11 or not. */
+ * 10, refused with 11 or not (R29). */
 #ifndef LEAFANCHOR_H
 #define LEAFANCHOR_H
 
@@ -57,7 +59,7 @@ extern "C" {
 #define LEAFANCHOR_WORK_AREA 14749   /**< numbers of the work area that planning is lent */
 #define LEAFANCHOR_LEFT_OUT 200000   /**< the start of a job that is left out */
 
-/** Why a call refused; 0 where it did not. */
+/** Why a call refused (R24); 0 where it did not. */
 enum leafanchor_refusal {
     LEAFANCHOR_NONE = 0,                  /**< not refused */
     LEAFANCHOR_ORDER_TOO_SHORT = 1,       /**< the packed order is under 4 bytes */
@@ -191,13 +193,13 @@ typedef struct leafanchor_choose_answer {
     size_t length;    /**< of its records together, in bytes */
 } leafanchor_choose_answer;
 
-/** The heat-up length for a sample of the cell's temperature. Refusal 12 gives 0 seconds.
+/** The heat-up length for a sample of the cell's temperature (R20). Refusal 12 gives 0 seconds.
  * @param byte the sampler's byte, which is a signed number of degrees
  * @return the seconds */
 LEAFANCHOR_MUST_USE
 leafanchor_heat_answer leafanchor_heat_up(uint8_t byte);
 
-/** Unpacks an order: six numbers a job. Refusals 1 to 7, 9 and 10 write nothing.
+/** Unpacks an order: six numbers a job (R22). Refusals 1 to 7, 9 and 10 write nothing.
  * @param order the packed order
  * @param order_len its bytes
  * @param numbers written: number, critical, weight, ready, length and deadline of each job
@@ -207,7 +209,7 @@ LEAFANCHOR_MUST_USE
 leafanchor_unpack_answer leafanchor_unpack(const uint8_t *order, size_t order_len, int32_t *numbers,
                                            size_t numbers_len);
 
-/** Packs an order. Refusals 3 to 7, 9 and 10 write nothing.
+/** Packs an order (R21). Refusals 3 to 7, 9 and 10 write nothing.
  * @param t0 the bus-free time
  * @param numbers six numbers a job, as unpacking writes them
  * @param numbers_len how many numbers
@@ -218,14 +220,14 @@ LEAFANCHOR_MUST_USE
 leafanchor_pack_answer leafanchor_pack(int32_t t0, const int32_t *numbers, size_t numbers_len, uint8_t *order,
                                        size_t order_len);
 
-/** Whether a reader may stand over these bytes. Refusals 1 to 5 give 0 jobs.
+/** Whether a reader may stand over these bytes (R23). Refusals 1 to 5 give 0 jobs.
  * @param order the packed order
  * @param order_len its bytes
  * @return how many jobs the reader will meet */
 LEAFANCHOR_MUST_USE
 leafanchor_open_answer leafanchor_open(const uint8_t *order, size_t order_len);
 
-/** Reads the job at a place of the order. Refusals 1 to 6 give no job, and the reader stays at its place.
+/** Reads the job at a place of the order (R23). Refusals 1 to 6 give no job, and the reader stays at its place.
  * @param order the packed order
  * @param order_len its bytes
  * @param place where the reader stands; 0 at first
@@ -233,7 +235,7 @@ leafanchor_open_answer leafanchor_open(const uint8_t *order, size_t order_len);
 LEAFANCHOR_MUST_USE
 leafanchor_step_answer leafanchor_step(const uint8_t *order, size_t order_len, size_t place);
 
-/** Looks a profile up: the weight of its last point at or before t. Refusal 8 gives not found, weight 0.
+/** Looks a profile up: the weight of its last point at or before t (R15). Refusal 8 gives not found, weight 0.
  * @param profile alternating times and weights
  * @param profile_len how many numbers: twice the points
  * @param t any time
@@ -249,8 +251,8 @@ leafanchor_lookup_answer leafanchor_lookup(const int32_t *profile, size_t profil
 LEAFANCHOR_MUST_USE
 leafanchor_lookup_answer leafanchor_lookup_records(const leafanchor_point *points, size_t points_len, int32_t t);
 
-/** Joins two profiles: the shortest profile that gives at each time the greater weight of both. Refusals 8 and
- * 10 write nothing.
+/** The better of two profiles: the shortest profile that gives at each time the greater weight (R14). Refusals 8
+ * and 10 write nothing.
  * @param p alternating times and weights
  * @param p_len how many numbers: twice the points
  * @param q alternating times and weights
@@ -262,8 +264,8 @@ LEAFANCHOR_MUST_USE
 leafanchor_better_answer leafanchor_better_of(const int32_t *p, size_t p_len, const int32_t *q, size_t q_len,
                                               int32_t *out, size_t out_len);
 
-/** Extends a profile by an order; (t0, 0) extended by an order is that order's profile. Refusals 1 to 10 write
- * nothing.
+/** Extends a profile by an order (R12); (t0, 0) extended by an order is that order's profile (R13). Refusals 1 to
+ * 10 write nothing.
  * @param profile alternating times and weights
  * @param profile_len how many numbers: twice the points
  * @param order the packed order
@@ -278,7 +280,7 @@ leafanchor_extend_answer leafanchor_extend(const int32_t *profile, size_t profil
                                            size_t order_len, int32_t *out, size_t out_len, int32_t *work,
                                            size_t work_len);
 
-/** Plans an order: the plan that loses the least weight. Refusals 1 to 7 and 9 to 11 write no start.
+/** Plans an order: the plan that loses the least weight (R7, R8). Refusals 1 to 7 and 9 to 11 write no start.
  * @param order the packed order
  * @param order_len its bytes
  * @param starts written: the start of each job, LEAFANCHOR_LEFT_OUT for a job left out
@@ -290,9 +292,9 @@ LEAFANCHOR_MUST_USE
 leafanchor_plan_answer leafanchor_plan(const uint8_t *order, size_t order_len, int32_t *starts, size_t starts_len,
                                        int32_t *work, size_t work_len);
 
-/** Asks which of two openings is worth more at a time; equal goes to the first. Refusals 1 to 7 and 9 of either
- * opening, 10 and 11 name no winner. Which opening a refusal of 1 to 9 is about: plan the first alone; it gives
- * that refusal, with its place, or it is the second's, and planning the second alone gives it.
+/** Asks which of two openings is worth more at a time; equal goes to the first (R17). Refusals 1 to 7 and 9 of
+ * either opening, 10 and 11 name no winner. Which opening one of 1 to 9 is about: plan the first alone. It gives that
+ * refusal with its place; or else it is the second's, and planning the second alone gives it.
  * @param first the first packed order
  * @param first_len its bytes
  * @param second the second packed order
@@ -306,7 +308,7 @@ leafanchor_question_answer leafanchor_question(const uint8_t *first, size_t firs
                                                size_t second_len, int32_t t, int32_t *work, size_t work_len);
 
 /** Chooses between two openings: leafanchor_question, and where the winner's records lie in its bytes, without
- * the header. Refused as the question is, it hands back an empty part of the first.
+ * the header (R18). Refused as the question is, it hands back an empty part of the first.
  * @param first the first packed order
  * @param first_len its bytes
  * @param second the second packed order
@@ -319,7 +321,7 @@ LEAFANCHOR_MUST_USE
 leafanchor_choose_answer leafanchor_choose(const uint8_t *first, size_t first_len, const uint8_t *second,
                                            size_t second_len, int32_t t, int32_t *work, size_t work_len);
 
-/** A job. An array of jobs is a list of unpacked numbers, six a job. */
+/** A job (R2). An array of jobs is a list of unpacked numbers, six a job. */
 typedef struct leafanchor_job {
     int32_t number;   /**< 0 to 63, unlike any other of the order */
     int32_t critical; /**< 1 where it may not be left out, else 0 */
@@ -329,8 +331,8 @@ typedef struct leafanchor_job {
     int32_t deadline; /**< the second by which it must have ended */
 } leafanchor_job;
 
-/** A profile with its length: what the calls over it write, and nothing else, is read by the next. It takes 2,416
- * bytes, also on a stack. {0, {0}} is the profile of no points. */
+/** A profile (R11) with its length: one call writes both, and the next reads just what was written. It takes 2,416
+ * bytes, on a stack too. {0, {0}} is the profile of no points. */
 typedef struct leafanchor_profile {
     size_t numbers_len;                       /**< how many of the numbers are the profile: twice the points */
     int32_t numbers[LEAFANCHOR_PROFILE_ROOM]; /**< alternating times and weights; the rest means nothing */
@@ -374,7 +376,7 @@ static inline leafanchor_job leafanchor_job_of_step(leafanchor_step_answer step)
     return job;
 }
 
-/** leafanchor_extend over profiles. Refused, it leaves out the profile of no points.
+/** leafanchor_extend over profiles. Refused, out is the profile of no points.
  * @param profile the profile
  * @param order the packed order
  * @param order_len its bytes
@@ -394,8 +396,9 @@ static inline leafanchor_extend_answer leafanchor_profile_extended(const leafanc
     return answer;
 }
 
-/** The profile of an order: its bus-free time with weight 0, extended by it. Refused, it is the profile of no
- * points. The order is unpacked into out on the way, and 8 bytes of stack hold the time.
+/** The profile of an order (R13): its bus-free time with weight 0, extended by it. Refused, out is the profile of no
+ * points. The order is unpacked into out on the way, so it takes no more than 100 bytes of stack beside
+ * leafanchor_extend's.
  * @param order the packed order
  * @param order_len its bytes
  * @param out written: the profile of the order
@@ -418,7 +421,7 @@ static inline leafanchor_extend_answer leafanchor_profile_of_order(const uint8_t
     return answer;
 }
 
-/** leafanchor_better_of over profiles. Refused, it leaves out the profile of no points.
+/** leafanchor_better_of over profiles. Refused, out is the profile of no points.
  * @param p a profile
  * @param q a profile
  * @param out written: the better of both; another one than they

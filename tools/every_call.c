@@ -116,7 +116,8 @@ static int is(const leafanchor_profile *got, const int32_t *wanted, size_t wante
     return got->numbers_len == wanted_len && memcmp(got->numbers, wanted, wanted_len * sizeof *wanted) == 0;
 }
 
-/* P2, P3 and P9 over profiles that carry their length: P1's order in one and in two parts, and what a refusal leaves. */
+/* P2, P3 and P9 over profiles that carry their length: the order of P1 whole and in two parts, and what a refusal
+ * leaves. */
 static void held_profiles(void)
 {
     static const int32_t p2[] = {200, 0, 295, 20, 395, 35}, p9[] = {0, 0, 5, 7};

@@ -282,6 +282,11 @@ done
 header 1 0 >order
 try full plan order
 gives "standard output full: a refused order" 3 '' "$unwritten"
+mute() { "$leafanchor" "$@" 2>&-; }
+try mute plan order
+gives "standard error closed: a refused order" 1 '4 0' ''
+try mute plan p1 p1
+gives "standard error closed: two files" 2 '' ''
 
 # ---- at a terminal
 
@@ -322,7 +327,7 @@ gives "and once is enough" 0 "$p1" ''
 rm "$here/crates/first/src/lib.rt"
 try "$here/leafanchor" plan p1
 holds "a source that is gone does" '[ "$status" = 0 ] && [ "$(builds)" = 3 ]'
-mood 'touch crates/first/src/lib.rt'
+mood 'sleep 0.1; touch crates/first/src/lib.rt'
 touch "$here/crates.txt"
 try "$here/leafanchor" plan p1
 rm "$here/../mood"
@@ -344,6 +349,10 @@ gives "a build that fails" 3 '' "leafanchor: building the program: *
 rt: second NOT PROVED (exit 1, 3 s)
 leafanchor: the build failed; all that it said: $here/target/build.log"
 holds "its log is there" 'grep -q "NOT PROVED" "$here/target/build.log"'
+mood 'exit 0'
+try "$here/leafanchor" plan p1
+gives "a build that leaves no program" 3 '' "leafanchor: building the program: *
+leafanchor: the build left no $here/target/bin/plan_order: remove $here/target and try again"
 try "$here/leafanchor" plan no/such/file
 gives "a file that is not there is told before a build" 3 '' "leafanchor: there is no file 'no/such/file'"
 
@@ -364,8 +373,9 @@ holds "there was one build, and both planned" '[ "$(builds)" = 1 ] && [ "$(tail 
 
 checkout stale
 mkdir "$here/target" && : >"$here/target/build.lock"
-try "$here/leafanchor" plan p1
+try "$here/leafanchor" plan <p1
 holds "a lock left behind holds up nobody" '[ "$status" = 0 ] && ! grep -q waiting "$err"'
+holds "a build takes nothing of standard input" '[ "$(cat "$out")" = "$p1" ] && [ "$(builds)" = 1 ]'
 
 checkout killed
 mood wait
@@ -415,7 +425,7 @@ chmod -R a-w "$here"
 try plainly "$here/leafanchor" plan p1
 gives "a read-only checkout that is not built" 3 '' "leafanchor: the program is not built, and $here cannot be written"
 built_checkout old
-touch "$here/crates.txt"
+touch -d '2 hours ago' "$here/target/bin/plan_order"
 chmod -R a-w "$here"
 try plainly "$here/leafanchor" plan p1
 gives "a read-only checkout whose program is old" 3 '' "leafanchor: the program is older than its sources, and $here cannot be written"
