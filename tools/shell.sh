@@ -81,7 +81,7 @@ PATH=$room/bin:$PATH
 # checkout NAME: a checkout of its own that is not built. The program is made of three of its four crates.
 checkout() {
     here=$room/$1/stand
-    mkdir -p "$here/include" "$room/$1/other"
+    mkdir -p "$here/include"
     cp "$root/leafanchor" "$here/leafanchor"
     cp "$root/include/leafanchor.h" "$here/include/leafanchor.h"
     printf '# crates\nfirst:\nsecond: first io\nplan_order: second libc # the program\nother: first\n' >"$here/crates.txt"
@@ -89,7 +89,7 @@ checkout() {
         mkdir -p "$here/crates/$crate/src" "$here/crates/$crate/must-fail"
         echo '// a source' >"$here/crates/$crate/src/lib.rt"
     done
-    touch -d '1 hour ago' "$here/crates.txt" "$here"/crates/* "$here"/crates/*/*  "$here"/crates/*/src/*
+    touch -d '1 hour ago' "$here/crates.txt" "$here"/crates/* "$here"/crates/*/* "$here"/crates/*/src/*
 }
 built_checkout() {
     checkout "$1"
@@ -153,9 +153,9 @@ ln -s "$here/leafanchor" "$room/links/far"
 ln -s far "$room/links/near"
 cd "$room/links" && try ./near plan "$room/p1"
 gives "through two symbolic links" 0 "$p1" ''
-PATH=$room/links:$PATH try far plan "$room/p1"
+try env PATH="$room/links:$PATH" far plan "$room/p1"
 gives "through a symbolic link on PATH" 0 "$p1" ''
-cd "$room" && CDPATH=$room try "$leafanchor" plan p1
+cd "$room" && try env CDPATH="$room" "$leafanchor" plan p1
 gives "with CDPATH set" 0 "$p1" ''
 for shell in dash 'bash --posix' 'busybox sh'; do
     command -v "${shell%% *}" >/dev/null || continue
@@ -207,9 +207,10 @@ $("$real_rt" version)" ''
 
 # ---- refusals: the line as it is, the status and a phrase
 
-# refused NAME LINE PHRASE: the order in the file of that name.
+# refused NAME LINE PHRASE: the order in the file 'order'.
+machine=$room/bin
 refused() {
-    try "$leafanchor" plan order
+    try env PATH="$machine:$PATH" "$leafanchor" plan order
     gives "refused: $1" 1 "$2" "leafanchor: refusal ${2%% *}: $3"
 }
 printf abc >order
@@ -248,6 +249,11 @@ endless_pipe() { { cat p1 && yes; } | timeout 10 "$leafanchor" plan; }
 try endless_pipe
 gives "an endless pipe is not read to its end" 1 '4 0' 'leafanchor: refusal 4: *'
 
+# Stand-ins for the program are for every machine, so the machine calls itself x86-64 here.
+machine=$room/x86-64
+mkdir "$machine"
+printf '#!/bin/sh\necho x86_64\n' >"$machine/uname"
+chmod 755 "$machine/uname"
 built_checkout stand_ins
 program 'echo 10 0'
 cp p1 order
@@ -256,10 +262,10 @@ refused "a buffer too short" '10 0' 'a buffer is too short'
 program 'echo 6 2 4'
 refused "a line with a third figure" '6 2 4' 'the job at place 2 has a field out of range'
 program 'exit 5'
-try "$leafanchor" plan p1
+try env PATH="$machine:$PATH" "$leafanchor" plan p1
 gives "a program that fails" 3 '' "leafanchor: the program $here/target/bin/plan_order cannot be run here: it ended with status 5"
 program ''
-try "$leafanchor" plan p1
+try env PATH="$machine:$PATH" "$leafanchor" plan p1
 gives "a program that says nothing" 3 '' "leafanchor: the program $here/target/bin/plan_order gave no answer"
 
 # ---- standard output that cannot be written
@@ -437,28 +443,29 @@ for tool in sh awk cat date dirname find flock grep mkdir od readlink sed setsid
     ln -s "$(command -v "$tool")" "$room/tools/$tool"
 done
 checkout no_rt
-PATH=$room/tools try "$here/leafanchor" plan p1
+try env PATH="$room/tools" "$here/leafanchor" plan p1
 gives "not built, and no rt on PATH" 3 '' 'leafanchor: the program is not built, and rt, which builds it, is not on PATH'
-PATH=$room/tools try "$here/leafanchor" --version
-gives "--version, and no rt on PATH" 0 "leafanchor $version" "leafanchor: rt is not on PATH, so the kit's version is not known"
+try env PATH="$room/tools" "$here/leafanchor" --version
+gives "--version, and no rt on PATH" 0 "leafanchor $version" "leafanchor: the kit's version is not known: rt is not on PATH"
 if [ "$(uname -m)" = x86_64 ]; then
-    PATH=$room/tools try "$room/plans/stand/leafanchor" plan p1
+    try env PATH="$room/tools" "$room/plans/stand/leafanchor" plan p1
     gives "built, and no rt on PATH" 0 "$p1" ''
 fi
 
 # A machine of another kind: its kit's emulator is a stand-in that says what it is given.
 kit=$room/kit
-mkdir -p "$kit/docs" "$kit/on/other/toolchain/bin" "$room/machine"
-printf '#!/bin/sh\n[ "$1" = doc ] && echo "%s/docs/START-HERE.md"\n' "$kit" >"$room/machine/rt"
-printf '#!/bin/sh\necho other\n' >"$room/machine/uname"
+machine=$room/other
+mkdir -p "$kit/docs" "$kit/on/other/toolchain/bin" "$machine"
+printf '#!/bin/sh\n[ "$1" = doc ] && echo "%s/docs/START-HERE.md"\n' "$kit" >"$machine/rt"
+printf '#!/bin/sh\necho other\n' >"$machine/uname"
 printf '#!/bin/sh\n[ "$*" = "%s" ] && echo 0 0 0 0 0 7 0\n' \
     "$kit/on/other/toolchain/lib/ld-linux-x86-64.so.2 --library-path $kit/on/other/toolchain/lib $room/plans/stand/target/bin/plan_order" \
     >"$kit/on/other/toolchain/bin/qemu-x86_64"
-chmod 755 "$room/machine/rt" "$room/machine/uname" "$kit/on/other/toolchain/bin/qemu-x86_64"
-PATH=$room/machine:$PATH try "$room/plans/stand/leafanchor" plan p1
+chmod 755 "$machine/rt" "$machine/uname" "$kit/on/other/toolchain/bin/qemu-x86_64"
+try env PATH="$machine:$PATH" "$room/plans/stand/leafanchor" plan p1
 gives "on another machine the kit's emulator runs the program" 0 '0 0 0 0 0 7 0' ''
-rm "$room/machine/rt"
-PATH=$room/machine:$room/tools try "$room/plans/stand/leafanchor" plan p1
+rm "$machine/rt"
+try env PATH="$machine:$room/tools" "$room/plans/stand/leafanchor" plan p1
 gives "on another machine, and no rt on PATH" 3 '' "leafanchor: on this machine the program runs under the kit's emulator, and rt, *"
 
 # ---- nothing is left behind
