@@ -398,22 +398,21 @@ wait "$two"
 status=$?
 gives "killed, it leaves its build to end, and the next waits for that" 0 "$p1" "leafanchor: another build *: waiting for it"
 
-# Whether the stand-in for rt ended with the command.
+# Whether rt and all that it started have ended: they hold the lock.
 rt_ended() {
-    soon '! kill -0 "$(cat "$here/../pid")" 2>/dev/null'
-    ! kill -0 "$(cat "$here/../pid")" 2>/dev/null
+    soon 'flock -n "$here/target/build.lock" true'
+    flock -n "$here/target/build.lock" true
 }
 checkout stopped
-mood 'echo $$ >../pid; sleep 30'
+mood 'sleep 30'
 "$here/leafanchor" plan p1 >"$out" 2>"$err" &
 one=$!
-soon '[ -s "$here/../pid" ]'
+soon '[ "$(builds)" = 1 ]'
 kill -s TERM "$one"
 wait "$one" 2>/dev/null
 status=$?
 holds "ended by a signal it ends its build too" '[ "$status" = 143 ] && rt_ended'
-rm "$here/../pid"
-interrupted() { { soon '[ -s "$here/../pid" ]' && printf '\003'; } | script -qec "$here/leafanchor plan p1" /dev/null; }
+interrupted() { { soon '[ "$(builds)" = 2 ]' && printf '\003'; } | script -qec "$here/leafanchor plan p1" /dev/null; }
 try interrupted
 holds "and so it is with Ctrl-C" '[ "$status" = 130 ] && rt_ended'
 rm "$here/../mood"
