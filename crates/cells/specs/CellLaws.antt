@@ -1,5 +1,5 @@
 -- Laws of single cells: which numbers are cells, the earlier of two, and a cell after a job is kept.
-use Prim.Native.Nat.{ℕ, _+_, _^_, _<_}
+use Prim.Native.Nat.{ℕ, _^_, _<_}
 use mathlib.Core.Path.{_≡_, refl}
 use mathlib.Core.Bool.{Bool, true, false}
 use mathlib.Core.List.{List}
@@ -17,12 +17,9 @@ use Rattle.rows.specs.Row.{earlier, afterPick}
 use Rattle.rows.specs.RowLaws.{nothing-there}
 use Rattle.cells.specs.Work.{never, seen, Timed, jobBy, CanStep}
 
--- A number before 200,000 is a cell, any other is none.
+-- A number before 200,000 is a cell.
 pub seen-there : {z : ℤ} → z <ℤ never → seen z ≡ some z
 seen-there {z} h = let e : ltZ z never ≡ true = omega signed in rw e
-
-pub seen-none : {z : ℤ} → never ≤ℤ z → seen z ≡ none
-seen-none {z} h = let e : ltZ z never ≡ false = omega signed in rw e
 
 -- A cell that is there is the number itself.
 pub seen-is : (z t : ℤ) → seen z ≡ some t → z ≡ t

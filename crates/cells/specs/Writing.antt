@@ -4,7 +4,7 @@ use mathlib.Core.Path.{_≡_, refl, sym, ap, ap₂, _∙_}
 use mathlib.Core.Bool.{true, false, cond}
 use mathlib.Core.Logic.{⊎-elim}
 use mathlib.Core.List.{List, _++_}
-use mathlib.Core.Option.{Option, none, some}
+use mathlib.Core.Option.{none, some}
 use native.Mathlib.Nat.{eq-or-lt-of-le, zero-add}
 use native.Mathlib.Omega.{arith}
 use lib.Dec.{leb, eqb}
@@ -23,7 +23,7 @@ use lib.ListN.{
   take-append-drop,
   getD-replicate,
 }
-use lib.Seq.{getD-set-same, getD-set-other, take-set-le, drop-set-lt, getD-take, getD-drop, ext-getD}
+use lib.Seq.{getD-set-same, getD-set-other, getD-take, getD-drop, ext-getD}
 use lib.Signed.{mag}
 use mir.Syntax.{w32}
 use mir.Val.{toZ, ofZ, hbits}
@@ -138,18 +138,6 @@ row-set l at top w x h room v = cases (eqb w v) same other
     other d =
         let e : (at + v ≡ at + w → ⊥) = omega signed in
         rw d (ap (λ (z : ℤ). cond (leb v top) (seen z) none) (getD-set-other l (at + w) (at + v) x (pos 0) e))
-
--- So a cell set in a row that was written.
-pub written-set : {row : Row} {at top : ℕ} {old new : List ℤ} (w : ℕ) (x : ℤ) → RowWritten row at top old new → w ≤ top
-    → top < rowSize → at + w < length old → RowWritten (λ v. cond (eqb w v) (seen x) (row v)) at top old (set new (at + w) x)
-written-set {row} {at} {top} {old} {new} w x r h small room =
-    record {
-      size = length-set new (at + w) x ∙ r .size;
-      front = take-set-le at new (at + w) x (omega arith) ∙ r .front;
-      back = drop-set-lt (at + rowSize) new (at + w) x (omega arith) ∙ r .back;
-      reads = λ v.
-          row-set new at top w x h (omega (arith, r .size)) v ∙ ap (λ (c : Option ℤ). cond (eqb w v) (seen x) c) (r .reads v);
-    }
 
 -- The row before the first job is one cell.
 pub row-started : (t0 : ℤ) (l : List ℤ) → CanStart t0 l → RowWritten (startRow t0) 0 0 l (set l 0 t0)

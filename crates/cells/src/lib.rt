@@ -22,7 +22,7 @@ pub const NEVER: i32 = 200_000;
 pub const ROW: usize = 301;
 
 // How many numbers all rows take together.
-const AREA: usize = 14_749;
+pub const AREA: usize = 14_749;
 
 // What a search of a row finds: nothing, or a cell at a weight, with its time.
 pub enum Found {

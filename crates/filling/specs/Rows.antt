@@ -8,7 +8,7 @@ use lib.ListN.{length, take, drop}
 use Rattle.seconds.specs.Limits.{mostWeight}
 use Rattle.order.specs.Job.{Job, weightOf}
 use Rattle.rows.specs.Row.{Row, nextRow, rowAfter}
-use Rattle.packed.specs.Packed.{countOf, numbersOf, jobIn, jobsOf, jobsIn}
+use Rattle.packed.specs.Packed.{countOf, jobIn, jobsIn}
 use Rattle.packed.specs.Accepted.{OrderFine}
 use Rattle.cells.specs.Work.{rowSize, area, rowAt, RowWritten}
 

@@ -4,4 +4,3 @@ pub mod Repeats
 pub mod RepeatLaws
 pub mod Loops
 pub mod Told
-pub mod Passed

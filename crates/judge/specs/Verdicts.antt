@@ -16,16 +16,6 @@ abbrev pub verdictOf : Judged → Verdict
 verdictOf fine = Fine
 verdictOf (refused n p) = Refused n p
 
--- The refusal number that stands for each case.
-abbrev pub refusalOf : Verdict → ℕ
-refusalOf Fine = 0
-refusalOf (Refused n p) = n
-
--- The place.
-abbrev pub placeOf : Verdict → ℕ
-placeOf Fine = 0
-placeOf (Refused n p) = p
-
 -- The bytes have all the jobs of their header, at most 48.
 pub record AllThere (bytes : List ℕ) (count : ℕ) : Type 0 where
   pub counted : count ≡ countOf bytes

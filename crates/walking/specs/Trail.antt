@@ -17,7 +17,7 @@ use Rattle.packed.specs.Refusals.{fieldsWithin}
 use Rattle.packed.specs.Accepted.{OrderFine}
 use Rattle.fields.specs.declared.Job.{Job as Numbers}
 use Rattle.fields.specs.Fields.{fieldsOf, asJob}
-use Rattle.cells.specs.Work.{rowAt}
+use Rattle.cells.specs.Work.{rowSize, area, rowAt}
 use Rattle.rows.specs.Row.{Row, startRow, nextRow, rowAfter, By}
 use Rattle.rows.specs.Walk.{Source, firstSource, walkBack}
 use Rattle.walking.specs.declared.Trail.{Trail}
@@ -26,9 +26,9 @@ use Rattle.walking.specs.declared.Trail.{Trail}
 
 -- After every prefix of the jobs its row stands in the work area, up to the weight of the prefix.
 pub record RowsFilled (jobs : List Job) (t0 : ℤ) (work : List ℤ) : Type 0 where
-  pub room : 14749 ≤ length work
+  pub room : area ≤ length work
   pub rows : (k : ℕ) → k ≤ length jobs → (w : ℕ)
-      → rowAt work (k * 301) (weightOf (take k jobs)) w ≡ rowAfter (take k jobs) (startRow t0) w
+      → rowAt work (k * rowSize) (weightOf (take k jobs)) w ≡ rowAfter (take k jobs) (startRow t0) w
 
 -- ---- one job back
 

@@ -21,7 +21,7 @@ use Rattle.fields.specs.declared.Job.{Job as Numbers}
 use Rattle.fields.specs.Fields.{fieldsOf, asJob}
 use Rattle.fields.specs.Places.{place-below, back-more, weight-more, weight-up-to}
 use Rattle.fields.specs.Places.{jobs-count, job-there, job-fine, job-limits}
-use Rattle.cells.specs.Work.{rowAt}
+use Rattle.cells.specs.Work.{rowSize, rowAt}
 use Rattle.profile.specs.Profile.{startPoint}
 use Rattle.rows.specs.Row.{Row, startRow, nextRow, rowAfter, rowBack, By}
 use Rattle.rows.specs.RowLaws.{earliest-says, back-is}
@@ -182,9 +182,9 @@ module _ (js : List Job) (t0 : ℤ) (few : length js ≤ 64) (weight : ℕ) (by 
 
 -- From a trail of bytes the code can step back over the job that it read at a place, and keeps to the trail.
 pub record CanStep (work : List ℤ) (bytes : List ℕ) (weight : ℕ) (by : ℤ) (k : ℕ) (job : Numbers) (trail : Trail) : Type 0 where
-  pub asks : StepsBack work (k * 301) (2 ^ (63 - k)) job trail
+  pub asks : StepsBack work (k * rowSize) (2 ^ (63 - k)) job trail
   pub keeps : (r : Trail)
-      → some r ≡ stepBack (asJob job) (2 ^ (63 - k)) (rowAt work (k * 301) (trail .top - natAbs (job .weight))) trail
+      → some r ≡ stepBack (asJob job) (2 ^ (63 - k)) (rowAt work (k * rowSize) (trail .top - natAbs (job .weight))) trail
       → OnTrail (jobsIn bytes) (t0Of bytes) weight by k r
 
 module _ (work : List ℤ) (bytes : List ℕ) (fine : OrderFine bytes) (filled : RowsFilled (jobsIn bytes) (t0Of bytes) work)
@@ -209,7 +209,7 @@ module _ (work : List ℤ) (bytes : List ℕ) (fine : OrderFine bytes) (filled :
 
     -- The row before the job stands in the work area.
     abbrev stands : Row
-    stands = rowAt work (k * 301) (trail .top - natAbs (numbers .weight))
+    stands = rowAt work (k * rowSize) (trail .top - natAbs (numbers .weight))
 
     reach-is : trail .top ≡ weightOf (take k js) + natAbs (numbers .weight)
     reach-is = rw (job-written numbers) at (on .reach ∙ weight-more js k there)
