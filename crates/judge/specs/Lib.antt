@@ -2,5 +2,5 @@
 pub mod Verdicts
 pub mod Repeats
 pub mod RepeatLaws
-pub mod Loops
+pub mod Gathering
 pub mod Told

@@ -11,23 +11,25 @@ use lib.Ieee.Fits.{and-l, and-r}
 use lib.IntN.{ℤ, pos}
 use lib.ListN.{length, take}
 use lib.Seq.{length-take-le, getD-take}
-use borrow.Author.Tests.{lt-ltb, le-ltb}
+use borrow.Author.Tests.{lt-ltb, le-ltb, ltb-false}
+use borrow.Table.Steps.{cases}
 use Rattle.seconds.specs.Ranges.{isTime}
 use Rattle.seconds.specs.Signed.{signed}
 use Rattle.packed.specs.Judge.{Check, Verdict as Judged, fine, refused, judge, orElse, check}
-use Rattle.packed.specs.JudgeLaws.{judge-append, stages-fine, Tells, judge-tells}
-use Rattle.packed.specs.Packed.{headerOf, countOf, numbersOf, jobCount}
-use Rattle.packed.specs.Refusals.{headerChecks, jobChecks, roomChecks, orderChecks, firstRepeat}
-use Rattle.packed.specs.RefusalLaws.{within-is, HeaderFine, header-fine, ListFine, JobsFine, jobs-fine}
+use Rattle.packed.specs.JudgeLaws.{judge-append, Tells, judge-tells}
+use Rattle.order.specs.Job.{weightOf}
+use Rattle.packed.specs.Packed.{headerOf, countOf, numbersOf, jobCount, jobsOf}
+use Rattle.packed.specs.Refusals.{headerChecks, listChecks, jobChecks, weightChecks, roomChecks, orderChecks, firstRepeat}
+use Rattle.packed.specs.RefusalLaws.{header-fine, list-fine}
 use Rattle.packed.specs.RefusalPlaces.{PlaceIs, nowhere, unpack-place}
 use Rattle.packed.specs.Steps.{header-judge, jobs-judge}
 use Rattle.fields.specs.Fields.{headerFields}
 use Rattle.fields.specs.Facts.{HeaderRead, header-read}
 use Rattle.fields.specs.declared.Header.{Header}
-use Rattle.judge.specs.Verdicts.{verdictOf, AllThere, AllGiven, Found, Weighed}
+use Rattle.judge.specs.Verdicts.{verdictOf, AllThere, AllGiven, Found, foundIn, sumJudged}
 use Rattle.judge.specs.Repeats.{firstAgain}
 use Rattle.judge.specs.RepeatLaws.{repeat-again}
-use Rattle.judge.specs.Loops.{there-count, given-count}
+use Rattle.judge.specs.declared.Gathered.{Gathered}
 use Rattle.judge.specs.declared.Verdict.the-variants.{Fine, Refused}
 
 -- ---- the header
@@ -42,71 +44,27 @@ pub header-told : (bytes : List ℕ) (h : Header) → HeaderRead bytes h → jud
 header-told bytes h r = rw (r .count, r .t0, r .spare) (header-judge bytes)
 
 -- Past them, the bytes have all the jobs of the header that was read.
-pub there-told : (bytes : List ℕ) (h : Header) → headerFields h ≡ headerOf bytes → HeaderFine bytes → AllThere bytes (h .count)
-there-told bytes h e f =
+pub there-told : (bytes : List ℕ) (h : Header) → headerFields h ≡ headerOf bytes → judge (headerChecks bytes) ≡ fine
+    → AllThere bytes (h .count)
+there-told bytes h e passed =
+    let f = header-fine bytes .0 passed in
     let r = header-read bytes h e in
     record { counted = r .count; few = omega (arith, r .count, f .few); room = omega (arith, r .count, f .whole) }
 
 -- Past 3 to 5, the numbers are those of so many jobs.
-pub given-told : (t0 : ℤ) (zs : List ℤ) → ListFine t0 zs → AllGiven zs (length zs / 6)
+pub given-told : (t0 : ℤ) (zs : List ℤ) → judge (listChecks t0 zs) ≡ fine → AllGiven zs (length zs / 6)
 unfolding jobCount
-given-told t0 zs f = record { few = f .few; whole = f .whole }
-
--- ---- 6 and 7
-
-module _ (zs : List ℤ) (count bad : ℕ) (numbers : List ℕ) (counted : count ≡ jobCount zs) (found : Found zs numbers bad) where
-  -- A job is out of range.
-  pub told-bad : bad < count → judge (jobChecks zs) ≡ refused 6 bad
-  told-bad h = rw (jobs-judge zs, ← found .first-bad, ← counted, lt-ltb bad count h)
-
-  module _ (passed : count ≤ bad) (room : count ≤ length numbers) (again : ℕ) (search : again ≡ firstAgain (take count numbers)) where
-    repeat-is : firstRepeat zs ≡ again
-    repeat-is =
-        let long : length (take count numbers) ≡ count = length-take-le count numbers room in
-        repeat-again zs (take count numbers) (long ∙ counted)
-        (λ k h. let b : k < count = omega arith in
-        found .gathered k (omega arith) ∙ ap pos (sym (getD-take count numbers k 0 b)))
-        ∙ sym search
-
-    -- A number stood earlier.
-    pub told-again : again < count → judge (jobChecks zs) ≡ refused 7 again
-    told-again h =
-        rw (jobs-judge zs, ← found .first-bad, ← counted, le-ltb bad count passed, repeat-is, lt-ltb again count h)
-
-    -- None did.
-    pub told-unlike : count ≤ again → judge (jobChecks zs) ≡ fine
-    told-unlike h =
-        rw (jobs-judge zs, ← found .first-bad, ← counted, le-ltb bad count passed, repeat-is, le-ltb again count h)
-
--- ---- 9
-
-weighed : (There : Type 0) (zs : List ℤ) (count : ℕ) → There → count ≡ jobCount zs → JobsFine zs → Weighed There zs count
-weighed There zs count t c f = record { there = t; within = λ k h. within-is _ .1 (f .within k (omega (arith, c))) }
-
--- Past 7, all jobs of bytes are at hand and within their limits.
-pub there-weighed : (bytes : List ℕ) (h : Header) → headerFields h ≡ headerOf bytes
-    → judge (headerChecks bytes ++ jobChecks (numbersOf bytes)) ≡ fine
-    → Weighed (AllThere bytes (h .count)) (numbersOf bytes) (h .count)
-there-weighed bytes h e j =
-    let s = stages-fine (headerChecks bytes) (jobChecks (numbersOf bytes)) .0 j in
-    let t = there-told bytes h e (header-fine bytes .0 (s .0)) in
-    weighed (AllThere bytes (h .count)) (numbersOf bytes) (h .count) t (there-count bytes (h .count) t)
-    (jobs-fine (numbersOf bytes) .0 (s .1))
-
--- The same of numbers.
-pub given-weighed : (zs : List ℤ) (count : ℕ) → AllGiven zs count → judge (jobChecks zs) ≡ fine
-    → Weighed (AllGiven zs count) zs count
-given-weighed zs count t j = weighed (AllGiven zs count) zs count t (given-count zs count t) (jobs-fine zs .0 j)
+given-told t0 zs passed = let f = list-fine t0 zs .0 passed in record { few = f .few; whole = f .whole }
 
 -- ---- stages, as a match takes them
 
 -- Fine.
+pub fine-told : (v : Judged) → verdictOf v ≡ Fine → v ≡ fine
+fine-told fine h = refl
+fine-told (refused n p) h = let z : _≡_ {A = ℕ} 0 1 = cc in absurd (omega arith)
+
 pub told-fine : (cs : List Check) → verdictOf (judge cs) ≡ Fine → judge cs ≡ fine
-told-fine cs e = go (judge cs) e
-  where
-    go : (v : Judged) → verdictOf v ≡ Fine → v ≡ fine
-    go fine h = refl
-    go (refused n p) h = let z : _≡_ {A = ℕ} 0 1 = cc in absurd (omega arith)
+told-fine cs e = fine-told (judge cs) e
 
 -- Refused.
 pub refusal-told : (v : Judged) (n p : ℕ) → verdictOf v ≡ Refused n p → v ≡ refused n p
@@ -114,9 +72,16 @@ refusal-told fine n p e = let z : _≡_ {A = ℕ} 0 1 = cc in absurd (omega arit
 refusal-told (refused m q) n p e = cc
 
 -- Refused by the first of two stages.
+pub else-refused : (v w : Judged) (n p : ℕ) → verdictOf v ≡ Refused n p → verdictOf (orElse v w) ≡ Refused n p
+else-refused v w n p e = ap verdictOf (ap (λ (u : Judged). orElse u w) (refusal-told v n p e))
+
 pub told-refused : (cs ds : List Check) (n p : ℕ) → verdictOf (judge cs) ≡ Refused n p → verdictOf (judge (cs ++ ds)) ≡ Refused n p
-told-refused cs ds n p e =
-    ap verdictOf (judge-append cs ds ∙ ap (λ (v : Judged). orElse v (judge ds)) (refusal-told (judge cs) n p e))
+told-refused cs ds n p e = ap verdictOf (judge-append cs ds) ∙ else-refused (judge cs) (judge ds) n p e
+
+-- Of three.
+pub first-refused : (cs ds es : List Check) (n p : ℕ) → verdictOf (judge cs) ≡ Refused n p
+    → verdictOf (judge (cs ++ ds ++ es)) ≡ Refused n p
+first-refused cs ds es n p e = told-refused (cs ++ ds) es n p (told-refused cs ds n p e)
 
 -- Past the first of two stages, the second tells.
 pub told-next : (cs ds : List Check) → judge cs ≡ fine → judge (cs ++ ds) ≡ judge ds
@@ -125,6 +90,49 @@ told-next cs ds e = rw (judge-append cs ds, e)
 -- A refusal stays the verdict, whatever is judged behind it.
 pub stays : (cs ds : List Check) {n p : ℕ} → judge cs ≡ refused n p → judge (cs ++ ds) ≡ refused n p
 stays cs ds e = rw (judge-append cs ds, e)
+
+-- ---- 6, 7 and 9
+
+-- The jobs are gathered.
+module _ (zs : List ℤ) (count : ℕ) (numbers : List ℕ) (jobs : Gathered) (counted : count ≡ jobCount zs)
+    (room : count ≤ length numbers) (found : Found zs numbers jobs) where
+  repeat-is : count ≤ jobs .place → firstRepeat zs ≡ firstAgain (take count numbers)
+  repeat-is passed =
+      let long : length (take count numbers) ≡ count = length-take-le count numbers room in
+      repeat-again zs (take count numbers) (long ∙ counted)
+      (λ k h. let b : k < count = omega arith in
+      found .gathered k (omega arith) ∙ ap pos (sym (getD-take count numbers k 0 b)))
+
+  -- 6 and 7 are judged by what was found.
+  pub jobs-told : judge (jobChecks zs) ≡ foundIn numbers count (jobs .place)
+  jobs-told = cases (ltb (jobs .place) count)
+      (λ e. rw (jobs-judge zs, ← found .first-bad, ← counted, e))
+      (λ e. rw (jobs-judge zs, ← found .first-bad, ← counted, e, repeat-is (ltb-false (jobs .place) count e)))
+
+  -- So is 9, past them;
+  pub weight-told : (before : ℕ) → judge (jobChecks zs) ≡ fine → judge (weightChecks before zs) ≡ sumJudged before (jobs .weight)
+  unfolding weightChecks
+  weight-told before j = cases (ltb (jobs .place) count)
+      (λ e.
+      let odd : refused 6 (jobs .place) ≡ fine = rw e at (sym jobs-told ∙ j) in
+      let z : _≡_ {A = ℕ} 0 1 = cc in absurd (omega arith))
+      (λ e.
+      let b : count ≤ jobs .place = ltb-false (jobs .place) count e in
+      let all : jobs .weight ≡ weightOf (jobsOf zs) = found .weighed (omega (arith, counted)) in
+      rw all)
+
+  -- and all three, past the checks before them.
+  pub rest-told : (cs : List Check) (before : ℕ) → judge cs ≡ fine
+      → judge (cs ++ jobChecks zs ++ weightChecks before zs) ≡ orElse (foundIn numbers count (jobs .place)) (sumJudged before (jobs .weight))
+  rest-told cs before e =
+      judge-append (cs ++ jobChecks zs) (weightChecks before zs)
+      ∙ ap (λ (v : Judged). orElse v (judge (weightChecks before zs))) (told-next cs (jobChecks zs) e)
+      ∙ go (judge (jobChecks zs)) refl
+    where
+      go : (v : Judged) → judge (jobChecks zs) ≡ v
+          → orElse v (judge (weightChecks before zs)) ≡ orElse (foundIn numbers count (jobs .place)) (sumJudged before (jobs .weight))
+      go fine d = weight-told before d ∙ ap (λ (v : Judged). orElse v (sumJudged before (jobs .weight))) (sym d ∙ jobs-told)
+      go (refused n p) d = ap (λ (v : Judged). orElse v (sumJudged before (jobs .weight))) (sym d ∙ jobs-told)
 
 -- The last two stages, of any call: there is not enough room in the first buffer, or in the second, or there is in both.
 module _ (cs : List Check) (passed : judge cs ≡ fine) (need room more space : ℕ) where

@@ -1,13 +1,21 @@
--- The answer of the judging calls, and what they ask of their callers. Definitions only.
+-- The answer of the judging calls, what they ask of their callers, and what is gathered of the jobs on the way.
+-- Definitions only.
 use Prim.Native.Nat.{ℕ, _+_, _*_, _≤_, _<_}
 use mathlib.Core.Path.{_≡_}
-use mathlib.Core.Bool.{true}
-use mathlib.Core.List.{List}
-use lib.IntN.{ℤ, pos}
-use lib.ListN.{length, getD}
-use Rattle.packed.specs.Judge.{Verdict as Judged, fine, refused}
-use Rattle.packed.specs.Packed.{countOf, fieldsAt}
+use mathlib.Core.Bool.{cond}
+use mathlib.Core.List.{List, [], _∷_}
+use lib.Dec.{ltb}
+use lib.IntN.{ℤ, pos, natAbs}
+use lib.ListN.{length, getD, take, set}
+use Rattle.seconds.specs.Limits.{mostWeight}
+use Rattle.order.specs.Job.{weightOf}
+use Rattle.packed.specs.Judge.{Verdict as Judged, fine, refused, judge, check, checkAt}
+use Rattle.packed.specs.Packed.{countOf, jobCount, jobsOf}
 use Rattle.packed.specs.Refusals.{fieldsWithin, numberAt, firstBad}
+use Rattle.fields.specs.Fields.{fieldsOf}
+use Rattle.fields.specs.declared.Job.{Job}
+use Rattle.judge.specs.Repeats.{firstAgain}
+use Rattle.judge.specs.declared.Gathered.{Gathered}
 use Rattle.judge.specs.declared.Verdict.{Verdict}
 use Rattle.judge.specs.declared.Verdict.the-variants.{Fine, Refused}
 
@@ -27,17 +35,40 @@ pub record AllGiven (zs : List ℤ) (count : ℕ) : Type 0 where
   pub few : count ≤ 48
   pub whole : length zs ≡ 6 * count
 
+-- ---- what is gathered of the jobs
+
+-- A job within its limits is gathered, and the search goes on behind it; else it ends before it.
+abbrev pub takenIn : Job → Gathered → Gathered
+takenIn j jobs = cond (fieldsWithin (fieldsOf j))
+    (record { place = jobs .place + 1; end = jobs .end; weight = jobs .weight + natAbs (j .weight) })
+    (record { place = jobs .place; end = jobs .place; weight = jobs .weight })
+
+-- The number of a gathered job is noted at its place.
+abbrev pub notedIn : Job → ℕ → List ℕ → List ℕ
+notedIn j place numbers = cond (fieldsWithin (fieldsOf j)) (set numbers place (natAbs (j .number))) numbers
+
+-- There is room for one job more: for its number, and for its weight beside those of the jobs before it.
+pub record CanTakeIn (jobs : Gathered) (numbers : List ℕ) : Type 0 where
+  pub room : jobs .place < length numbers
+  pub few : length numbers ≡ 48
+  pub light : jobs .weight ≤ 50 * jobs .place
+
 -- All jobs are at hand, and there is room for their numbers.
-pub record Gathering (There : Type 0) (numbers : List ℕ) : Type 0 where
+pub record CanGather (There : Type 0) (numbers : List ℕ) : Type 0 where
   pub there : There
   pub room : length numbers ≡ 48
 
--- The first job out of range stands at a place, and the numbers of the jobs before it are gathered.
-pub record Found (zs : List ℤ) (numbers : List ℕ) (place : ℕ) : Type 0 where
-  pub first-bad : place ≡ firstBad zs
-  pub gathered : (k : ℕ) → k < place → numberAt zs k ≡ pos (getD numbers k 0)
+-- The first job out of range stands at the place, the numbers of the jobs before it are gathered, and so are the weights where
+-- no job is out of range.
+pub record Found (zs : List ℤ) (numbers : List ℕ) (jobs : Gathered) : Type 0 where
+  pub first-bad : jobs .place ≡ firstBad zs
+  pub gathered : (k : ℕ) → k < jobs .place → numberAt zs k ≡ pos (getD numbers k 0)
+  pub weighed : jobCount zs ≤ jobs .place → jobs .weight ≡ weightOf (jobsOf zs)
 
--- All jobs are at hand, and each is within its limits.
-pub record Weighed (There : Type 0) (zs : List ℤ) (count : ℕ) : Type 0 where
-  pub there : There
-  pub within : (k : ℕ) → k < count → fieldsWithin (fieldsAt zs k) ≡ true
+-- 6 and 7 of gathered jobs, by the place of the first out of range.
+abbrev pub foundIn : List ℕ → ℕ → ℕ → Judged
+foundIn numbers count bad = judge (checkAt 6 bad count ∷ checkAt 7 (firstAgain (take count numbers)) count ∷ [])
+
+-- 9 of a weight that is there before, and the weight of all jobs.
+abbrev pub sumJudged : ℕ → ℕ → Judged
+sumJudged before weight = judge (check 9 (ltb mostWeight (before + weight)) ∷ [])

@@ -1,20 +1,29 @@
 // The checks of an order, in packed bytes and in numbers: 1 to 7 and 9 of document 01, the lowest
 // that applies. Assumes nothing.
 ghost use mathlib.Core.Path.{_≡_};
-ghost use mathlib.Core.List.{[], _∷_, _++_};
-ghost use Prim.Native.Nat.{_+_};
-ghost use lib.Dec.{ltb};
-ghost use Rattle.order.specs.Job.{weightOf};
-ghost use Rattle.packed.specs.Packed.{numbersOf, jobsOf};
-ghost use Rattle.packed.specs.Judge.{fine, judge, check};
+ghost use mathlib.Core.List.{_++_};
+ghost use Prim.Native.Nat.{_≤_};
+ghost use lib.ListN.{length};
+ghost use Rattle.packed.specs.Packed.{numbersOf};
+ghost use Rattle.packed.specs.Judge.{fine, judge, orElse};
 ghost use Rattle.packed.specs.Refusals.{headerChecks, listChecks, jobChecks, weightChecks, numberChecks};
 ghost use Rattle.judge.specs.Repeats.{firstAgain};
-ghost use Rattle.judge.specs.Verdicts.{verdictOf, AllThere, AllGiven, Gathering, Found, Weighed};
+ghost use Rattle.judge.specs.Verdicts.{verdictOf, AllThere, AllGiven, CanTakeIn, takenIn, notedIn, CanGather, Found};
+ghost use Rattle.judge.specs.Verdicts.{foundIn, sumJudged};
+use fields::Job;
 
 // Not refused; or refused, with the number and the place of document 01.
 pub enum Verdict {
     Fine,
     Refused(u32, usize),
+}
+
+// What is gathered of an order's jobs: those before a place are within their limits, and their weights
+// are summed. The search goes on up to the end; it ends at the place where the job there is out of range.
+struct Gathered {
+    place: usize,
+    end: usize,
+    weight: u32,
 }
 
 // The most jobs and the most weight of an order.
@@ -68,49 +77,72 @@ pub fn judge_header(bytes: &[u8]) -> Verdict
     Verdict::Fine
 }
 
-// Gathers the jobs' numbers until a job is out of range. Returns its place; the count if there is none.
-fn first_bad(bytes: &[u8], count: usize, numbers: &mut [u8]) -> usize
-    requires { ⌜ Gathering (AllThere (now bytes) count) (now numbers) ⌝ }
+// One job more: within its limits it is gathered; else the search ends before it.
+fn take_in(job: Job, jobs: Gathered, numbers: &mut [u8]) -> Gathered
+    requires { ⌜ CanTakeIn jobs (now numbers) ⌝ }
+    ensures goes { λ r. ⌜ r ≡ takenIn job jobs ⌝ }
+    ensures notes { λ _. ⌜ now (numbers .exit) ≡ notedIn job (jobs .place) (now (numbers .entry)) ⌝ }
+{
+    let place = jobs.place;
+    if !fields::within(job) {
+        return Gathered {
+            place: place,
+            end: place,
+            weight: jobs.weight,
+        };
+    }
+    let number = job.number;
+    let weight = job.weight;
+    numbers[place] = number as u8;
+    let next = place + 1;
+    let gain = weight as u32;
+    let total = jobs.weight + gain;
+    Gathered {
+        place: next,
+        end: jobs.end,
+        weight: total,
+    }
+}
+
+// Gathers the jobs of bytes until one is out of range.
+fn gather(bytes: &[u8], count: usize, numbers: &mut [u8]) -> Gathered
+    requires { ⌜ CanGather (AllThere (now bytes) count) (now numbers) ⌝ }
     ensures { λ r. ⌜ Found (numbersOf (now (bytes .entry))) (now (numbers .exit)) r ⌝ }
 {
-    let mut k = 0;
-    while k < count {
-        let job = fields::job_at(bytes, 4 + 8 * k);
-        if !fields::within(job) {
-            return k;
-        }
-        let number = job.number;
-        numbers[k] = number as u8;
-        k += 1;
+    let mut jobs = Gathered {
+        place: 0,
+        end: count,
+        weight: 0,
+    };
+    while jobs.place < jobs.end {
+        let job = fields::job_at(bytes, 4 + 8 * jobs.place);
+        jobs = take_in(job, jobs, numbers);
     }
-    count
+    jobs
 }
 
 // The same over the numbers of the jobs.
-fn first_bad_given(given: &[i32], count: usize, numbers: &mut [u8]) -> usize
-    requires { ⌜ Gathering (AllGiven (now given) count) (now numbers) ⌝ }
+fn gather_given(given: &[i32], count: usize, numbers: &mut [u8]) -> Gathered
+    requires { ⌜ CanGather (AllGiven (now given) count) (now numbers) ⌝ }
     ensures { λ r. ⌜ Found (now (given .entry)) (now (numbers .exit)) r ⌝ }
 {
-    let mut k = 0;
-    while k < count {
-        let job = fields::job_from(given, 6 * k);
-        if !fields::within(job) {
-            return k;
-        }
-        let number = job.number;
-        numbers[k] = number as u8;
-        k += 1;
+    let mut jobs = Gathered {
+        place: 0,
+        end: count,
+        weight: 0,
+    };
+    while jobs.place < jobs.end {
+        let job = fields::job_from(given, 6 * jobs.place);
+        jobs = take_in(job, jobs, numbers);
     }
-    count
+    jobs
 }
 
-// Checks 6 and 7 on bytes that have passed 1 to 5.
-fn judge_records(bytes: &[u8], count: usize) -> Verdict
-    requires { ⌜ AllThere (now bytes) count ⌝ }
-    ensures { λ r. ⌜ r ≡ verdictOf (judge (jobChecks (numbersOf (now (bytes .entry))))) ⌝ }
+// Checks 6 and 7 on gathered jobs, by the place of the first out of range.
+fn judge_found(numbers: &[u8], count: usize, bad: usize) -> Verdict
+    requires { ⌜ count ≤ length (now numbers) ⌝ }
+    ensures { λ r. ⌜ r ≡ verdictOf (foundIn (now (numbers .entry)) count bad) ⌝ }
 {
-    let mut numbers = [0u8; MOST_JOBS];
-    let bad = first_bad(bytes, count, &mut numbers);
     if bad < count {
         return Verdict::Refused(6, bad);
     }
@@ -121,21 +153,26 @@ fn judge_records(bytes: &[u8], count: usize) -> Verdict
     Verdict::Fine
 }
 
-// Checks 6 and 7 on numbers that have passed 3 to 5.
-fn judge_given(given: &[i32], count: usize) -> Verdict
-    requires { ⌜ AllGiven (now given) count ⌝ }
-    ensures { λ r. ⌜ r ≡ verdictOf (judge (jobChecks (now (given .entry)))) ⌝ }
+// Check 9: a sum of weights.
+fn judge_sum(before: u32, weight: u32) -> Verdict
+    ensures { λ r. ⌜ r ≡ verdictOf (sumJudged before weight) ⌝ }
 {
-    let mut numbers = [0u8; MOST_JOBS];
-    let bad = first_bad_given(given, count, &mut numbers);
-    if bad < count {
-        return Verdict::Refused(6, bad);
-    }
-    let again = first_repeat(&numbers[..count]);
-    if again < count {
-        return Verdict::Refused(7, again);
+    if before as u64 + weight as u64 > MOST_WEIGHT {
+        return Verdict::Refused(9, 0);
     }
     Verdict::Fine
+}
+
+// Checks 6, 7 and 9 on gathered jobs, with the weight that is there before.
+fn judge_gathered(numbers: &[u8], count: usize, jobs: Gathered, before: u32) -> Verdict
+    requires { ⌜ count ≤ length (now numbers) ⌝ }
+    ensures { λ r. ⌜ r ≡ verdictOf (orElse (foundIn (now (numbers .entry)) count (jobs .place)) (sumJudged before (jobs .weight))) ⌝ }
+{
+    let weight = jobs.weight;
+    match judge_found(numbers, count, jobs.place) {
+        Verdict::Refused(number, place) => Verdict::Refused(number, place),
+        Verdict::Fine => judge_sum(before, weight),
+    }
 }
 
 // Checks 1 to 7 on bytes.
@@ -147,51 +184,11 @@ pub fn judge_jobs(bytes: &[u8]) -> Verdict
         Verdict::Fine => {
             let header = fields::header_at(bytes);
             let count = header.count;
-            judge_records(bytes, count)
+            let mut numbers = [0u8; MOST_JOBS];
+            let jobs = gather(bytes, count, &mut numbers);
+            judge_found(&numbers, count, jobs.place)
         }
     }
-}
-
-// The weights of all jobs of bytes that have passed 1 to 7, together.
-fn order_weight(bytes: &[u8], count: usize) -> u32
-    requires { ⌜ Weighed (AllThere (now bytes) count) (numbersOf (now bytes)) count ⌝ }
-    ensures { λ r. ⌜ r ≡ weightOf (jobsOf (numbersOf (now (bytes .entry)))) ⌝ }
-{
-    let mut weight = 0;
-    let mut k = 0;
-    while k < count {
-        let job = fields::job_at(bytes, 4 + 8 * k);
-        let more = job.weight;
-        weight += more as u32;
-        k += 1;
-    }
-    weight
-}
-
-// The same over the numbers of the jobs.
-fn given_weight(given: &[i32], count: usize) -> u32
-    requires { ⌜ Weighed (AllGiven (now given) count) (now given) count ⌝ }
-    ensures { λ r. ⌜ r ≡ weightOf (jobsOf (now (given .entry))) ⌝ }
-{
-    let mut weight = 0;
-    let mut k = 0;
-    while k < count {
-        let job = fields::job_from(given, 6 * k);
-        let more = job.weight;
-        weight += more as u32;
-        k += 1;
-    }
-    weight
-}
-
-// Check 9: a sum of weights.
-fn judge_sum(before: u32, weight: u32) -> Verdict
-    ensures { λ r. ⌜ r ≡ verdictOf (judge (check 9 (ltb 300 (before + weight)) ∷ [])) ⌝ }
-{
-    if before as u64 + weight as u64 > MOST_WEIGHT {
-        return Verdict::Refused(9, 0);
-    }
-    Verdict::Fine
 }
 
 // Check 9 on bytes that have passed 1 to 7, with the weight that is there before.
@@ -201,7 +198,9 @@ pub fn judge_weight(bytes: &[u8], before: u32) -> Verdict
 {
     let header = fields::header_at(bytes);
     let count = header.count;
-    judge_sum(before, order_weight(bytes, count))
+    let mut numbers = [0u8; MOST_JOBS];
+    let jobs = gather(bytes, count, &mut numbers);
+    judge_sum(before, jobs.weight)
 }
 
 // Checks 1 to 7 and 9 on bytes, with the weight that is there before.
@@ -209,9 +208,15 @@ pub fn judge_order(bytes: &[u8], before: u32) -> Verdict
     ensures { λ r. ⌜ r ≡ verdictOf (judge (headerChecks (now (bytes .entry)) ++ jobChecks (numbersOf (now (bytes .entry)))
         ++ weightChecks before (numbersOf (now (bytes .entry))))) ⌝ }
 {
-    match judge_jobs(bytes) {
+    match judge_header(bytes) {
         Verdict::Refused(number, place) => Verdict::Refused(number, place),
-        Verdict::Fine => judge_weight(bytes, before),
+        Verdict::Fine => {
+            let header = fields::header_at(bytes);
+            let count = header.count;
+            let mut numbers = [0u8; MOST_JOBS];
+            let jobs = gather(bytes, count, &mut numbers);
+            judge_gathered(&numbers, count, jobs, before)
+        }
     }
 }
 
@@ -239,10 +244,9 @@ pub fn judge_numbers(t0: i32, given: &[i32]) -> Verdict
         Verdict::Refused(number, place) => Verdict::Refused(number, place),
         Verdict::Fine => {
             let count = given.len() / 6;
-            match judge_given(given, count) {
-                Verdict::Refused(number, place) => Verdict::Refused(number, place),
-                Verdict::Fine => judge_sum(0, given_weight(given, count)),
-            }
+            let mut numbers = [0u8; MOST_JOBS];
+            let jobs = gather_given(given, count, &mut numbers);
+            judge_gathered(&numbers, count, jobs, 0)
         }
     }
 }

@@ -1,20 +1,19 @@
--- `judge::judge_numbers` meets its contract: the verdict of 3 to 5, or that of 6 and 7, or that of 9.
+-- `judge::judge_numbers` meets its contract: the verdict of 3 to 5, or that of the gathered jobs where it is fine.
 -- Assumes nothing.
-use mathlib.Core.Path.{_≡_, sym, ap, _∙_}
-use mathlib.Core.List.{List, [], _∷_, _++_}
-use Prim.Native.Nat.{_+_, _/_}
+use mathlib.Core.Path.{_≡_, refl, sym, ap, _∙_}
+use mathlib.Core.List.{List}
+use Prim.Native.Nat.{ℕ, _/_, _≤_}
+use native.Mathlib.Omega.{arith}
 use denote.Ref.{now}
-use lib.Dec.{ltb}
 use lib.IntN.{ℤ}
 use lib.ListN.{length}
 use mir.Facts.{toZ-ofZ}
 use borrow.Author.Needs.{needs}
-use Rattle.packed.specs.Judge.{fine, judge, check}
+use Rattle.packed.specs.Judge.{fine, judge}
 use Rattle.packed.specs.Refusals.{listChecks, jobChecks, weightChecks}
-use Rattle.packed.specs.RefusalLaws.{list-fine}
 use Rattle.judge.specs.Verdicts.{verdictOf, AllGiven}
-use Rattle.judge.specs.declared.Verdict.the-variants.{Refused}
-use Rattle.judge.specs.Told.{given-told, given-weighed, told-fine, told-refused, told-next}
+use Rattle.judge.specs.Gathering.{given-count}
+use Rattle.judge.specs.Told.{given-told, told-fine, first-refused, rest-told}
 use Rattle.judge.proofs.judge_numbers.Statement.{statement}
 use Rattle.judge.proofs.judge_numbers.Tie as tie
 
@@ -42,65 +41,48 @@ module _ (c : tie.After-enum-told) where
   abbrev zs : List ℤ
   zs = now (c .before .before .before .args .given)
 
-  list-passed : judge (listChecks t0 zs) ≡ fine
-  list-passed = told-fine (listChecks t0 zs) (sym (list-says (c .before .before)) ∙ c .enum-told .given .1)
+  abbrev count : ℕ
+  count = length zs / 6
 
-  all : AllGiven zs (length zs / 6)
-  all = given-told t0 zs (list-fine t0 zs .0 list-passed)
+  passed : judge (listChecks t0 zs) ≡ fine
+  passed = told-fine (listChecks t0 zs) (sym (list-says (c .before .before)) ∙ c .enum-told .given .1)
 
-judge-given-requires : tie.Need-judge-given-requires
-judge-given-requires c κs = all c
+  all : AllGiven zs count
+  all = given-told t0 zs passed
 
-enum-known-number-2 : tie.Need-enum-known-number-2
-enum-known-number-2 c = search needs
+slice-aggregate-gather-given : tie.Need-slice-aggregate-gather-given
+slice-aggregate-gather-given c = search needs
 
-enum-told-2 : tie.Need-enum-told-2
-enum-told-2 c = search needs
+gather-given-requires : tie.Need-gather-given-requires
+gather-given-requires c κs = record { there = all (c .before); room = refl }
 
--- Past 6 and 7.
-jobs-passed : (c : tie.After-enum-told2) → judge (jobChecks (zs (c .before .before .before))) ≡ fine
-jobs-passed c =
-    told-fine (jobChecks (zs (c .before .before .before))) (sym (c .before .before .judge-given .ensures) ∙ c .enum-told2 .given .1)
+slice-aggregate-judge-gathered : tie.Need-slice-aggregate-judge-gathered
+slice-aggregate-judge-gathered c = search needs
 
-given-weight-requires : tie.Need-given-weight-requires
-given-weight-requires c κs =
-    let l = c .before .before .before in
-    given-weighed (zs l) (length (zs l) / 6) (all l) (jobs-passed c)
+room : (c : tie.After-gather-given) → count (c .before .before) ≤ length (c .gather-given .last .1 .1 .0)
+room c = omega (arith, c .gather-given .kept .1 .1 .0, all (c .before .before) .few)
 
-judge-sum-requires : tie.Need-judge-sum-requires
-judge-sum-requires c κs = search needs
+judge-gathered-requires : tie.Need-judge-gathered-requires
+judge-gathered-requires c κs = room (c .before .before)
 
 returns : tie.Need-returns
 returns c =
     let r = c .before .number .given in
-    let a = c .before .before .before .before in
-    let zs = now (a .args .given) in
-    let t0 = a .args .t0 in
-    sym (told-refused (listChecks t0 zs ++ jobChecks zs) (weightChecks 0 zs) (r .0 .0) (r .0 .1 .0)
-    (told-refused (listChecks t0 zs) (jobChecks zs) (r .0 .0) (r .0 .1 .0) (sym (list-says (c .before .before .before)) ∙ r .1)))
+    let a = c .before .before .before .before .args in
+    let given = now (a .given) in
+    sym (first-refused (listChecks (a .t0) given) (jobChecks given) (weightChecks 0 given) (r .0 .0) (r .0 .1 .0)
+    (sym (list-says (c .before .before .before)) ∙ r .1))
 
 returns-2 : tie.Need-returns-2
 returns-2 c =
-    let r = c .before .number2 .given in
-    let l = c .before .before .before .before in
-    let jobs : verdictOf (judge (jobChecks (zs l))) ≡ Refused (r .0 .0) (r .0 .1 .0) =
-    sym (c .before .before .before .judge-given .ensures) ∙ r .1 in
-    sym (told-refused (listChecks (t0 l) (zs l) ++ jobChecks (zs l)) (weightChecks 0 (zs l)) (r .0 .0) (r .0 .1 .0)
-    (ap verdictOf (told-next (listChecks (t0 l) (zs l)) (jobChecks (zs l)) (list-passed l)) ∙ jobs))
-
-returns-3 : tie.Need-returns-3
-unfolding weightChecks
-returns-3 c =
-    let j = c .before .before in
-    let l = j .before .before .before in
-    let both : judge (listChecks (t0 l) (zs l) ++ jobChecks (zs l)) ≡ fine =
-    told-next (listChecks (t0 l) (zs l)) (jobChecks (zs l)) (list-passed l) ∙ jobs-passed j in
-    c .judge-sum .ensures
-    ∙ ap (λ w. verdictOf (judge (check 9 (ltb 300 (0 + w)) ∷ []))) (c .before .given-weight .ensures)
-    ∙ sym (ap verdictOf (told-next (listChecks (t0 l) (zs l) ++ jobChecks (zs l)) (weightChecks 0 (zs l)) both))
+    let g = c .before .before .before in
+    let l = g .before .before in
+    c .judge-gathered .ensures
+    ∙ sym (ap verdictOf (rest-told (zs l) (count l) (g .gather-given .last .1 .1 .0) (g .gather-given .result) (given-count (zs l) (count l) (all l))
+    (room g) (g .gather-given .ensures) (listChecks (t0 l) (zs l)) 0 (passed l)))
 
 pub judge-numbers-spec : {M : Type 1} → statement M
 judge-numbers-spec =
     tie.close
-    (tie.spec judge-list-requires enum-known-number enum-told judge-given-requires enum-known-number-2 enum-told-2
-    given-weight-requires judge-sum-requires returns returns-2 returns-3)
+    (tie.spec judge-list-requires enum-known-number enum-told slice-aggregate-gather-given gather-given-requires
+    slice-aggregate-judge-gathered judge-gathered-requires returns returns-2)

@@ -1,0 +1,51 @@
+-- `judge::judge_found` meets its contract: the tests are those of the two checks, one after the other.
+-- Assumes nothing.
+use mathlib.Core.Path.{_≡_, sym}
+use denote.Ref.{now}
+use lib.ListN.{take}
+use lib.Seq.{length-take-le}
+use borrow.Author.Needs.{needs}
+use borrow.Author.Tests.{lt-ltb, le-ltb}
+use Rattle.judge.specs.Repeats.{firstAgain}
+use Rattle.judge.proofs.judge_found.Statement.{statement}
+use Rattle.judge.proofs.judge_found.Tie as tie
+
+returns : tie.Need-returns
+returns c = let a = c .before .before .args in rw (lt-ltb (a .bad) (a .count) (c .if1 .taken))
+
+slice-aggregate-first-repeat : tie.Need-slice-aggregate-first-repeat
+slice-aggregate-first-repeat c =
+    let s = c .before .before .before in
+    sym (length-take-le (s .args .count) (now (s .args .numbers)) (s .pre))
+
+first-repeat-requires : tie.Need-first-repeat-requires
+first-repeat-requires c κs = search needs
+
+-- What the search found.
+found : (c : tie.After-first-repeat)
+    → let a = c .before .before .before .before .args in
+    c .first-repeat .result ≡ firstAgain (take (a .count) (now (a .numbers)))
+found c = c .first-repeat .ensures
+
+returns-2 : tie.Need-returns-2
+returns-2 c =
+    let r = c .before in
+    let a = r .before .before .before .before .args in
+    rw (
+      le-ltb (a .bad) (a .count) (r .before .before .if1 .left),
+      ← (found r),
+      lt-ltb (r .first-repeat .result) (a .count) (c .if2 .taken),
+    )
+
+returns-3 : tie.Need-returns-3
+returns-3 c =
+    let r = c .before in
+    let a = r .before .before .before .before .args in
+    rw (
+      le-ltb (a .bad) (a .count) (r .before .before .if1 .left),
+      ← (found r),
+      le-ltb (r .first-repeat .result) (a .count) (c .if2 .left),
+    )
+
+pub judge-found-spec : {M : Type 1} → statement M
+judge-found-spec = tie.close (tie.spec returns slice-aggregate-first-repeat first-repeat-requires returns-2 returns-3)

@@ -1,0 +1,184 @@
+-- The loop that gathers all jobs: the search for a job out of range, with the numbers and the weights of those before it.
+-- Over the numbers of all jobs, however a job is read.
+use Prim.Native.Nat.{ℕ, _+_, _*_, _-_, _^_, _≤_, _<_}
+use mathlib.Core.Path.{_≡_, refl, sym, ap, _∙_}
+use mathlib.Core.Bool.{true, false, not}
+use mathlib.Core.List.{List}
+use native.Mathlib.Omega.{arith}
+use native.Mathlib.Nat.{zero-add}
+use lib.Dec.{T, ltb}
+use lib.IntN.{ℤ, pos, natAbs}
+use lib.ListN.{length, getD, take, drop, set, length-set}
+use lib.Seq.{getD-set-same, getD-set-other}
+use lib.Signed.{nonNeg}
+use mir.Syntax.{Width, w32}
+use mir.Val.{Fits, bits, toZ, ofZ}
+use mir.Facts.{toZ-ofZ}
+use borrow.Author.Tests.{ltb-true, ltb-false}
+use borrow.Table.Steps.{cases}
+use Rattle.seconds.specs.Signed.{signed, abs-is}
+use Rattle.seconds.specs.Ranges.{Between}
+use Rattle.order.specs.Job.{weightOf}
+use Rattle.packed.specs.Layout.{decode, numberOf, jobLayout}
+use Rattle.packed.specs.Places.{each, first}
+use Rattle.packed.specs.PlacesLaws.{each-end, first-on, first-here, first-end}
+use Rattle.packed.specs.Packed.{numbersOf, jobCount, fieldsAt, theWeight, jobAt, jobsOf}
+use Rattle.packed.specs.PackedLaws.{numbers-count, fields-of-numbers, whole-count}
+use Rattle.packed.specs.Refusals.{fieldsWithin, badAt, firstBad, numberAt}
+use Rattle.packed.specs.Steps.{bad-from-0, weights-on}
+use Rattle.fields.specs.Fields.{fieldsOf}
+use Rattle.fields.specs.Facts.{job-facts, read-at, read-from}
+use Rattle.fields.specs.declared.Job.{Job}
+use Rattle.judge.specs.Verdicts.{AllThere, AllGiven, takenIn, notedIn, CanTakeIn, Found}
+use Rattle.judge.specs.declared.Gathered.{Gathered}
+
+-- ---- how a job is read
+
+-- In bytes: there are as many jobs as their numbers have, and a job that was read at its place has its numbers.
+module _ (bytes : List ℕ) (count : ℕ) (all : AllThere bytes count) where
+  pub there-count : count ≡ jobCount (numbersOf bytes)
+  there-count = all .counted ∙ sym (numbers-count bytes)
+
+  pub there-job : (k : ℕ) (j : Job) → k < count → fieldsOf j ≡ decode jobLayout (numberOf (take 8 (drop (4 + 8 * k) bytes)))
+      → fieldsOf j ≡ fieldsAt (numbersOf bytes) k
+  there-job k j h r = read-at bytes k (4 + 8 * k) j refl r ∙ sym (fields-of-numbers bytes k (omega (arith, all .counted)))
+
+-- In numbers.
+module _ (zs : List ℤ) (count : ℕ) (all : AllGiven zs count) where
+  pub given-count : count ≡ jobCount zs
+  given-count = sym (whole-count zs count (all .whole))
+
+  pub given-job : (k : ℕ) (j : Job) → fieldsOf j ≡ take 6 (drop (6 * k) zs) → fieldsOf j ≡ fieldsAt zs k
+  given-job k j r = read-from zs k (6 * k) j refl r
+
+-- ---- a number of a job, from 0 to a greatest, as the code casts it
+
+-- It is what its bits say.
+pub kept : (greatest : ℕ) (z : ℤ) → Between (pos 0) (pos greatest) z → greatest < 256 → toZ w32 (ofZ w32 z) ≡ z
+kept greatest z b l = toZ-ofZ (omega signed)
+
+-- It has room in any unsigned number.
+pub casts : (w : Width) (greatest : ℕ) (z : ℤ) → Between (pos 0) (pos greatest) z → greatest < 256 → 256 ≤ 2 ^ bits w
+    → T (nonNeg (toZ w32 (ofZ w32 z))) × Fits w (natAbs (toZ w32 (ofZ w32 z)))
+casts w greatest z b l h = rw (kept greatest z b l) (omega (signed, abs-is z))
+
+-- ---- on the way
+
+-- No job before the place is out of range; their numbers are gathered, and their weights summed, at most 50 each.
+pub record Passing (zs : List ℤ) (count : ℕ) (numbers : List ℕ) (jobs : Gathered) : Type 0 where
+  pub going : jobs .place ≤ jobs .end
+  pub few : jobs .end ≤ count
+  pub long : length numbers ≡ 48
+  pub search : firstBad zs ≡ first (badAt zs) (jobs .place) (jobs .end)
+  pub gathered : (i : ℕ) → i < jobs .place → numberAt zs i ≡ pos (getD numbers i 0)
+  pub light : jobs .weight ≤ 50 * jobs .place
+  pub sum : jobs .weight + weightOf (each (jobAt zs) (jobs .place) count) ≡ weightOf (jobsOf zs)
+
+-- From the first place.
+pub passing-starts : (zs : List ℤ) (count : ℕ) (numbers : List ℕ) → count ≡ jobCount zs → length numbers ≡ 48
+    → Passing zs count numbers (record { place = 0; end = count; weight = 0 })
+unfolding jobsOf
+passing-starts zs count numbers c l =
+    record {
+      going = omega arith;
+      few = omega arith;
+      long = l;
+      search = bad-from-0 zs ∙ ap (first (badAt zs) 0) (sym c);
+      gathered = λ i h. absurd (omega arith);
+      light = omega arith;
+      sum = rw c (zero-add (weightOf (each (jobAt zs) 0 (jobCount zs))));
+    }
+
+-- One number more is gathered.
+gather-on : (zs : List ℤ) (numbers : List ℕ) (k v : ℕ) → k < length numbers → numberAt zs k ≡ pos v
+    → ((i : ℕ) → i < k → numberAt zs i ≡ pos (getD numbers i 0))
+    → (i : ℕ) → i < k + 1 → numberAt zs i ≡ pos (getD (set numbers k v) i 0)
+gather-on zs numbers k v b e g i h = cases (ltb i k)
+    (λ q. let l : i < k = ltb-true i k q in
+    g i l ∙ ap pos (sym (getD-set-other numbers k i v 0 (λ s. absurd (omega arith)))))
+    (λ q. let s : i ≡ k = omega (arith, ltb-false i k q) in rw s (e ∙ ap pos (sym (getD-set-same numbers k v 0 b))))
+
+-- A turn: a job was read, and is the job at the place.
+pub record Turn (zs : List ℤ) (count : ℕ) (numbers : List ℕ) (jobs : Gathered) (j : Job) : Type 0 where
+  pub more : jobs .place < jobs .end
+  pub room : count ≤ 48
+  pub read : fieldsOf j ≡ fieldsAt zs (jobs .place)
+  pub before : Passing zs count numbers jobs
+
+module _ {zs : List ℤ} {count : ℕ} {numbers : List ℕ} {jobs : Gathered} {j : Job} (t : Turn zs count numbers jobs j) where
+  -- The job can be taken in.
+  pub can-take-in : CanTakeIn jobs numbers
+  can-take-in =
+      record {
+        room = omega (arith, t .more, t .room, t .before .few, t .before .long);
+        few = t .before .long;
+        light = t .before .light;
+      }
+
+  number-noted : fieldsWithin (fieldsOf j) ≡ true → numberAt zs (jobs .place) ≡ pos (natAbs (j .number))
+  unfolding numberAt
+  number-noted w =
+      let f = job-facts j .0 w in
+      let n : getD (fieldsAt zs (jobs .place)) 0 (pos 0) ≡ j .number = ap (λ l. getD l 0 (pos 0)) (sym (t .read)) in
+      n ∙ omega (signed, f .number, abs-is (j .number))
+
+  -- Within its limits: on to the next place.
+  goes-on : fieldsWithin (fieldsOf j) ≡ true → Passing zs count (set numbers (jobs .place) (natAbs (j .number)))
+      (record { place = jobs .place + 1; end = jobs .end; weight = jobs .weight + natAbs (j .weight) })
+  goes-on w =
+      let b = t .before in
+      let f = job-facts j .0 w in
+      let e : natAbs (theWeight (fieldsAt zs (jobs .place))) ≡ natAbs (j .weight) =
+      ap (λ l. natAbs (getD l 2 (pos 0))) (sym (t .read)) in
+      record {
+        going = omega (arith, t .more);
+        few = b .few;
+        long = length-set numbers (jobs .place) (natAbs (j .number)) ∙ b .long;
+        search = b .search
+            ∙ first-on (badAt zs) (jobs .place) (jobs .end) (t .more) (ap not (ap fieldsWithin (sym (t .read)) ∙ w));
+        gathered = gather-on zs numbers (jobs .place) (natAbs (j .number)) (can-take-in .room) (number-noted w) (b .gathered);
+        light = omega (signed, b .light, f .weight, abs-is (j .weight));
+        sum = omega (arith, weights-on zs (jobs .place) count (omega (arith, t .more, b .few)), e, b .sum);
+      }
+
+  -- Out of range: the first such.
+  ends-here : fieldsWithin (fieldsOf j) ≡ false
+      → Passing zs count numbers (record { place = jobs .place; end = jobs .place; weight = jobs .weight })
+  ends-here w =
+      let b = t .before in
+      let here = first-here (badAt zs) (jobs .place) (jobs .end) (t .more) (ap not (ap fieldsWithin (sym (t .read)) ∙ w)) in
+      record {
+        going = omega arith;
+        few = omega (arith, t .more, b .few);
+        long = b .long;
+        search = b .search ∙ here ∙ sym (first-end (badAt zs) (jobs .place));
+        gathered = b .gathered;
+        light = b .light;
+        sum = b .sum;
+      }
+
+  -- Either way the turn is made, and less is to come.
+  module _ (next : Gathered) (goes : next ≡ takenIn j jobs) where
+    pub passing-on : (noted : List ℕ) → noted ≡ notedIn j (jobs .place) numbers → Passing zs count noted next
+    passing-on noted notes = cases (fieldsWithin (fieldsOf j))
+        (λ w. rw (goes, notes, w) (goes-on w))
+        (λ w. rw (goes, notes, w) (ends-here w))
+
+    pub passing-less : next .end - next .place < jobs .end - jobs .place
+    passing-less = cases (fieldsWithin (fieldsOf j))
+        (λ w. rw (goes, w) (omega (arith, t .more)))
+        (λ w. rw (goes, w) (omega (arith, t .more)))
+
+-- No job is left.
+pub passing-ends : (zs : List ℤ) (count : ℕ) (numbers : List ℕ) (jobs : Gathered) → count ≡ jobCount zs → jobs .end ≤ jobs .place
+    → Passing zs count numbers jobs → Found zs numbers jobs
+passing-ends zs count numbers jobs c h p =
+    let e : jobs .end ≡ jobs .place = omega (arith, p .going) in
+    record {
+      first-bad = sym (p .search ∙ rw e (first-end (badAt zs) (jobs .place)));
+      gathered = p .gathered;
+      weighed = λ all.
+          let last : jobs .place ≡ count = omega (arith, p .few, p .going) in
+          let none : weightOf (each (jobAt zs) (jobs .place) count) ≡ 0 = rw last (ap weightOf (each-end (jobAt zs) count)) in
+          omega (arith, p .sum, none);
+    }
