@@ -1,6 +1,6 @@
 -- The loop that gathers all jobs: the search for a job out of range, with the numbers and the weights of those before it.
 -- Over the numbers of all jobs, however a job is read.
-use Prim.Native.Nat.{ℕ, _+_, _*_, _-_, _^_, _≤_, _<_}
+use Prim.Native.Nat.{ℕ, _+_, _*_, _-_, _/_, _^_, _≤_, _<_}
 use mathlib.Core.Path.{_≡_, refl, sym, ap, _∙_}
 use mathlib.Core.Bool.{true, false, not}
 use mathlib.Core.List.{List}
@@ -22,34 +22,18 @@ use Rattle.order.specs.Job.{weightOf}
 use Rattle.packed.specs.Layout.{decode, numberOf, jobLayout}
 use Rattle.packed.specs.Places.{each, first}
 use Rattle.packed.specs.PlacesLaws.{each-end, first-on, first-here, first-end}
-use Rattle.packed.specs.Packed.{numbersOf, jobCount, fieldsAt, theWeight, jobAt, jobsOf}
+use Rattle.packed.specs.Judge.{fine, judge}
+use Rattle.packed.specs.Packed.{headerOf, countOf, numbersOf, jobCount, fieldsAt, theWeight, jobAt, jobsOf}
 use Rattle.packed.specs.PackedLaws.{numbers-count, fields-of-numbers, whole-count}
-use Rattle.packed.specs.Refusals.{fieldsWithin, badAt, firstBad, numberAt}
+use Rattle.packed.specs.Refusals.{headerChecks, fieldsWithin, badAt, firstBad, numberAt}
+use Rattle.packed.specs.RefusalLaws.{header-fine}
 use Rattle.packed.specs.Steps.{bad-from-0, weights-on}
-use Rattle.fields.specs.Fields.{fieldsOf}
-use Rattle.fields.specs.Facts.{job-facts, read-at, read-from}
+use Rattle.fields.specs.Fields.{fieldsOf, headerFields}
+use Rattle.fields.specs.Facts.{job-facts, read-at, read-from, header-read}
 use Rattle.fields.specs.declared.Job.{Job}
-use Rattle.judge.specs.Verdicts.{AllThere, AllGiven, takenIn, notedIn, CanTakeIn, Found}
+use Rattle.fields.specs.declared.Header.{Header}
+use Rattle.judge.specs.Verdicts.{AllGiven, takenIn, notedIn, CanTakeIn, Found}
 use Rattle.judge.specs.declared.Gathered.{Gathered}
-
--- ---- how a job is read
-
--- In bytes: there are as many jobs as their numbers have, and a job that was read at its place has its numbers.
-module _ (bytes : List ℕ) (count : ℕ) (all : AllThere bytes count) where
-  pub there-count : count ≡ jobCount (numbersOf bytes)
-  there-count = all .counted ∙ sym (numbers-count bytes)
-
-  pub there-job : (k : ℕ) (j : Job) → k < count → fieldsOf j ≡ decode jobLayout (numberOf (take 8 (drop (4 + 8 * k) bytes)))
-      → fieldsOf j ≡ fieldsAt (numbersOf bytes) k
-  there-job k j h r = read-at bytes k (4 + 8 * k) j refl r ∙ sym (fields-of-numbers bytes k (omega (arith, all .counted)))
-
--- In numbers.
-module _ (zs : List ℤ) (count : ℕ) (all : AllGiven zs count) where
-  pub given-count : count ≡ jobCount zs
-  given-count = sym (whole-count zs count (all .whole))
-
-  pub given-job : (k : ℕ) (j : Job) → fieldsOf j ≡ take 6 (drop (6 * k) zs) → fieldsOf j ≡ fieldsAt zs k
-  given-job k j r = read-from zs k (6 * k) j refl r
 
 -- ---- a number of a job, from 0 to a greatest, as the code casts it
 
@@ -65,21 +49,25 @@ casts w greatest z b l h = rw (kept greatest z b l) (omega (signed, abs-is z))
 -- ---- on the way
 
 -- No job before the place is out of range; their numbers are gathered, and their weights summed, at most 50 each.
-pub record Passing (zs : List ℤ) (count : ℕ) (numbers : List ℕ) (jobs : Gathered) : Type 0 where
+pub record Passing (zs : List ℤ) (numbers : List ℕ) (jobs : Gathered) : Type 0 where
+  pub counted : jobs .count ≡ jobCount zs
+  pub room : jobs .count ≤ 48
   pub going : jobs .place ≤ jobs .end
-  pub few : jobs .end ≤ count
+  pub few : jobs .end ≤ jobs .count
   pub long : length numbers ≡ 48
   pub search : firstBad zs ≡ first (badAt zs) (jobs .place) (jobs .end)
   pub gathered : (i : ℕ) → i < jobs .place → numberAt zs i ≡ pos (getD numbers i 0)
   pub light : jobs .weight ≤ 50 * jobs .place
-  pub sum : jobs .weight + weightOf (each (jobAt zs) (jobs .place) count) ≡ weightOf (jobsOf zs)
+  pub sum : jobs .weight + weightOf (each (jobAt zs) (jobs .place) (jobs .count)) ≡ weightOf (jobsOf zs)
 
 -- From the first place.
-pub passing-starts : (zs : List ℤ) (count : ℕ) (numbers : List ℕ) → count ≡ jobCount zs → length numbers ≡ 48
-    → Passing zs count numbers (record { place = 0; end = count; weight = 0 })
+pub passing-starts : (zs : List ℤ) (count : ℕ) (numbers : List ℕ) → count ≡ jobCount zs → count ≤ 48 → length numbers ≡ 48
+    → Passing zs numbers (record { count = count; place = 0; end = count; weight = 0 })
 unfolding jobsOf
-passing-starts zs count numbers c l =
+passing-starts zs count numbers c m l =
     record {
+      counted = c;
+      room = m;
       going = omega arith;
       few = omega arith;
       long = l;
@@ -99,18 +87,17 @@ gather-on zs numbers k v b e g i h = cases (ltb i k)
     (λ q. let s : i ≡ k = omega (arith, ltb-false i k q) in rw s (e ∙ ap pos (sym (getD-set-same numbers k v 0 b))))
 
 -- A turn: a job was read, and is the job at the place.
-pub record Turn (zs : List ℤ) (count : ℕ) (numbers : List ℕ) (jobs : Gathered) (j : Job) : Type 0 where
+pub record Turn (zs : List ℤ) (numbers : List ℕ) (jobs : Gathered) (j : Job) : Type 0 where
   pub more : jobs .place < jobs .end
-  pub room : count ≤ 48
   pub read : fieldsOf j ≡ fieldsAt zs (jobs .place)
-  pub before : Passing zs count numbers jobs
+  pub before : Passing zs numbers jobs
 
-module _ {zs : List ℤ} {count : ℕ} {numbers : List ℕ} {jobs : Gathered} {j : Job} (t : Turn zs count numbers jobs j) where
+module _ {zs : List ℤ} {numbers : List ℕ} {jobs : Gathered} {j : Job} (t : Turn zs numbers jobs j) where
   -- The job can be taken in.
   pub can-take-in : CanTakeIn jobs numbers
   can-take-in =
       record {
-        room = omega (arith, t .more, t .room, t .before .few, t .before .long);
+        room = omega (arith, t .more, t .before .room, t .before .few, t .before .long);
         few = t .before .long;
         light = t .before .light;
       }
@@ -123,14 +110,16 @@ module _ {zs : List ℤ} {count : ℕ} {numbers : List ℕ} {jobs : Gathered} {j
       n ∙ omega (signed, f .number, abs-is (j .number))
 
   -- Within its limits: on to the next place.
-  goes-on : fieldsWithin (fieldsOf j) ≡ true → Passing zs count (set numbers (jobs .place) (natAbs (j .number)))
-      (record { place = jobs .place + 1; end = jobs .end; weight = jobs .weight + natAbs (j .weight) })
+  goes-on : fieldsWithin (fieldsOf j) ≡ true → Passing zs (set numbers (jobs .place) (natAbs (j .number)))
+      (record { count = jobs .count; place = jobs .place + 1; end = jobs .end; weight = jobs .weight + natAbs (j .weight) })
   goes-on w =
       let b = t .before in
       let f = job-facts j .0 w in
       let e : natAbs (theWeight (fieldsAt zs (jobs .place))) ≡ natAbs (j .weight) =
       ap (λ l. natAbs (getD l 2 (pos 0))) (sym (t .read)) in
       record {
+        counted = b .counted;
+        room = b .room;
         going = omega (arith, t .more);
         few = b .few;
         long = length-set numbers (jobs .place) (natAbs (j .number)) ∙ b .long;
@@ -138,16 +127,18 @@ module _ {zs : List ℤ} {count : ℕ} {numbers : List ℕ} {jobs : Gathered} {j
             ∙ first-on (badAt zs) (jobs .place) (jobs .end) (t .more) (ap not (ap fieldsWithin (sym (t .read)) ∙ w));
         gathered = gather-on zs numbers (jobs .place) (natAbs (j .number)) (can-take-in .room) (number-noted w) (b .gathered);
         light = omega (signed, b .light, f .weight, abs-is (j .weight));
-        sum = omega (arith, weights-on zs (jobs .place) count (omega (arith, t .more, b .few)), e, b .sum);
+        sum = omega (arith, weights-on zs (jobs .place) (jobs .count) (omega (arith, t .more, b .few)), e, b .sum);
       }
 
   -- Out of range: the first such.
   ends-here : fieldsWithin (fieldsOf j) ≡ false
-      → Passing zs count numbers (record { place = jobs .place; end = jobs .place; weight = jobs .weight })
+      → Passing zs numbers (record { count = jobs .count; place = jobs .place; end = jobs .place; weight = jobs .weight })
   ends-here w =
       let b = t .before in
       let here = first-here (badAt zs) (jobs .place) (jobs .end) (t .more) (ap not (ap fieldsWithin (sym (t .read)) ∙ w)) in
       record {
+        counted = b .counted;
+        room = b .room;
         going = omega arith;
         few = omega (arith, t .more, b .few);
         long = b .long;
@@ -159,7 +150,7 @@ module _ {zs : List ℤ} {count : ℕ} {numbers : List ℕ} {jobs : Gathered} {j
 
   -- Either way the turn is made, and less is to come.
   module _ (next : Gathered) (goes : next ≡ takenIn j jobs) where
-    pub passing-on : (noted : List ℕ) → noted ≡ notedIn j (jobs .place) numbers → Passing zs count noted next
+    pub passing-on : (noted : List ℕ) → noted ≡ notedIn j (jobs .place) numbers → Passing zs noted next
     passing-on noted notes = cases (fieldsWithin (fieldsOf j))
         (λ w. rw (goes, notes, w) (goes-on w))
         (λ w. rw (goes, notes, w) (ends-here w))
@@ -170,15 +161,59 @@ module _ {zs : List ℤ} {count : ℕ} {numbers : List ℕ} {jobs : Gathered} {j
         (λ w. rw (goes, w) (omega (arith, t .more)))
 
 -- No job is left.
-pub passing-ends : (zs : List ℤ) (count : ℕ) (numbers : List ℕ) (jobs : Gathered) → count ≡ jobCount zs → jobs .end ≤ jobs .place
-    → Passing zs count numbers jobs → Found zs numbers jobs
-passing-ends zs count numbers jobs c h p =
+pub passing-ends : (zs : List ℤ) (numbers : List ℕ) (jobs : Gathered) → jobs .end ≤ jobs .place → Passing zs numbers jobs
+    → Found zs numbers jobs
+passing-ends zs numbers jobs h p =
     let e : jobs .end ≡ jobs .place = omega (arith, p .going) in
     record {
+      counted = p .counted;
+      room = omega (arith, p .room, p .long);
       first-bad = sym (p .search ∙ rw e (first-end (badAt zs) (jobs .place)));
       gathered = p .gathered;
       weighed = λ all.
-          let last : jobs .place ≡ count = omega (arith, p .few, p .going) in
-          let none : weightOf (each (jobAt zs) (jobs .place) count) ≡ 0 = rw last (ap weightOf (each-end (jobAt zs) count)) in
+          let last : jobs .place ≡ jobs .count = omega (arith, p .few, p .going) in
+          let none : weightOf (each (jobAt zs) (jobs .place) (jobs .count)) ≡ 0 =
+          rw last (ap weightOf (each-end (jobAt zs) (jobs .count))) in
           omega (arith, p .sum, none);
     }
+
+-- ---- how a job is read
+
+-- In bytes that have passed 1 to 5.
+module _ (bytes : List ℕ) {numbers : List ℕ} (passed : judge (headerChecks bytes) ≡ fine) where
+  pub there-starts : (h : Header) → headerFields h ≡ headerOf bytes → length numbers ≡ 48
+      → Passing (numbersOf bytes) numbers (record { count = h .count; place = 0; end = h .count; weight = 0 })
+  there-starts h e long =
+      let f = header-fine bytes .0 passed in
+      let r = header-read bytes h e in
+      passing-starts (numbersOf bytes) (h .count) numbers (r .count ∙ sym (numbers-count bytes)) (omega (arith, r .count, f .few)) long
+
+  -- The job at the place is there, and read there it has its numbers.
+  module _ {jobs : Gathered} (more : jobs .place < jobs .end) (before : Passing (numbersOf bytes) numbers jobs) where
+    there : jobs .place < countOf bytes
+    there = omega (arith, numbers-count bytes, more, before .few, before .counted)
+
+    pub there-room : 4 + 8 * jobs .place + 8 ≤ length bytes
+    there-room = omega (arith, header-fine bytes .0 passed .whole, there)
+
+    pub there-turn : (j : Job) → fieldsOf j ≡ decode jobLayout (numberOf (take 8 (drop (4 + 8 * jobs .place) bytes)))
+        → Turn (numbersOf bytes) numbers jobs j
+    there-turn j r =
+        let read = read-at bytes (jobs .place) (4 + 8 * jobs .place) j refl r in
+        record { more = more; read = read ∙ sym (fields-of-numbers bytes (jobs .place) there); before = before }
+
+-- In numbers.
+given-count : (zs : List ℤ) → AllGiven zs (length zs / 6) → length zs / 6 ≡ jobCount zs
+given-count zs all = sym (whole-count zs (length zs / 6) (all .whole))
+
+module _ (zs : List ℤ) {numbers : List ℕ} (all : AllGiven zs (length zs / 6)) where
+  pub given-starts : length numbers ≡ 48
+      → Passing zs numbers (record { count = length zs / 6; place = 0; end = length zs / 6; weight = 0 })
+  given-starts long = passing-starts zs (length zs / 6) numbers (given-count zs all) (all .few) long
+
+  module _ {jobs : Gathered} (more : jobs .place < jobs .end) (before : Passing zs numbers jobs) where
+    pub given-room : 6 * jobs .place + 6 ≤ length zs
+    given-room = omega (arith, all .whole, given-count zs all, more, before .few, before .counted)
+
+    pub given-turn : (j : Job) → fieldsOf j ≡ take 6 (drop (6 * jobs .place) zs) → Turn zs numbers jobs j
+    given-turn j r = record { more = more; read = read-from zs (jobs .place) (6 * jobs .place) j refl r; before = before }

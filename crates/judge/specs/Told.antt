@@ -18,15 +18,14 @@ use Rattle.seconds.specs.Signed.{signed}
 use Rattle.packed.specs.Judge.{Check, Verdict as Judged, fine, refused, judge, orElse, check}
 use Rattle.packed.specs.JudgeLaws.{judge-append, Tells, judge-tells}
 use Rattle.order.specs.Job.{weightOf}
-use Rattle.packed.specs.Packed.{headerOf, countOf, numbersOf, jobCount, jobsOf}
+use Rattle.packed.specs.Packed.{countOf, numbersOf, jobCount, jobsOf}
 use Rattle.packed.specs.Refusals.{headerChecks, listChecks, jobChecks, weightChecks, roomChecks, orderChecks, firstRepeat}
-use Rattle.packed.specs.RefusalLaws.{header-fine, list-fine}
+use Rattle.packed.specs.RefusalLaws.{list-fine}
 use Rattle.packed.specs.RefusalPlaces.{PlaceIs, nowhere, unpack-place}
 use Rattle.packed.specs.Steps.{header-judge, jobs-judge}
-use Rattle.fields.specs.Fields.{headerFields}
-use Rattle.fields.specs.Facts.{HeaderRead, header-read}
+use Rattle.fields.specs.Facts.{HeaderRead}
 use Rattle.fields.specs.declared.Header.{Header}
-use Rattle.judge.specs.Verdicts.{verdictOf, AllThere, AllGiven, Found, foundIn, sumJudged}
+use Rattle.judge.specs.Verdicts.{verdictOf, AllGiven, Found, foundIn, sumJudged}
 use Rattle.judge.specs.Repeats.{firstAgain}
 use Rattle.judge.specs.RepeatLaws.{repeat-again}
 use Rattle.judge.specs.declared.Gathered.{Gathered}
@@ -42,14 +41,6 @@ pub header-told : (bytes : List ℕ) (h : Header) → HeaderRead bytes h → jud
     (cond (not (eqb (length bytes) (4 + 8 * h .count))) (refused 4 0)
     (cond (not (isTime (h .t0))) (refused 5 0) fine))))
 header-told bytes h r = rw (r .count, r .t0, r .spare) (header-judge bytes)
-
--- Past them, the bytes have all the jobs of the header that was read.
-pub there-told : (bytes : List ℕ) (h : Header) → headerFields h ≡ headerOf bytes → judge (headerChecks bytes) ≡ fine
-    → AllThere bytes (h .count)
-there-told bytes h e passed =
-    let f = header-fine bytes .0 passed in
-    let r = header-read bytes h e in
-    record { counted = r .count; few = omega (arith, r .count, f .few); room = omega (arith, r .count, f .whole) }
 
 -- Past 3 to 5, the numbers are those of so many jobs.
 pub given-told : (t0 : ℤ) (zs : List ℤ) → judge (listChecks t0 zs) ≡ fine → AllGiven zs (length zs / 6)
@@ -94,43 +85,42 @@ stays cs ds e = rw (judge-append cs ds, e)
 -- ---- 6, 7 and 9
 
 -- The jobs are gathered.
-module _ (zs : List ℤ) (count : ℕ) (numbers : List ℕ) (jobs : Gathered) (counted : count ≡ jobCount zs)
-    (room : count ≤ length numbers) (found : Found zs numbers jobs) where
-  repeat-is : count ≤ jobs .place → firstRepeat zs ≡ firstAgain (take count numbers)
+module _ (zs : List ℤ) (numbers : List ℕ) (jobs : Gathered) (found : Found zs numbers jobs) where
+  repeat-is : jobs .count ≤ jobs .place → firstRepeat zs ≡ firstAgain (take (jobs .count) numbers)
   repeat-is passed =
-      let long : length (take count numbers) ≡ count = length-take-le count numbers room in
-      repeat-again zs (take count numbers) (long ∙ counted)
-      (λ k h. let b : k < count = omega arith in
-      found .gathered k (omega arith) ∙ ap pos (sym (getD-take count numbers k 0 b)))
+      let long : length (take (jobs .count) numbers) ≡ jobs .count = length-take-le (jobs .count) numbers (found .room) in
+      repeat-again zs (take (jobs .count) numbers) (long ∙ found .counted)
+      (λ k h. let b : k < jobs .count = omega arith in
+      found .gathered k (omega arith) ∙ ap pos (sym (getD-take (jobs .count) numbers k 0 b)))
 
   -- 6 and 7 are judged by what was found.
-  pub jobs-told : judge (jobChecks zs) ≡ foundIn numbers count (jobs .place)
-  jobs-told = cases (ltb (jobs .place) count)
-      (λ e. rw (jobs-judge zs, ← found .first-bad, ← counted, e))
-      (λ e. rw (jobs-judge zs, ← found .first-bad, ← counted, e, repeat-is (ltb-false (jobs .place) count e)))
+  pub jobs-told : judge (jobChecks zs) ≡ foundIn numbers jobs
+  jobs-told = cases (ltb (jobs .place) (jobs .count))
+      (λ e. rw (jobs-judge zs, ← found .first-bad, ← found .counted, e))
+      (λ e. rw (jobs-judge zs, ← found .first-bad, ← found .counted, e, repeat-is (ltb-false (jobs .place) (jobs .count) e)))
 
   -- So is 9, past them;
   pub weight-told : (before : ℕ) → judge (jobChecks zs) ≡ fine → judge (weightChecks before zs) ≡ sumJudged before (jobs .weight)
   unfolding weightChecks
-  weight-told before j = cases (ltb (jobs .place) count)
+  weight-told before j = cases (ltb (jobs .place) (jobs .count))
       (λ e.
       let odd : refused 6 (jobs .place) ≡ fine = rw e at (sym jobs-told ∙ j) in
-      let z : _≡_ {A = ℕ} 0 1 = cc in absurd (omega arith))
+      let z : _≡_ {A = ℕ} 0 1 = cc in
+      absurd (omega arith))
       (λ e.
-      let b : count ≤ jobs .place = ltb-false (jobs .place) count e in
-      let all : jobs .weight ≡ weightOf (jobsOf zs) = found .weighed (omega (arith, counted)) in
+      let all : jobs .weight ≡ weightOf (jobsOf zs) = found .weighed (ltb-false (jobs .place) (jobs .count) e) in
       rw all)
 
   -- and all three, past the checks before them.
   pub rest-told : (cs : List Check) (before : ℕ) → judge cs ≡ fine
-      → judge (cs ++ jobChecks zs ++ weightChecks before zs) ≡ orElse (foundIn numbers count (jobs .place)) (sumJudged before (jobs .weight))
+      → judge (cs ++ jobChecks zs ++ weightChecks before zs) ≡ orElse (foundIn numbers jobs) (sumJudged before (jobs .weight))
   rest-told cs before e =
       judge-append (cs ++ jobChecks zs) (weightChecks before zs)
       ∙ ap (λ (v : Judged). orElse v (judge (weightChecks before zs))) (told-next cs (jobChecks zs) e)
       ∙ go (judge (jobChecks zs)) refl
     where
       go : (v : Judged) → judge (jobChecks zs) ≡ v
-          → orElse v (judge (weightChecks before zs)) ≡ orElse (foundIn numbers count (jobs .place)) (sumJudged before (jobs .weight))
+          → orElse v (judge (weightChecks before zs)) ≡ orElse (foundIn numbers jobs) (sumJudged before (jobs .weight))
       go fine d = weight-told before d ∙ ap (λ (v : Judged). orElse v (sumJudged before (jobs .weight))) (sym d ∙ jobs-told)
       go (refused n p) d = ap (λ (v : Judged). orElse v (sumJudged before (jobs .weight))) (sym d ∙ jobs-told)
 

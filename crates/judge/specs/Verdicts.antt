@@ -10,7 +10,7 @@ use lib.ListN.{length, getD, take, set}
 use Rattle.seconds.specs.Limits.{mostWeight}
 use Rattle.order.specs.Job.{weightOf}
 use Rattle.packed.specs.Judge.{Verdict as Judged, fine, refused, judge, check, checkAt}
-use Rattle.packed.specs.Packed.{countOf, jobCount, jobsOf}
+use Rattle.packed.specs.Packed.{jobCount, jobsOf}
 use Rattle.packed.specs.Refusals.{fieldsWithin, numberAt, firstBad}
 use Rattle.fields.specs.Fields.{fieldsOf}
 use Rattle.fields.specs.declared.Job.{Job}
@@ -24,12 +24,6 @@ abbrev pub verdictOf : Judged → Verdict
 verdictOf fine = Fine
 verdictOf (refused n p) = Refused n p
 
--- The bytes have all the jobs of their header, at most 48.
-pub record AllThere (bytes : List ℕ) (count : ℕ) : Type 0 where
-  pub counted : count ≡ countOf bytes
-  pub few : count ≤ 48
-  pub room : 4 + 8 * count ≤ length bytes
-
 -- The numbers are those of so many jobs, at most 48.
 pub record AllGiven (zs : List ℤ) (count : ℕ) : Type 0 where
   pub few : count ≤ 48
@@ -40,8 +34,8 @@ pub record AllGiven (zs : List ℤ) (count : ℕ) : Type 0 where
 -- A job within its limits is gathered, and the search goes on behind it; else it ends before it.
 abbrev pub takenIn : Job → Gathered → Gathered
 takenIn j jobs = cond (fieldsWithin (fieldsOf j))
-    (record { place = jobs .place + 1; end = jobs .end; weight = jobs .weight + natAbs (j .weight) })
-    (record { place = jobs .place; end = jobs .place; weight = jobs .weight })
+    (record { count = jobs .count; place = jobs .place + 1; end = jobs .end; weight = jobs .weight + natAbs (j .weight) })
+    (record { count = jobs .count; place = jobs .place; end = jobs .place; weight = jobs .weight })
 
 -- The number of a gathered job is noted at its place.
 abbrev pub notedIn : Job → ℕ → List ℕ → List ℕ
@@ -58,16 +52,19 @@ pub record CanGather (There : Type 0) (numbers : List ℕ) : Type 0 where
   pub there : There
   pub room : length numbers ≡ 48
 
--- The first job out of range stands at the place, the numbers of the jobs before it are gathered, and so are the weights where
--- no job is out of range.
+-- All jobs were counted, the first out of range stands at the place, the numbers of those before it are gathered, and so are the
+-- weights where none is out of range.
 pub record Found (zs : List ℤ) (numbers : List ℕ) (jobs : Gathered) : Type 0 where
+  pub counted : jobs .count ≡ jobCount zs
+  pub room : jobs .count ≤ length numbers
   pub first-bad : jobs .place ≡ firstBad zs
   pub gathered : (k : ℕ) → k < jobs .place → numberAt zs k ≡ pos (getD numbers k 0)
-  pub weighed : jobCount zs ≤ jobs .place → jobs .weight ≡ weightOf (jobsOf zs)
+  pub weighed : jobs .count ≤ jobs .place → jobs .weight ≡ weightOf (jobsOf zs)
 
--- 6 and 7 of gathered jobs, by the place of the first out of range.
-abbrev pub foundIn : List ℕ → ℕ → ℕ → Judged
-foundIn numbers count bad = judge (checkAt 6 bad count ∷ checkAt 7 (firstAgain (take count numbers)) count ∷ [])
+-- 6 and 7 of gathered jobs.
+abbrev pub foundIn : List ℕ → Gathered → Judged
+foundIn numbers jobs =
+    judge (checkAt 6 (jobs .place) (jobs .count) ∷ checkAt 7 (firstAgain (take (jobs .count) numbers)) (jobs .count) ∷ [])
 
 -- 9 of a weight that is there before, and the weight of all jobs.
 abbrev pub sumJudged : ℕ → ℕ → Judged

@@ -2,13 +2,13 @@
 // that applies. Assumes nothing.
 ghost use mathlib.Core.Path.{_≡_};
 ghost use mathlib.Core.List.{_++_};
-ghost use Prim.Native.Nat.{_≤_};
+ghost use Prim.Native.Nat.{_/_, _≤_};
 ghost use lib.ListN.{length};
 ghost use Rattle.packed.specs.Packed.{numbersOf};
 ghost use Rattle.packed.specs.Judge.{fine, judge, orElse};
 ghost use Rattle.packed.specs.Refusals.{headerChecks, listChecks, jobChecks, weightChecks, numberChecks};
 ghost use Rattle.judge.specs.Repeats.{firstAgain};
-ghost use Rattle.judge.specs.Verdicts.{verdictOf, AllThere, AllGiven, CanTakeIn, takenIn, notedIn, CanGather, Found};
+ghost use Rattle.judge.specs.Verdicts.{verdictOf, AllGiven, CanTakeIn, takenIn, notedIn, CanGather, Found};
 ghost use Rattle.judge.specs.Verdicts.{foundIn, sumJudged};
 use fields::Job;
 
@@ -18,9 +18,10 @@ pub enum Verdict {
     Refused(u32, usize),
 }
 
-// What is gathered of an order's jobs: those before a place are within their limits, and their weights
-// are summed. The search goes on up to the end; it ends at the place where the job there is out of range.
+// What is gathered of so many jobs: those before a place are within their limits, and their weights are
+// summed. The search goes on up to the end, which is the place where the job there is out of range.
 struct Gathered {
+    count: usize,
     place: usize,
     end: usize,
     weight: u32,
@@ -86,6 +87,7 @@ fn take_in(job: Job, jobs: Gathered, numbers: &mut [u8]) -> Gathered
     let place = jobs.place;
     if !fields::within(job) {
         return Gathered {
+            count: jobs.count,
             place: place,
             end: place,
             weight: jobs.weight,
@@ -98,18 +100,22 @@ fn take_in(job: Job, jobs: Gathered, numbers: &mut [u8]) -> Gathered
     let gain = weight as u32;
     let total = jobs.weight + gain;
     Gathered {
+        count: jobs.count,
         place: next,
         end: jobs.end,
         weight: total,
     }
 }
 
-// Gathers the jobs of bytes until one is out of range.
-fn gather(bytes: &[u8], count: usize, numbers: &mut [u8]) -> Gathered
-    requires { ⌜ CanGather (AllThere (now bytes) count) (now numbers) ⌝ }
+// Gathers the jobs of bytes that have passed 1 to 5, until one is out of range.
+fn gather(bytes: &[u8], numbers: &mut [u8]) -> Gathered
+    requires { ⌜ CanGather (judge (headerChecks (now bytes)) ≡ fine) (now numbers) ⌝ }
     ensures { λ r. ⌜ Found (numbersOf (now (bytes .entry))) (now (numbers .exit)) r ⌝ }
 {
+    let header = fields::header_at(bytes);
+    let count = header.count;
     let mut jobs = Gathered {
+        count: count,
         place: 0,
         end: count,
         weight: 0,
@@ -122,11 +128,13 @@ fn gather(bytes: &[u8], count: usize, numbers: &mut [u8]) -> Gathered
 }
 
 // The same over the numbers of the jobs.
-fn gather_given(given: &[i32], count: usize, numbers: &mut [u8]) -> Gathered
-    requires { ⌜ CanGather (AllGiven (now given) count) (now numbers) ⌝ }
+fn gather_given(given: &[i32], numbers: &mut [u8]) -> Gathered
+    requires { ⌜ CanGather (AllGiven (now given) (length (now given) / 6)) (now numbers) ⌝ }
     ensures { λ r. ⌜ Found (now (given .entry)) (now (numbers .exit)) r ⌝ }
 {
+    let count = given.len() / 6;
     let mut jobs = Gathered {
+        count: count,
         place: 0,
         end: count,
         weight: 0,
@@ -138,11 +146,13 @@ fn gather_given(given: &[i32], count: usize, numbers: &mut [u8]) -> Gathered
     jobs
 }
 
-// Checks 6 and 7 on gathered jobs, by the place of the first out of range.
-fn judge_found(numbers: &[u8], count: usize, bad: usize) -> Verdict
-    requires { ⌜ count ≤ length (now numbers) ⌝ }
-    ensures { λ r. ⌜ r ≡ verdictOf (foundIn (now (numbers .entry)) count bad) ⌝ }
+// Checks 6 and 7 on gathered jobs.
+fn judge_found(numbers: &[u8], jobs: Gathered) -> Verdict
+    requires { ⌜ jobs .count ≤ length (now numbers) ⌝ }
+    ensures { λ r. ⌜ r ≡ verdictOf (foundIn (now (numbers .entry)) jobs) ⌝ }
 {
+    let bad = jobs.place;
+    let count = jobs.count;
     if bad < count {
         return Verdict::Refused(6, bad);
     }
@@ -164,12 +174,12 @@ fn judge_sum(before: u32, weight: u32) -> Verdict
 }
 
 // Checks 6, 7 and 9 on gathered jobs, with the weight that is there before.
-fn judge_gathered(numbers: &[u8], count: usize, jobs: Gathered, before: u32) -> Verdict
-    requires { ⌜ count ≤ length (now numbers) ⌝ }
-    ensures { λ r. ⌜ r ≡ verdictOf (orElse (foundIn (now (numbers .entry)) count (jobs .place)) (sumJudged before (jobs .weight))) ⌝ }
+fn judge_gathered(numbers: &[u8], jobs: Gathered, before: u32) -> Verdict
+    requires { ⌜ jobs .count ≤ length (now numbers) ⌝ }
+    ensures { λ r. ⌜ r ≡ verdictOf (orElse (foundIn (now (numbers .entry)) jobs) (sumJudged before (jobs .weight))) ⌝ }
 {
     let weight = jobs.weight;
-    match judge_found(numbers, count, jobs.place) {
+    match judge_found(numbers, jobs) {
         Verdict::Refused(number, place) => Verdict::Refused(number, place),
         Verdict::Fine => judge_sum(before, weight),
     }
@@ -182,11 +192,9 @@ pub fn judge_jobs(bytes: &[u8]) -> Verdict
     match judge_header(bytes) {
         Verdict::Refused(number, place) => Verdict::Refused(number, place),
         Verdict::Fine => {
-            let header = fields::header_at(bytes);
-            let count = header.count;
             let mut numbers = [0u8; MOST_JOBS];
-            let jobs = gather(bytes, count, &mut numbers);
-            judge_found(&numbers, count, jobs.place)
+            let jobs = gather(bytes, &mut numbers);
+            judge_found(&numbers, jobs)
         }
     }
 }
@@ -196,10 +204,8 @@ pub fn judge_weight(bytes: &[u8], before: u32) -> Verdict
     requires { ⌜ judge (headerChecks (now bytes) ++ jobChecks (numbersOf (now bytes))) ≡ fine ⌝ }
     ensures { λ r. ⌜ r ≡ verdictOf (judge (weightChecks before (numbersOf (now (bytes .entry))))) ⌝ }
 {
-    let header = fields::header_at(bytes);
-    let count = header.count;
     let mut numbers = [0u8; MOST_JOBS];
-    let jobs = gather(bytes, count, &mut numbers);
+    let jobs = gather(bytes, &mut numbers);
     judge_sum(before, jobs.weight)
 }
 
@@ -211,11 +217,9 @@ pub fn judge_order(bytes: &[u8], before: u32) -> Verdict
     match judge_header(bytes) {
         Verdict::Refused(number, place) => Verdict::Refused(number, place),
         Verdict::Fine => {
-            let header = fields::header_at(bytes);
-            let count = header.count;
             let mut numbers = [0u8; MOST_JOBS];
-            let jobs = gather(bytes, count, &mut numbers);
-            judge_gathered(&numbers, count, jobs, before)
+            let jobs = gather(bytes, &mut numbers);
+            judge_gathered(&numbers, jobs, before)
         }
     }
 }
@@ -243,10 +247,9 @@ pub fn judge_numbers(t0: i32, given: &[i32]) -> Verdict
     match judge_list(t0, given) {
         Verdict::Refused(number, place) => Verdict::Refused(number, place),
         Verdict::Fine => {
-            let count = given.len() / 6;
             let mut numbers = [0u8; MOST_JOBS];
-            let jobs = gather_given(given, count, &mut numbers);
-            judge_gathered(&numbers, count, jobs, 0)
+            let jobs = gather_given(given, &mut numbers);
+            judge_gathered(&numbers, jobs, 0)
         }
     }
 }

@@ -1,54 +1,54 @@
 -- `judge::gather` meets its contract. The loop's invariant: no job before the place is out of range, and they are gathered.
 -- Assumes nothing.
 use mathlib.Core.Path.{sym, _∙_}
-use Prim.Native.Nat.{_-_, _<_}
+use Prim.Native.Nat.{_-_}
 use native.Mathlib.Omega.{arith}
 use denote.Ref.{now}
 use Rattle.packed.specs.Packed.{numbersOf}
-use Rattle.judge.specs.Gathering.{Passing, passing-starts, Turn, can-take-in, passing-on, passing-less, passing-ends}
-use Rattle.judge.specs.Gathering.{there-count, there-job}
+use Rattle.packed.specs.RefusalLaws.{header-fine}
+use Rattle.judge.specs.Gathering.{Passing, Turn, can-take-in, passing-on, passing-less, passing-ends}
+use Rattle.judge.specs.Gathering.{there-starts, there-room, there-turn}
 use Rattle.judge.proofs.gather.Statement.{statement}
 use Rattle.judge.proofs.gather.Tie as tie
 
 abbrev Inv-loop : tie.InvT-loop
-Inv-loop bytes count numbers₀ jobs₀ numbers jobs = Passing (numbersOf bytes) count numbers jobs
+Inv-loop bytes numbers₀ count jobs₀ numbers jobs = Passing (numbersOf bytes) numbers jobs
 
 abbrev μ-loop : tie.MeasureT-loop
-μ-loop bytes count numbers₀ jobs₀ numbers jobs = jobs .end - jobs .place
+μ-loop bytes numbers₀ count jobs₀ numbers jobs = jobs .end - jobs .place
+
+header-at-requires : tie.Need-header-at-requires Inv-loop μ-loop
+header-at-requires c κs = let s = c .before .before in header-fine (now (s .args .bytes)) .0 (s .pre .there) .long
 
 loop-holds : tie.Need-loop-holds Inv-loop μ-loop
 loop-holds c =
-    let s = c .before .before in
-    passing-starts (numbersOf (now (s .args .bytes))) (s .args .count) (now (s .args .numbers))
-    (there-count (now (s .args .bytes)) (s .args .count) (s .pre .there)) (s .pre .room)
-
--- The place that is read is one of the jobs.
-few : (c : tie.After-struct-known2 Inv-loop μ-loop)
-    → c .before .before .before .loop .jobs .place < c .before .before .before .before .before .before .args .count
-few c = omega (arith, c .before .if1 .taken, c .before .before .before .loop .inv .few)
+    let s = c .before .before .before in
+    there-starts (now (s .args .bytes)) (s .pre .there) (c .header-at .result) (c .header-at .ensures) (s .pre .room)
 
 mul-job-at : tie.Need-mul-job-at Inv-loop μ-loop
-mul-job-at c = omega (arith, few c, c .before .before .before .before .before .before .pre .there .few)
+mul-job-at c =
+    let l = c .before .before .before in
+    omega (arith, c .before .if1 .taken, l .loop .inv .few, l .loop .inv .room)
 
 add-job-at : tie.Need-add-job-at Inv-loop μ-loop
-add-job-at c = omega (arith, few c, c .before .before .before .before .before .before .pre .there .few)
+add-job-at c =
+    let l = c .before .before .before in
+    omega (arith, c .before .if1 .taken, l .loop .inv .few, l .loop .inv .room)
 
 job-at-requires : tie.Need-job-at-requires Inv-loop μ-loop
-job-at-requires c κs = omega (arith, few c, c .before .before .before .before .before .before .pre .there .room)
+job-at-requires c κs =
+    let l = c .before .before .before in
+    let s = l .before .before .before .before in
+    there-room (now (s .args .bytes)) (s .pre .there) (c .before .if1 .taken) (l .loop .inv)
 
 -- The job that was read is the job at the place.
 turn : (c : tie.After-job-at Inv-loop μ-loop)
     → let l = c .before .before .before .before in
-    Turn (numbersOf (now (l .before .before .before .args .bytes))) (l .before .before .before .args .count) (l .loop .numbers) (l .loop .jobs) (c .job-at .result)
+    Turn (numbersOf (now (l .before .before .before .before .args .bytes))) (l .loop .numbers) (l .loop .jobs) (c .job-at .result)
 turn c =
     let l = c .before .before .before .before in
-    let s = l .before .before .before in
-    record {
-      more = c .before .before .if1 .taken;
-      room = s .pre .there .few;
-      read = there-job (now (s .args .bytes)) (s .args .count) (s .pre .there) (l .loop .jobs .place) (c .job-at .result) (few (c .before)) (c .job-at .ensures);
-      before = l .loop .inv;
-    }
+    let s = l .before .before .before .before in
+    there-turn (now (s .args .bytes)) (s .pre .there) (c .before .before .if1 .taken) (l .loop .inv) (c .job-at .result) (c .job-at .ensures)
 
 take-in-requires : tie.Need-take-in-requires Inv-loop μ-loop
 take-in-requires c κs = can-take-in (turn (c .before))
@@ -64,17 +64,15 @@ loop-again c =
     passing-on (turn (c .before .before .before .before)) (made .result) (made .ensures .0) (made .last .1 .1 .0) (made .ensures .1)
 
 same-length : tie.Need-same-length Inv-loop μ-loop
-same-length c = c .before .before .loop .inv .long ∙ sym (c .before .before .before .before .before .pre .room)
+same-length c = c .before .before .loop .inv .long ∙ sym (c .before .before .before .before .before .before .pre .room)
 
 returns : tie.Need-returns Inv-loop μ-loop
 returns c =
     let l = c .before .before in
-    let s = l .before .before .before in
-    passing-ends (numbersOf (now (s .args .bytes))) (s .args .count) (l .loop .numbers) (l .loop .jobs)
-    (there-count (now (s .args .bytes)) (s .args .count) (s .pre .there)) (c .if1 .left) (l .loop .inv)
+    passing-ends (numbersOf (now (l .before .before .before .before .args .bytes))) (l .loop .numbers) (l .loop .jobs) (c .if1 .left) (l .loop .inv)
 
 pub gather-spec : {M : Type 1} → statement M
 gather-spec =
     tie.close
-    (tie.spec Inv-loop μ-loop loop-holds mul-job-at add-job-at job-at-requires take-in-requires loop-less loop-again same-length
-    returns)
+    (tie.spec Inv-loop μ-loop header-at-requires loop-holds mul-job-at add-job-at job-at-requires take-in-requires loop-less
+    loop-again same-length returns)

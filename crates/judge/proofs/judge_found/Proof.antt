@@ -11,12 +11,12 @@ use Rattle.judge.proofs.judge_found.Statement.{statement}
 use Rattle.judge.proofs.judge_found.Tie as tie
 
 returns : tie.Need-returns
-returns c = let a = c .before .before .args in rw (lt-ltb (a .bad) (a .count) (c .if1 .taken))
+returns c = let a = c .before .before .args in rw (lt-ltb (a .jobs .place) (a .jobs .count) (c .if1 .taken))
 
 slice-aggregate-first-repeat : tie.Need-slice-aggregate-first-repeat
 slice-aggregate-first-repeat c =
     let s = c .before .before .before in
-    sym (length-take-le (s .args .count) (now (s .args .numbers)) (s .pre))
+    sym (length-take-le (s .args .jobs .count) (now (s .args .numbers)) (s .pre))
 
 first-repeat-requires : tie.Need-first-repeat-requires
 first-repeat-requires c κs = search needs
@@ -24,7 +24,7 @@ first-repeat-requires c κs = search needs
 -- What the search found.
 found : (c : tie.After-first-repeat)
     → let a = c .before .before .before .before .args in
-    c .first-repeat .result ≡ firstAgain (take (a .count) (now (a .numbers)))
+    c .first-repeat .result ≡ firstAgain (take (a .jobs .count) (now (a .numbers)))
 found c = c .first-repeat .ensures
 
 returns-2 : tie.Need-returns-2
@@ -32,9 +32,9 @@ returns-2 c =
     let r = c .before in
     let a = r .before .before .before .before .args in
     rw (
-      le-ltb (a .bad) (a .count) (r .before .before .if1 .left),
+      le-ltb (a .jobs .place) (a .jobs .count) (r .before .before .if1 .left),
       ← (found r),
-      lt-ltb (r .first-repeat .result) (a .count) (c .if2 .taken),
+      lt-ltb (r .first-repeat .result) (a .jobs .count) (c .if2 .taken),
     )
 
 returns-3 : tie.Need-returns-3
@@ -42,9 +42,9 @@ returns-3 c =
     let r = c .before in
     let a = r .before .before .before .before .args in
     rw (
-      le-ltb (a .bad) (a .count) (r .before .before .if1 .left),
+      le-ltb (a .jobs .place) (a .jobs .count) (r .before .before .if1 .left),
       ← (found r),
-      le-ltb (r .first-repeat .result) (a .count) (c .if2 .left),
+      le-ltb (r .first-repeat .result) (a .jobs .count) (c .if2 .left),
     )
 
 pub judge-found-spec : {M : Type 1} → statement M

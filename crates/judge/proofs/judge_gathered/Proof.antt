@@ -24,7 +24,7 @@ judge-sum-requires c κs = search needs
 -- The verdicts of 6 and 7, and of 9.
 module _ (s : tie.Start) where
   abbrev found : Verdict
-  found = foundIn (now (s .args .numbers)) (s .args .count) (s .args .jobs .place)
+  found = foundIn (now (s .args .numbers)) (s .args .jobs)
 
   abbrev sum : Verdict
   sum = sumJudged (s .args .before) (s .args .jobs .weight)

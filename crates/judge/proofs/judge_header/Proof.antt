@@ -2,6 +2,7 @@
 -- Assumes nothing.
 use mathlib.Core.Path.{_≡_, sym, _∙_, ap}
 use Prim.Native.Nat.{ℕ, _+_, _*_}
+use mathlib.Core.Bool.{cond, not}
 use mathlib.Core.List.{List}
 use denote.Ref.{now}
 use lib.ListN.{length}
@@ -11,6 +12,8 @@ use mir.Facts.{toZ-ofZ}
 use borrow.Author.Needs.{needs}
 use borrow.Author.Tests.{lt-ltb, le-ltb, eq-eqb, ne-eqb, not-true, not-false}
 use Rattle.seconds.specs.Ranges.{isTime}
+use Rattle.packed.specs.Judge.{fine, refused, judge}
+use Rattle.packed.specs.Refusals.{headerChecks}
 use Rattle.packed.specs.Steps.{header-judge}
 use Rattle.fields.specs.Facts.{HeaderRead, header-read}
 use Rattle.fields.specs.declared.Header.{Header}
@@ -79,7 +82,7 @@ returns-4 c =
 is-time-requires : tie.Need-is-time-requires
 is-time-requires c κs = search needs
 
--- Past the fourth test, the bus-free time has been tested.
+-- Past the fourth test, the bus-free time has been tested, and only the fifth check is left.
 module _ (c : tie.After-is-time) where
   abbrev read : tie.After-struct-told
   read = c .before .before .before .before
@@ -87,31 +90,21 @@ module _ (c : tie.After-is-time) where
   timely : c .is-time .result ≡ isTime (header read .t0)
   timely = c .is-time .ensures ∙ ap isTime (toZ-ofZ (t0-fits read))
 
+  left : judge (headerChecks (bytes read)) ≡ cond (not (isTime (header read .t0))) (refused 5 0) fine
+  left =
+      rw (
+        header-told (bytes read) (header read) (says read),
+        le-ltb (length (bytes read)) 4 (read .before .before .if1 .left),
+        eq-eqb (header read .spare) 0 (c .before .before .before .if2 .left),
+        le-ltb 48 (header read .count) (c .before .before .if3 .left),
+        eq-eqb (length (bytes read)) (4 + 8 * header read .count) (c .before .if4 .left),
+      )
+
 returns-5 : tie.Need-returns-5
-returns-5 c =
-    let e = c .before in
-    let h = read e in
-    rw (
-      header-told (bytes h) (header h) (says h),
-      le-ltb (length (bytes h)) 4 (h .before .before .if1 .left),
-      eq-eqb (header h .spare) 0 (e .before .before .before .if2 .left),
-      le-ltb 48 (header h .count) (e .before .before .if3 .left),
-      eq-eqb (length (bytes h)) (4 + 8 * header h .count) (e .before .if4 .left),
-      sym (timely e) ∙ not-true (e .is-time .result) (c .if5 .taken),
-    )
+returns-5 c = let e = c .before in rw (left e, sym (timely e) ∙ not-true (e .is-time .result) (c .if5 .taken))
 
 returns-6 : tie.Need-returns-6
-returns-6 c =
-    let e = c .before in
-    let h = read e in
-    rw (
-      header-told (bytes h) (header h) (says h),
-      le-ltb (length (bytes h)) 4 (h .before .before .if1 .left),
-      eq-eqb (header h .spare) 0 (e .before .before .before .if2 .left),
-      le-ltb 48 (header h .count) (e .before .before .if3 .left),
-      eq-eqb (length (bytes h)) (4 + 8 * header h .count) (e .before .if4 .left),
-      sym (timely e) ∙ not-false (e .is-time .result) (c .if5 .left),
-    )
+returns-6 c = let e = c .before in rw (left e, sym (timely e) ∙ not-false (e .is-time .result) (c .if5 .left))
 
 pub judge-header-spec : {M : Type 1} → statement M
 judge-header-spec =

@@ -1,13 +1,18 @@
 -- `judge::judge_list` meets its contract: the tests are those of the checks, one after the other.
 -- Assumes nothing.
 use mathlib.Core.Path.{_≡_, sym, _∙_, ap}
+use mathlib.Core.Bool.{cond, not}
+use mathlib.Core.List.{List}
 use Prim.Native.Nat.{_%_}
 use denote.Ref.{now}
+use lib.IntN.{ℤ}
 use lib.ListN.{length}
 use mir.Facts.{toZ-ofZ}
 use borrow.Author.Needs.{needs}
 use borrow.Author.Tests.{lt-ltb, le-ltb, eq-eqb, ne-eqb, not-true, not-false}
 use Rattle.seconds.specs.Ranges.{isTime}
+use Rattle.packed.specs.Judge.{fine, refused, judge}
+use Rattle.packed.specs.Refusals.{listChecks}
 use Rattle.packed.specs.Steps.{list-judge}
 use Rattle.judge.proofs.judge_list.Statement.{statement}
 use Rattle.judge.proofs.judge_list.Tie as tie
@@ -33,33 +38,30 @@ returns-2 c =
 is-time-requires : tie.Need-is-time-requires
 is-time-requires c κs = search needs
 
--- The bus-free time has been tested.
-timely : (c : tie.After-is-time) → c .is-time .result ≡ isTime (c .before .before .before .args .t0)
-timely c = c .is-time .ensures ∙ ap isTime (toZ-ofZ (c .before .before .before .fits .t0))
+-- The bus-free time has been tested, and only that check is left.
+module _ (c : tie.After-is-time) where
+  abbrev t0 : ℤ
+  t0 = c .before .before .before .args .t0
+
+  abbrev zs : List ℤ
+  zs = now (c .before .before .before .args .given)
+
+  timely : c .is-time .result ≡ isTime t0
+  timely = c .is-time .ensures ∙ ap isTime (toZ-ofZ (c .before .before .before .fits .t0))
+
+  left : judge (listChecks t0 zs) ≡ cond (not (isTime t0)) (refused 5 0) fine
+  left =
+      rw (
+        list-judge t0 zs,
+        le-ltb 288 (length zs) (c .before .before .if1 .left),
+        eq-eqb (length zs % 6) 0 (c .before .if2 .left),
+      )
 
 returns-3 : tie.Need-returns-3
-returns-3 c =
-    let e = c .before in
-    let a = e .before .before .before in
-    let zs = now (a .args .given) in
-    rw (
-      list-judge (a .args .t0) zs,
-      le-ltb 288 (length zs) (e .before .before .if1 .left),
-      eq-eqb (length zs % 6) 0 (e .before .if2 .left),
-      sym (timely e) ∙ not-true (e .is-time .result) (c .if3 .taken),
-    )
+returns-3 c = let e = c .before in rw (left e, sym (timely e) ∙ not-true (e .is-time .result) (c .if3 .taken))
 
 returns-4 : tie.Need-returns-4
-returns-4 c =
-    let e = c .before in
-    let a = e .before .before .before in
-    let zs = now (a .args .given) in
-    rw (
-      list-judge (a .args .t0) zs,
-      le-ltb 288 (length zs) (e .before .before .if1 .left),
-      eq-eqb (length zs % 6) 0 (e .before .if2 .left),
-      sym (timely e) ∙ not-false (e .is-time .result) (c .if3 .left),
-    )
+returns-4 c = let e = c .before in rw (left e, sym (timely e) ∙ not-false (e .is-time .result) (c .if3 .left))
 
 pub judge-list-spec : {M : Type 1} → statement M
 judge-list-spec = tie.close (tie.spec mul-if1 returns returns-2 is-time-requires returns-3 returns-4)

@@ -2,17 +2,13 @@
 -- Assumes nothing.
 use mathlib.Core.Path.{_≡_, refl, sym, ap, _∙_}
 use mathlib.Core.List.{List}
-use Prim.Native.Nat.{ℕ, _/_, _≤_}
-use native.Mathlib.Omega.{arith}
 use denote.Ref.{now}
 use lib.IntN.{ℤ}
-use lib.ListN.{length}
 use mir.Facts.{toZ-ofZ}
 use borrow.Author.Needs.{needs}
 use Rattle.packed.specs.Judge.{fine, judge}
 use Rattle.packed.specs.Refusals.{listChecks, jobChecks, weightChecks}
-use Rattle.judge.specs.Verdicts.{verdictOf, AllGiven}
-use Rattle.judge.specs.Gathering.{given-count}
+use Rattle.judge.specs.Verdicts.{verdictOf}
 use Rattle.judge.specs.Told.{given-told, told-fine, first-refused, rest-told}
 use Rattle.judge.proofs.judge_numbers.Statement.{statement}
 use Rattle.judge.proofs.judge_numbers.Tie as tie
@@ -41,29 +37,22 @@ module _ (c : tie.After-enum-told) where
   abbrev zs : List ℤ
   zs = now (c .before .before .before .args .given)
 
-  abbrev count : ℕ
-  count = length zs / 6
-
   passed : judge (listChecks t0 zs) ≡ fine
   passed = told-fine (listChecks t0 zs) (sym (list-says (c .before .before)) ∙ c .enum-told .given .1)
-
-  all : AllGiven zs count
-  all = given-told t0 zs passed
 
 slice-aggregate-gather-given : tie.Need-slice-aggregate-gather-given
 slice-aggregate-gather-given c = search needs
 
 gather-given-requires : tie.Need-gather-given-requires
-gather-given-requires c κs = record { there = all (c .before); room = refl }
+gather-given-requires c κs =
+    let l = c .before in
+    record { there = given-told (t0 l) (zs l) (passed l); room = refl }
 
 slice-aggregate-judge-gathered : tie.Need-slice-aggregate-judge-gathered
 slice-aggregate-judge-gathered c = search needs
 
-room : (c : tie.After-gather-given) → count (c .before .before) ≤ length (c .gather-given .last .1 .1 .0)
-room c = omega (arith, c .gather-given .kept .1 .1 .0, all (c .before .before) .few)
-
 judge-gathered-requires : tie.Need-judge-gathered-requires
-judge-gathered-requires c κs = room (c .before .before)
+judge-gathered-requires c κs = search needs
 
 returns : tie.Need-returns
 returns c =
@@ -78,8 +67,8 @@ returns-2 c =
     let g = c .before .before .before in
     let l = g .before .before in
     c .judge-gathered .ensures
-    ∙ sym (ap verdictOf (rest-told (zs l) (count l) (g .gather-given .last .1 .1 .0) (g .gather-given .result) (given-count (zs l) (count l) (all l))
-    (room g) (g .gather-given .ensures) (listChecks (t0 l) (zs l)) 0 (passed l)))
+    ∙ sym (ap verdictOf (rest-told (zs l) (g .gather-given .last .1 .0) (g .gather-given .result) (g .gather-given .ensures)
+    (listChecks (t0 l) (zs l)) 0 (passed l)))
 
 pub judge-numbers-spec : {M : Type 1} → statement M
 judge-numbers-spec =
