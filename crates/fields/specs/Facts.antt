@@ -1,5 +1,5 @@
 -- What callers read by name: a job within its limits, a job and a header that were read.
-use Prim.Native.Nat.{ℕ, _+_, _*_}
+use Prim.Native.Nat.{ℕ, _+_, _*_, _^_, _<_}
 use mathlib.Core.Path.{_≡_, refl, sym, ap, _∙_}
 use mathlib.Core.Bool.{Bool, true, _&&_, and-assoc, and-true}
 use mathlib.Core.Logic.{_↔_}
@@ -7,9 +7,9 @@ use mathlib.Core.List.{List}
 use lib.Dec.{eqb}
 use lib.IntN.{ℤ, pos, negsuc, natAbs}
 use lib.ListN.{getD, take, drop}
-use lib.Signed.{_≤ℤ_}
+use lib.Signed.{_≤ℤ_, mag}
 use mir.Syntax.{w32}
-use mir.Val.{SFits, toZ, ofZ}
+use mir.Val.{SFits, toZ, ofZ, hbits}
 use mir.Facts.{toZ-ofZ}
 use borrow.Table.Steps.{cases}
 use Rattle.seconds.specs.Limits.{heaviest, longest}
@@ -98,6 +98,19 @@ pub record JobFits (j : Job) : Type 0 where
   pub ready : SFits w32 (j .ready)
   pub long : SFits w32 (j .length)
   pub deadline : SFits w32 (j .deadline)
+
+-- The bounds of the six say so.
+pub bounds-fit : (j : Job) → mag (j .number) < 2 ^ hbits w32 → mag (j .critical) < 2 ^ hbits w32 → mag (j .weight) < 2 ^ hbits w32
+    → mag (j .ready) < 2 ^ hbits w32 → mag (j .length) < 2 ^ hbits w32 → mag (j .deadline) < 2 ^ hbits w32 → JobFits j
+bounds-fit j number critical weight ready long deadline =
+    record {
+      number = record { sfits = number };
+      critical = record { sfits = critical };
+      weight = record { sfits = weight };
+      ready = record { sfits = ready };
+      long = record { sfits = long };
+      deadline = record { sfits = deadline };
+    }
 
 -- Within the limits they are.
 pub facts-fit : (j : Job) → JobFacts j → JobFits j

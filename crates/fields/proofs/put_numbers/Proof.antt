@@ -8,7 +8,7 @@ use denote.Ref.{now}
 use lib.IntN.{ℤ}
 use lib.ListN.{take, drop, length-set}
 use borrow.Author.Needs.{needs}
-use Rattle.fields.specs.Facts.{JobFits, fromBits, fields-kept}
+use Rattle.fields.specs.Facts.{JobFits, bounds-fit, fromBits, fields-kept}
 use Rattle.fields.specs.Numbers.{six-written}
 use Rattle.fields.specs.declared.Job.{Job}
 use Rattle.fields.proofs.put_numbers.Statement.{statement}
@@ -72,14 +72,7 @@ same-length c = simp length-set
 fits : (c : tie.After-struct-told) → JobFits (c .before .args .job)
 fits c =
     let g = c .struct-told .given in
-    record {
-      number = record { sfits = g .0 .1 };
-      critical = record { sfits = g .1 .0 .1 };
-      weight = record { sfits = g .1 .1 .0 .1 };
-      ready = record { sfits = g .1 .1 .1 .0 .1 };
-      long = record { sfits = g .1 .1 .1 .1 .0 .1 };
-      deadline = record { sfits = g .1 .1 .1 .1 .1 .0 .1 };
-    }
+    bounds-fit (c .before .args .job) (g .0 .1) (g .1 .0 .1) (g .1 .1 .0 .1) (g .1 .1 .1 .0 .1) (g .1 .1 .1 .1 .0 .1) (g .1 .1 .1 .1 .1 .0 .1)
 
 returns : tie.Need-returns
 returns c =

@@ -10,7 +10,7 @@ use borrow.Author.Needs.{needs}
 use Rattle.seconds.specs.Limits.{longest}
 use Rattle.seconds.specs.Ranges.{isBetween, isTime}
 use Rattle.packed.specs.Refusals.{weightTest}
-use Rattle.fields.specs.Facts.{JobFits, job-tested}
+use Rattle.fields.specs.Facts.{JobFits, bounds-fit, job-tested}
 use Rattle.fields.specs.declared.Job.{Job}
 use Rattle.fields.proofs.within.Statement.{statement}
 use Rattle.fields.proofs.within.Tie as tie
@@ -37,14 +37,7 @@ is-time-requires-2 c κs = search needs
 fits : (c : tie.After-struct-told) → JobFits (c .before .args .job)
 fits c =
     let g = c .struct-told .given in
-    record {
-      number = record { sfits = g .0 .1 };
-      critical = record { sfits = g .1 .0 .1 };
-      weight = record { sfits = g .1 .1 .0 .1 };
-      ready = record { sfits = g .1 .1 .1 .0 .1 };
-      long = record { sfits = g .1 .1 .1 .1 .0 .1 };
-      deadline = record { sfits = g .1 .1 .1 .1 .1 .0 .1 };
-    }
+    bounds-fit (c .before .args .job) (g .0 .1) (g .1 .0 .1) (g .1 .1 .0 .1) (g .1 .1 .1 .0 .1) (g .1 .1 .1 .1 .0 .1) (g .1 .1 .1 .1 .1 .0 .1)
 
 returns : tie.Need-returns
 returns c =
