@@ -1,5 +1,5 @@
-// The checks of an order, in packed bytes and in numbers: 1 to 7 and 9 of document 01, the lowest
-// that applies. Assumes nothing.
+// The refusals of an order, in packed bytes and in numbers: checks 1 to 7 and 9 of R24, the lowest that
+// applies (R25). Assumes nothing.
 ghost use mathlib.Core.Path.{_≡_};
 ghost use mathlib.Core.List.{_++_};
 ghost use Prim.Native.Nat.{_/_, _≤_};
@@ -12,7 +12,7 @@ ghost use Rattle.judge.specs.Verdicts.{verdictOf, AllGiven, CanTakeIn, t
 ghost use Rattle.judge.specs.Verdicts.{foundIn, sumJudged};
 use fields::Job;
 
-// Not refused; or refused, with the number and the place of document 01.
+// Not refused; or refused, with the number and the place of R24.
 pub enum Verdict {
     Fine,
     Refused(u32, usize),
