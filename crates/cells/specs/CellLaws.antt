@@ -11,7 +11,8 @@ use mir.Val.{toZ, ofZ, hbits}
 use mir.Facts.{toZ-ofZ}
 use borrow.Table.Steps.{cases}
 use Rattle.seconds.specs.Limits.{rest}
-use Rattle.seconds.specs.Ranges.{InTime, rest-small}
+use Rattle.seconds.specs.Ranges.{InTime}
+use Rattle.seconds.specs.RangesLaws.{rest-small}
 use Rattle.seconds.specs.Signed.{signed, add-is, sub-is, minZ, min-is, maxZ, max-is}
 use Rattle.rows.specs.Row.{earlier, afterPick}
 use Rattle.rows.specs.RowLaws.{nothing-there}

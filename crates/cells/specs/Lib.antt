@@ -1,4 +1,5 @@
 -- Weight rows in the work area: cells, writing, one row to the next, and reading.
+pub mod Area
 pub mod Work
 pub mod Found
 pub mod CellLaws

@@ -3,25 +3,19 @@
 use Prim.Native.Nat.{ℕ, _+_, _*_, _≤_, _<_}
 use mathlib.Core.Path.{_≡_}
 use mathlib.Core.Bool.{Bool, false, cond}
-use mathlib.Core.List.{List, _++_}
+use mathlib.Core.List.{List}
 use mathlib.Core.Option.{Option, none, some}
 use lib.Dec.{leb}
 use lib.IntN.{ℤ, pos, _+ℤ_, natAbs}
 use lib.Signed.{ltZ, _≤ℤ_, _<ℤ_}
-use lib.ListN.{length, getD, take, drop, replicate}
-use Rattle.seconds.specs.Limits.{earliest, latest, longest, mostWeight, mostJobs}
+use lib.ListN.{length, getD, take, drop}
+use Rattle.seconds.specs.Limits.{earliest, latest, longest, mostWeight}
 use Rattle.seconds.specs.Ranges.{InTime}
 use Rattle.order.specs.Job.{Job, oneRate}
 use Rattle.rows.specs.Row.{Row, earlier, afterPick, nextRow}
+unfoldable pub use Rattle.cells.specs.Area.{rowSize, area, clearedTo, cleared}
 
 -- ---- reading
-
--- A row has a number for each weight, and the work area a row before the first job and after each job.
-abbrev pub rowSize : ℕ
-rowSize = mostWeight + 1
-
-abbrev pub area : ℕ
-area = (mostJobs + 1) * rowSize
 
 -- From this number on there is no cell.
 abbrev pub never : ℤ
@@ -54,13 +48,6 @@ pub record RowWritten (row : Row) (at top : ℕ) (old new : List ℤ) : Type 0 w
   pub front : take at new ≡ take at old
   pub back : drop (at + rowSize) new ≡ drop (at + rowSize) old
   pub reads : (w : ℕ) → rowAt new at top w ≡ row w
-
--- The first numbers cleared, and of a work area all that the rows take.
-unfoldable pub clearedTo : ℕ → List ℤ → List ℤ
-clearedTo n l = replicate n (pos 0) ++ drop n l
-
-unfoldable pub cleared : List ℤ → List ℤ
-cleared l = clearedTo area l
 
 -- ---- a job's part in a row
 

@@ -12,7 +12,7 @@ use Rattle.packed.specs.Judge.{Check, Verdict, fine, refused, judge, check}
 use Rattle.packed.specs.Packed.{numbersOf, orderOf}
 use Rattle.packed.specs.Refusals.{headerChecks, jobChecks, weightChecks, roomChecks}
 use Rattle.profiles.specs.Numbers.{mostNumbers, alternating, profileIn, holdsProfile, writtenOver}
-use Rattle.cells.specs.Work.{area}
+use Rattle.cells.specs.Area.{area}
 use Rattle.filling.specs.After.{workBy}
 use Rattle.extending.specs.declared.Extended.{Extended}
 use Rattle.extending.specs.declared.Extended.the-variants.{Refused, Points}

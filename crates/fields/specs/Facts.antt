@@ -14,7 +14,8 @@ use mir.Facts.{toZ-ofZ}
 use borrow.Table.Steps.{cases}
 use Rattle.seconds.specs.Limits.{heaviest, longest}
 use Rattle.seconds.specs.Signed.{signed, abs-is}
-use Rattle.seconds.specs.Ranges.{Between, isBetween, InTime, isTime, between-true, time-fits}
+use Rattle.seconds.specs.Ranges.{Between, isBetween, InTime, isTime}
+use Rattle.seconds.specs.RangesLaws.{between-true, time-fits}
 use Rattle.packed.specs.Layout.{decode, numberOf, jobLayout}
 use Rattle.packed.specs.Packed.{headerOf, countOf, t0Of, spareOf, jobFields, fieldsAt}
 use Rattle.packed.specs.PackedLaws.{fields-is, word-is}

@@ -11,6 +11,7 @@ use lib.ListN.{length, take, drop, getElem?}
 use Rattle.seconds.specs.Signed.{true-T}
 use Rattle.order.specs.Job.{Job, weightOf}
 use Rattle.order.specs.Within.{JobWithin, job-within, weightOf-append}
+use Rattle.order.specs.OneRate.{OneRate}
 use Rattle.packed.specs.Layout.{decode, numberOf, jobLayout}
 use Rattle.packed.specs.Places.{eachOf, each}
 use Rattle.packed.specs.PlacesLaws.{length-each}
@@ -67,11 +68,6 @@ one-of-each f at (suc m) zero h = rw (add-zero at)
 one-of-each f at (suc m) (suc k) h =
     let e : at + suc k ≡ suc at + k = omega arith in
     rw e (one-of-each f (suc at) m k (omega arith))
-
--- Jobs of one rate each.
-abbrev pub OneRate : List Job → Type 0
-OneRate [] = Unit {0}
-OneRate (j ∷ js) = (length (j .rates) ≡ 1) × OneRate js
 
 -- A job of six numbers has one.
 rate-of-each : (zs : ℕ → List ℤ) (at m : ℕ) → OneRate (eachOf (λ k. jobOf (zs k)) at m)

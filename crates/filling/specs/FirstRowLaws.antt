@@ -15,7 +15,7 @@ use mir.Val.{toZ, ofZ}
 use mir.Facts.{toZ-ofZ}
 use borrow.Table.Steps.{cases}
 use Rattle.seconds.specs.Limits.{mostWeight}
-use Rattle.seconds.specs.Ranges.{rest-small}
+use Rattle.seconds.specs.RangesLaws.{rest-small}
 use Rattle.seconds.specs.Signed.{signed}
 use Rattle.order.specs.Job.{Point}
 use Rattle.profile.specs.Profile.{orElse, lastPoint, weightOr0, lastWeight}

@@ -4,6 +4,7 @@ use mathlib.Core.Bool.{cond}
 use mathlib.Core.Option.{Option, none, some}
 use lib.IntN.{ℤ, pos, negsuc, _-ℤ_, natAbs}
 use lib.Signed.{leZ, ltZ}
+use Rattle.seconds.specs.Limits.{coldest}
 use Rattle.seconds.specs.Twos.{bitsTo}
 
 -- The degree is the byte in two's complement: a byte above 127 is its value less 256.
@@ -18,4 +19,4 @@ heatAt t =
 
 -- The length for a byte; none, refused, below -30 degrees.
 abbrev pub heatUp : ℕ → Option ℕ
-heatUp b = cond (ltZ (degreeOf b) (negsuc 29)) none (some (heatAt (degreeOf b)))
+heatUp b = cond (ltZ (degreeOf b) coldest) none (some (heatAt (degreeOf b)))

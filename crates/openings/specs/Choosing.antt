@@ -14,7 +14,7 @@ use Rattle.packed.specs.Layout.{headerBytes}
 use Rattle.packed.specs.Judge.{Check, Verdict, fine, refused, judge}
 use Rattle.packed.specs.Packed.{orderOf}
 use Rattle.packed.specs.Refusals.{roomChecks, orderChecks}
-use Rattle.cells.specs.Work.{area, cleared}
+use Rattle.cells.specs.Area.{area, cleared}
 use Rattle.openings.specs.declared.Chosen.{Chosen}
 use Rattle.openings.specs.declared.Chosen.the-variants.{Refused, First, Second}
 

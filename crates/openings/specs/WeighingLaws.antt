@@ -10,7 +10,7 @@ use mir.Syntax.{w32}
 use mir.Val.{toZ, ofZ}
 use mir.Facts.{toZ-ofZ}
 use Rattle.seconds.specs.Limits.{mostJobs}
-use Rattle.seconds.specs.Ranges.{time-fits}
+use Rattle.seconds.specs.RangesLaws.{time-fits}
 use Rattle.seconds.specs.Signed.{signed}
 use Rattle.order.specs.Job.{Point}
 use Rattle.order.specs.Choice.{outcomes}

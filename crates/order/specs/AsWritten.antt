@@ -1,11 +1,11 @@
--- A slip that document 01 keeps out, as a computed fact: a job whose ready time and length pass its deadline is never kept,
--- however early the bus is free.
+-- R4 at one job, as a computed fact: a job whose ready time and length pass its deadline is never kept, however early the
+-- bus is free. For every such job it is shown in Late.
 use mathlib.Core.Path.{_≡_, refl}
-use mathlib.Core.Bool.{Bool, true, false}
-use mathlib.Core.Option.{Option, none, some}
+use mathlib.Core.Bool.{false}
+use mathlib.Core.Option.{none}
 use lib.IntN.{pos}
 use Rattle.seconds.specs.Limits.{rest}
-use Rattle.order.specs.Job.{Job, Point, oneRate, allowed, move}
+use Rattle.order.specs.Job.{Job, oneRate, allowed, move}
 
 -- Ready 5, length 10, deadline 12.
 abbrev lateJob : Job

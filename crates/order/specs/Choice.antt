@@ -1,10 +1,10 @@
 -- Choices: when one is feasible, its finish, weights, starts and mask, and all that the choices of some jobs give.
 -- Definitions only.
-use Prim.Native.Nat.{ℕ, zero, suc, _+_, _*_, _^_, _-_}
+use Prim.Native.Nat.{ℕ, zero, suc, _+_, _*_, _^_}
 use mathlib.Core.Bool.{Bool, true, false, cond, _&&_}
 use mathlib.Core.List.{List, [], _∷_, _++_, map}
 use mathlib.Core.Option.{Option, none, some}
-use lib.IntN.{ℤ, pos}
+use lib.IntN.{ℤ}
 use Rattle.seconds.specs.Limits.{leftOut}
 use Rattle.order.specs.Job.{Job, Point, startAt, allowed, busFree, gainOf, lossOf, picks}
 

@@ -1,8 +1,8 @@
--- What is counted of a choice: weights, jobs kept, mask and starts; and feasibility in document 01's words.
+-- What is counted of a choice: weights, jobs kept, mask and starts; and feasibility in the words of R6.
 use Prim.Native.Nat.{ℕ, zero, suc, _+_, _^_, _≤_, _<_}
 use mathlib.Core.Path.{_≡_, refl, ap, ap₂, _∙_}
 use mathlib.Core.Bool.{true, and-eq-true-iff, false≢true}
-use mathlib.Core.List.{List, [], _∷_, _++_}
+use mathlib.Core.List.{List, [], _∷_}
 use mathlib.Core.Option.{Option, some, Option·none-ne-some, Option·some-injective}
 use native.Mathlib.Omega.{arith}
 use lib.Count.{ones, ones-cat}
@@ -70,14 +70,6 @@ finish-empty (j ∷ js) [] t e = refl
 finish-empty (j ∷ js) (zero ∷ c) t e = finish-empty js c t (omega arith)
 finish-empty (j ∷ js) (suc k ∷ c) t e = absurd (omega arith)
 
--- Joined choices finish one after the other.
-pub finish-join : (js ks : List Job) (c d : Choice) (t : ℤ) → length c ≡ length js
-    → finish (js ++ ks) (c ++ d) t ≡ finish ks d (finish js c t)
-finish-join [] ks [] d t e = refl
-finish-join [] ks (x ∷ c) d t e = absurd (omega arith)
-finish-join (j ∷ js) ks [] d t e = absurd (omega arith)
-finish-join (j ∷ js) ks (x ∷ c) d t e = finish-join js ks c d (busFree j x t) (omega arith)
-
 -- There is a start for each job.
 pub starts-length : (js : List Job) (c : Choice) (t : ℤ) → length c ≡ length js → length (starts js c t) ≡ length js
 starts-length [] c t e = refl
@@ -94,7 +86,7 @@ start-at (k ∷ js) (y ∷ c) t zero e f =
     ap₂ {C = Option ℤ} (λ l z. some (startOf l z t)) (Option·some-injective _ _ e) (Option·some-injective _ _ f)
 start-at (k ∷ js) (y ∷ c) t (suc i) e f = start-at js c (busFree k y t) i e f
 
--- ---- feasibility in document 01's words
+-- ---- feasibility in the words of R6
 
 -- A pick for each job, and at every place the pick holds for its start: critical jobs are kept, kept jobs end in time.
 pub record Holds (js : List Job) (c : Choice) (t : ℤ) : Type 0 where

@@ -1,6 +1,6 @@
 -- Points compared: one covers another if it is no later and no lighter, and a list gives a point if one of its own
--- covers it. All laws of profiles are stated over these.
-use mathlib.Core.List.{List, [], _∷_}
+-- covers it. All laws of profiles are stated over these. Definitions only.
+use mathlib.Core.List.{List, _∷_}
 use Prim.Native.Nat.{_≤_}
 use lib.Signed.{_≤ℤ_}
 use Rattle.order.specs.Job.{Point}

@@ -1,16 +1,15 @@
 -- Jobs, points, and a job's moves: what each pick of a job does to the time at which the bus is free.
--- Definitions only; the facts about moves stand in Moves, and nothing else opens them.
+-- Definitions only. The facts about moves stand in Moves, and nothing else opens them.
 use Prim.Native.Nat.{ℕ, zero, suc, _+_, _-_}
 use mathlib.Core.Bool.{Bool, true, false, not, cond, _&&_}
-use mathlib.Core.List.{List, [], _∷_, _++_, map}
+use mathlib.Core.List.{List, [], _∷_, _++_}
 use mathlib.Core.Option.{Option, none, some}
-use lib.Dec.{leb, ltb, eqb}
+use lib.Dec.{leb, eqb}
 use lib.IntN.{ℤ, pos, _+ℤ_}
 use lib.Signed.{leZ}
 use lib.ListN.{length, getElem?}
-use Rattle.seconds.specs.Limits.{rest, earliest, latest, longest, heaviest, mostWeight, mostJobs}
-use Rattle.seconds.specs.Signed.{maxZ}
-use Rattle.seconds.specs.Ranges.{isTime}
+use Rattle.seconds.specs.Limits.{rest, highestNumber, longest, heaviest, mostWeight, mostJobs}
+use Rattle.seconds.specs.Ranges.{maxZ, isTime}
 
 -- A rate at which a job may run: the seconds it then takes, and the weight it then counts.
 pub record Rate : Type 0 where
@@ -26,7 +25,7 @@ pub record Job : Type 0 where
   pub rates : List Rate
   pub deadline : ℤ
 
--- A job of document 01 has one rate: its length, at its full weight.
+-- A job of the rules has one rate: its length, at its full weight.
 abbrev pub oneRate : ℕ → Bool → ℕ → ℤ → ℕ → ℤ → Job
 oneRate n c w r l d =
     record { number = n; critical = c; weight = w; ready = r; rates = record { takes = l; gain = w } ∷ []; deadline = d }
@@ -54,7 +53,7 @@ ratesWithin w (r ∷ rs) = leb 1 (r .takes) && (leb (r .takes) longest && (leb (
 
 abbrev pub jobWithin : Job → Bool
 jobWithin j =
-    leb (j .number) 63 && (weightWithin (j .critical) (j .weight)
+    leb (j .number) highestNumber && (weightWithin (j .critical) (j .weight)
     && (isTime (j .ready) && (ratesWithin (j .weight) (j .rates) && isTime (j .deadline))))
 
 abbrev pub jobsWithin : List Job → Bool

@@ -1,4 +1,4 @@
--- Jobs, choices and what running a choice gives: the definitions of document 01, and their laws.
+-- Jobs, choices and what running a choice gives: the definitions by the rules, and their laws.
 pub mod Job
 pub mod Given
 pub mod Choice
@@ -9,3 +9,5 @@ pub mod Runs
 pub mod Outcomes
 pub mod GivenLaws
 pub mod Counts
+pub mod OneRate
+pub mod Late

@@ -12,15 +12,15 @@ use lib.IntN.{ℤ, pos, _+ℤ_, _-ℤ_}
 use lib.Signed.{leZ, _≤ℤ_}
 use lib.ListN.{length, getElem?}
 use Rattle.seconds.specs.Limits.{rest}
-use Rattle.seconds.specs.Signed.{signed, add-is, sub-is, max-is, min-is, minZ}
-use Rattle.seconds.specs.Ranges.{InFree}
+use Rattle.seconds.specs.Signed.{signed, add-is, sub-is, max-is, min-is}
+use Rattle.seconds.specs.Ranges.{minZ, InFree}
 use Rattle.order.specs.Job.{Rate, Job, Point, startAt, rateOf, finishAt, allowedAt, freeAt, gainAt}
 use Rattle.order.specs.Job.{allowed, busFree, gainOf, lossOf, upTo, picks, move}
 use Rattle.order.specs.Choice.{startOf}
 use Rattle.order.specs.Given.{Covers}
 use Rattle.order.specs.Within.{RateWithin, JobWithin}
 
--- ---- what is allowed, in document 01's words
+-- ---- what is allowed, in the words of R6
 
 -- The rate of a kept job.
 abbrev pub keptRate : Job → ℕ → Option Rate
@@ -234,7 +234,7 @@ has-rate j (r ∷ rs) zero t a = omega arith
 has-rate j (r ∷ rs) (suc k) t a = let h = has-rate j rs k t a in omega arith
 
 -- A pick beyond the rates is not allowed.
-pick-bounded : (j : Job) (x : ℕ) (t : ℤ) → allowed j x t ≡ true → x ≤ length (j .rates)
+pub pick-bounded : (j : Job) (x : ℕ) (t : ℤ) → allowed j x t ≡ true → x ≤ length (j .rates)
 pick-bounded j zero t a = omega arith
 pick-bounded j (suc k) t a = has-rate j (j .rates) k t a
 

@@ -7,15 +7,13 @@ use mathlib.Core.List.{List·Memᴰ, List·Memᴰ·head, List·Memᴰ·tail, Mem
 use mathlib.Core.Option.{Option, none, some, Option·some-injective, Option·none-ne-some}
 use native.Mathlib.Nat.{add-zero, add-assoc}
 use lib.Dec.{T}
-use lib.Signed.{_≤ℤ_}
 use lib.ListN.{length}
 use Rattle.seconds.specs.Ranges.{InFree}
-use Rattle.seconds.specs.Signed.{signed}
 use Rattle.order.specs.Job.{Job, Point, allowed, gainOf, picks, move, jobsWithin}
 use Rattle.order.specs.Choice.{Choice, feasible, finish, keptWeight, withEach, choices, run}
 use Rattle.order.specs.Given.{Covers}
 use Rattle.order.specs.Moves.{moveTo, moved, move-allowed, move-refused, move-monotone, point-path}
-use Rattle.order.specs.Moves.{pick-listed, busFree-later, busFree-in-range}
+use Rattle.order.specs.Moves.{pick-listed, busFree-in-range}
 use Rattle.order.specs.Within.{jobs-within}
 
 -- ---- pick by pick
@@ -178,16 +176,6 @@ ran js c p {q} e = go (feasible js c (p .time)) refl
 
 pub runs : (js : List Job) (c : Choice) (p : Point) {q : Point} → Ran js c p q → run js c p ≡ some q
 runs js c p m = rw (m .can) (ap {B = Option Point} some (point-path (sym (m .free)) (sym (m .sum))))
-
--- A run never ends earlier than it began.
-pub run-later : (js : List Job) (c : Choice) (p : Point) {q : Point} → run js c p ≡ some q → p .time ≤ℤ q .time
-run-later [] c p e = let same = ap (λ (r : Point). r .time) (run-none c p e .1) in omega signed
-run-later (j ∷ js) [] p e = absurd (Option·none-ne-some _ e)
-run-later (j ∷ js) (x ∷ c) p e =
-    let m = run-first j js x c p e in
-    let began = moved j x p (m .1) .free in
-    let ih = run-later js c (m .0) (m .2) in
-    omega (signed, busFree-later j x (p .time))
 
 -- With jobs within the limits, a bus-free time in range stays in range.
 pub run-in-range : (js : List Job) (c : Choice) (p : Point) {q : Point} → T (jobsWithin js) → InFree (p .time)

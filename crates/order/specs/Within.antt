@@ -12,7 +12,8 @@ use lib.IntN.{ℤ}
 use lib.ListN.{length, getElem?}
 use Rattle.seconds.specs.Limits.{earliest, latest, heaviest, longest, mostJobs, mostWeight}
 use Rattle.seconds.specs.Signed.{signed, true-T}
-use Rattle.seconds.specs.Ranges.{InTime, isTime, between-true}
+use Rattle.seconds.specs.Ranges.{InTime, isTime}
+use Rattle.seconds.specs.RangesLaws.{between-true}
 use Rattle.order.specs.Job.{Rate, Job, Order, rateOf, weightOf}
 use Rattle.order.specs.Job.{weightWithin, ratesWithin, jobWithin, jobsWithin, numbersUnlike, orderWithin}
 

@@ -1,2 +1,2 @@
-// Jobs, choices and runs: what document 01 says of them, and the facts about a job's moves on which
+// Jobs, choices and runs: what the rules say of them, and the facts about a job's moves on which
 // every other law rests. It has no code.

@@ -1,4 +1,4 @@
--- What it is to be accepted, in bytes and in numbers; and that what is accepted is an order of document 01.
+-- What it is to be accepted, in bytes and in numbers; and that what is accepted is an order by R2 and R3.
 use Prim.Native.Nat.{ℕ, zero, suc, _+_, _-_, _≤_, _<_}
 use mathlib.Core.Path.{_≡_, refl, sym, _∙_}
 use mathlib.Core.Bool.{false}
@@ -88,7 +88,7 @@ order-numbers bytes f =
       light = f .light;
     }
 
--- ---- the limits of document 01
+-- ---- the limits of R2 and R3
 
 each-within : (f : ℕ → Job) (at m : ℕ) → ((k : ℕ) → at ≤ k → k < at + m → T (jobWithin (f k))) → T (jobsWithin (eachOf f at m))
 each-within f at zero h = tt

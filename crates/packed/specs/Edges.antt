@@ -1,4 +1,4 @@
--- Both sides of the edges of packing and unpacking as one list: each verdict, and what document 01 says of it.
+-- Both sides of the edges of packing and unpacking as one list: each verdict, and what the rules say of it.
 -- One statement holds of the whole list, by computation.
 use Prim.Native.Nat.{ℕ}
 use mathlib.Core.Path.{_≡_, refl}
@@ -94,7 +94,7 @@ edges =
     ∷ edge (judge (unpackChecks (packOrder (pos 0) (weighing 1 1)) 5)) (refused 10 0)
     ∷ []
 
--- Every edge is where document 01 has it.
+-- Every edge is where the rules have it.
 pub edges-hold : map (λ (e : Edge). e .asked) edges ≡ map (λ (e : Edge). e .told) edges
 unfolding decode encode numberOf bytesOf bitsTo toBits part flat each first headerWord headerOf countOf t0Of spareOf
     recordAt jobWord jobFields numbersOf jobCount fieldsAt packedHeader packedJob packOrder jobOf jobsOf

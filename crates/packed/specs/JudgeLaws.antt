@@ -9,14 +9,6 @@ use lib.ListN.{getD}
 use borrow.Table.Steps.{cases}
 use Rattle.packed.specs.Judge.{Check, Verdict, fine, refused, judge, orElse, check}
 
--- A check that applies.
-pub judge-stop : (c : Check) (cs : List Check) → c .applies ≡ true → judge (c ∷ cs) ≡ refused (c .number) (c .place)
-judge-stop c cs e = rw e
-
--- A check that does not.
-pub judge-pass : (c : Check) (cs : List Check) → c .applies ≡ false → judge (c ∷ cs) ≡ judge cs
-judge-pass c cs e = rw e
-
 -- ---- stages
 
 -- Two stages, one behind the other.

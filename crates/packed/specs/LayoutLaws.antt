@@ -14,7 +14,8 @@ use lib.ListN.{length-replicate, length-append, length-take, length-drop, List·
 use lib.Seq.{drop-nil, take-suc, getD-take, getD-drop}
 use borrow.Author.Tests.{ltb-true, ltb-false}
 use borrow.Table.Steps.{cases}
-use Rattle.seconds.specs.Twos.{InBits, bitsTo, toBits, toBits-below, bitsTo-in, toBits-bitsTo, bitsTo-toBits}
+use Rattle.seconds.specs.Twos.{bitsTo, toBits}
+use Rattle.seconds.specs.TwosLaws.{InBits, toBits-below, toBits-bitsTo, bitsTo-toBits}
 use Rattle.packed.specs.Layout.{total, join, cut, Field, plain, twos, widthOf, widths, meaning}
 use Rattle.packed.specs.Layout.{bitsFor, meanings, digitsFor, decode, encode, numberOf, bytesOf, headerLayout, jobLayout}
 
@@ -76,12 +77,7 @@ meaning-bitsFor (plain w) (negsuc n) h = absurd h
 meaning-bitsFor (twos zero) z h = rw h (unfold bitsTo toBits in refl)
 meaning-bitsFor (twos (suc b)) z h = bitsTo-toBits b z h
 
--- What bits within its width mean can be held, and has those bits.
-meaning-held : (f : Field) {x : ℕ} → x < 2 ^ widthOf f → HeldBy f (meaning f x)
-meaning-held (plain w) h = h
-meaning-held (twos zero) h = ap (bitsTo 0) (lt-one h)
-meaning-held (twos (suc b)) {x} h = bitsTo-in b x h
-
+-- Bits within its width are those of what they mean.
 bitsFor-meaning : (f : Field) {x : ℕ} → x < 2 ^ widthOf f → bitsFor f (meaning f x) ≡ x
 bitsFor-meaning (plain w) h = refl
 bitsFor-meaning (twos zero) h = rw (lt-one h) (unfold bitsTo toBits in refl)
@@ -95,10 +91,6 @@ digitsFor-digits (held {f} {z} h r) = digit (bitsFor-lt f z h) (digitsFor-digits
 meanings-digitsFor : {fs : List Field} {zs : List ℤ} → Held fs zs → meanings fs (digitsFor fs zs) ≡ zs
 meanings-digitsFor no-field = refl
 meanings-digitsFor (held {f} {z} h r) = rw (meaning-bitsFor f z h, meanings-digitsFor r)
-
-meanings-held : (fs : List Field) {xs : List ℕ} → Digits (widths fs) xs → Held fs (meanings fs xs)
-meanings-held [] no-digit = no-field
-meanings-held (f ∷ fs) (digit h d) = held (meaning-held f h) (meanings-held fs d)
 
 digitsFor-meanings : (fs : List Field) {xs : List ℕ} → Digits (widths fs) xs → digitsFor fs (meanings fs xs) ≡ xs
 digitsFor-meanings [] no-digit = refl
@@ -116,12 +108,7 @@ pub decode-encode : {fs : List Field} {zs : List ℤ} → Held fs zs → decode 
 unfolding decode encode
 decode-encode {fs} h = rw (cut-join (digitsFor-digits h)) (meanings-digitsFor h)
 
--- A record of all the bits says numbers that the fields can hold.
-pub decode-held : (fs : List Field) {n : ℕ} → n < 2 ^ total (widths fs) → Held fs (decode fs n)
-unfolding decode
-decode-held fs h = meanings-held fs (cut-digits (widths fs) h)
-
--- They make it again.
+-- The numbers that a record of all the bits says make it again.
 pub encode-decode : (fs : List Field) {n : ℕ} → n < 2 ^ total (widths fs) → encode fs (decode fs n) ≡ n
 unfolding decode encode
 encode-decode fs h = rw (digitsFor-meanings fs (cut-digits (widths fs) h)) (join-cut (widths fs) h)
@@ -168,11 +155,6 @@ bytes-digits : (bs : List ℕ) → AreBytes bs → Digits (replicate (length bs)
 bytes-digits [] h = no-digit
 bytes-digits (b ∷ bs) h = digit (h 0) (bytes-digits bs (λ i. h (suc i)))
 
-digits-bytes : (k : ℕ) {bs : List ℕ} → Digits (replicate k 8) bs → AreBytes bs
-digits-bytes zero no-digit i = omega arith
-digits-bytes (suc k) (digit h d) zero = h
-digits-bytes (suc k) (digit h d) (suc i) = digits-bytes k d i
-
 -- Bytes make a number of 8 bits for each.
 pub numberOf-lt : (bs : List ℕ) → AreBytes bs → numberOf bs < 2 ^ (8 * length bs)
 unfolding numberOf
@@ -188,12 +170,7 @@ pub length-bytesOf : (k n : ℕ) → length (bytesOf k n) ≡ k
 unfolding bytesOf
 length-bytesOf k n = length-cut (replicate k 8) n ∙ length-replicate k 8
 
--- They are bytes, if the number has 8 bits for each.
-pub bytesOf-bytes : (k : ℕ) {n : ℕ} → n < 2 ^ (8 * k) → AreBytes (bytesOf k n)
-unfolding bytesOf
-bytesOf-bytes k h = digits-bytes k (cut-digits (replicate k 8) (rw (bytes-total k) h))
-
--- They make it again.
+-- They make it again, if it has 8 bits for each.
 pub numberOf-bytesOf : (k : ℕ) {n : ℕ} → n < 2 ^ (8 * k) → numberOf (bytesOf k n) ≡ n
 numberOf-bytesOf k {n} h =
     unfold numberOf bytesOf in rw (length-bytesOf k n) (join-cut (replicate k 8) (rw (bytes-total k) h))
@@ -213,11 +190,6 @@ written-read fs k bs e l h =
     rw (encode-decode fs b, ← l) (bytesOf-numberOf bs h)
 
 -- ---- byte by byte
-
--- No bytes make 0.
-pub numberOf-nil : numberOf [] ≡ 0
-unfolding numberOf
-numberOf-nil = refl
 
 -- One byte more at the front of a number.
 pub numberOf-cons : (b : ℕ) (bs : List ℕ) → numberOf (b ∷ bs) ≡ b * 2 ^ (8 * length bs) + numberOf bs
@@ -267,10 +239,6 @@ pub part-on : (bs : List ℕ) (at i : ℕ) → at + i < length bs
 part-on bs at i h =
     let e : i + 1 ≡ suc i = omega arith in
     rw (e, take-suc (drop at bs) i 0 (rw length-drop (omega arith)), numberOf-snoc, getD-drop)
-
--- A number of fewer than eight bytes has room for one more in 64 bits.
-pub byte-room : (i : ℕ) {n : ℕ} → i < 8 → n < 2 ^ (8 * i) → n < 2 ^ 56
-byte-room i h l = lt-of-lt-of-le l (pow-mono {i = 8 * i} {j = 56} (omega arith))
 
 -- ---- the header and the job, written out
 

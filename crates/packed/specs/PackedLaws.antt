@@ -4,8 +4,8 @@ use mathlib.Core.Path.{_≡_, refl, ap, ap₂, _∙_}
 use mathlib.Core.List.{List, [], _∷_, _++_}
 use native.Mathlib.Omega.{arith}
 use lib.IntN.{ℤ, pos, natAbs}
-use lib.ListN.{length, getD, take, drop, length-append, length-drop}
-use lib.Seq.{drop-drop, getD-take, getD-drop, take-all}
+use lib.ListN.{length, take, drop, length-append, length-drop}
+use lib.Seq.{drop-drop, take-all}
 use Rattle.seconds.specs.Twos.{bitsTo}
 use Rattle.order.specs.Job.{oneRate}
 use Rattle.packed.specs.Layout.{decode, encode, numberOf, headerLayout, jobLayout}
@@ -89,11 +89,6 @@ module _ (bytes : List ℕ) where
 
   -- ---- the order
 
-  -- Its bus-free time is the header's.
-  pub order-t0 : orderOf bytes .t0 ≡ t0Of bytes
-  unfolding orderOf
-  order-t0 = refl
-
   -- Its jobs are each from its own bytes.
   pub order-jobs : orderOf bytes .jobs ≡ each (jobIn bytes) 0 (countOf bytes)
   unfolding orderOf jobsOf
@@ -119,21 +114,11 @@ module _ (bytes : List ℕ) (n : ℕ) (whole : length bytes ≡ 4 + 8 * n) where
 
 -- ---- the jobs, in numbers
 
--- A number of the job at a place.
-pub field-is : (zs : List ℤ) (k i : ℕ) → i < 6 → getD (fieldsAt zs k) i (pos 0) ≡ getD zs (6 * k + i) (pos 0)
-unfolding fieldsAt part
-field-is zs k i h = rw (getD-take, getD-drop)
-
 -- The job of its numbers.
 pub job-is : (zs : List ℤ) → jobOf zs
     ≡ oneRate (natAbs (theNumber zs)) (isCritical zs) (natAbs (theWeight zs)) (theReady zs) (natAbs (theLength zs)) (theDeadline zs)
 unfolding jobOf
 job-is zs = refl
-
--- All jobs.
-pub jobs-is : (zs : List ℤ) → jobsOf zs ≡ each (jobAt zs) 0 (jobCount zs)
-unfolding jobsOf
-jobs-is zs = refl
 
 -- The numbers of n whole jobs.
 module _ (zs : List ℤ) (n : ℕ) (whole : length zs ≡ 6 * n) where

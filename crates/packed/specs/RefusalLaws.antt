@@ -14,8 +14,9 @@ use borrow.Author.Tests.{ltb-false, le-ltb, eqb-true, eq-eqb, not-false}
 use borrow.Table.Steps.{cases}
 use Rattle.seconds.specs.Limits.{longest, heaviest, mostWeight, mostJobs}
 use Rattle.seconds.specs.Signed.{signed, abs-is}
-use Rattle.seconds.specs.Ranges.{Between, isBetween, InTime, between-true}
-use Rattle.seconds.specs.Twos.{time-in}
+use Rattle.seconds.specs.Ranges.{Between, isBetween, InTime}
+use Rattle.seconds.specs.RangesLaws.{between-true}
+use Rattle.seconds.specs.TwosLaws.{time-in}
 use Rattle.order.specs.Job.{weightOf, weightWithin, jobWithin}
 use Rattle.packed.specs.Layout.{plain, jobLayout}
 use Rattle.packed.specs.LayoutLaws.{HeldBy, Held, no-field, held}
@@ -81,7 +82,7 @@ weight-within false w e =
     let high : leb (natAbs w) heaviest ≡ true = omega (signed, abs-is w) in
     rw (low, high)
 
--- Such numbers are a job within the limits of document 01.
+-- Such numbers are a job within the limits of R2.
 pub job-within : (zs : List ℤ) → Within zs → T (jobWithin (jobOf zs))
 unfolding jobOf
 job-within zs w =
@@ -166,10 +167,6 @@ repeated-no zs k = (there, back)
     back : ((j : ℕ) → j < k → numberAt zs j ≢ numberAt zs k) → repeatedAt zs k ≡ false
     back h =
         rw (first-none (sameAt zs k) 0 k (omega arith) (λ j a b. same-no _ _ .1 (h j b))) (le-ltb k k (omega arith))
-
--- A number that stood at an earlier place.
-pub repeated-yes : (zs : List ℤ) (j k : ℕ) → j < k → numberAt zs j ≡ numberAt zs k → repeatedAt zs k ≡ true
-repeated-yes zs j k h e = cases (repeatedAt zs k) (λ q. q) (λ q. absurd (repeated-no zs k .0 q j h e))
 
 -- ---- what it is to pass each stage
 

@@ -8,7 +8,7 @@ use lib.Dec.{ltb, eqb}
 use lib.IntN.{ℤ, pos}
 use lib.ListN.{length}
 use lib.Signed.{leZ}
-use Rattle.seconds.specs.Limits.{longest, heaviest, mostWeight, mostJobs}
+use Rattle.seconds.specs.Limits.{highestNumber, longest, heaviest, mostWeight, mostJobs}
 use Rattle.seconds.specs.Ranges.{isBetween, isTime}
 use Rattle.order.specs.Job.{weightOf}
 use Rattle.packed.specs.Layout.{headerBytes, jobBytes, jobNumbers}
@@ -26,7 +26,7 @@ weightTest critical w = cond critical (isBetween (pos 0) (pos 0) w) (isBetween (
 -- Each number of a job against its limits, in the sequence of the layout.
 abbrev pub fieldTests : List ℤ → List Bool
 fieldTests zs =
-    isBetween (pos 0) (pos 63) (theNumber zs)
+    isBetween (pos 0) (pos highestNumber) (theNumber zs)
     ∷ isBetween (pos 0) (pos 1) (theMark zs)
     ∷ weightTest (isCritical zs) (theWeight zs)
     ∷ isTime (theReady zs)

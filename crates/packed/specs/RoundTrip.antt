@@ -7,7 +7,7 @@ use native.Mathlib.Omega.{arith}
 use lib.IntN.{ℤ, pos}
 use lib.ListN.{length, take, take-append-drop}
 use lib.Seq.{length-take-le, take-at, drop-at}
-use Rattle.seconds.specs.Twos.{time-in}
+use Rattle.seconds.specs.TwosLaws.{time-in}
 use Rattle.packed.specs.Layout.{decode, encode, numberOf, bytesOf, headerLayout, jobLayout}
 use Rattle.packed.specs.LayoutLaws.{Held, no-field, held, AreBytes, part-bytes, read-written, written-read}
 use Rattle.packed.specs.Places.{flat}

@@ -1,4 +1,4 @@
--- The plan of an order: the definition of document 01, and its laws.
+-- The plan of an order: its definition by the rules, and its laws.
 pub mod Plan
 pub mod AsWritten
 pub mod Comparing
@@ -8,5 +8,6 @@ pub mod First
 pub mod PlanIs
 pub mod PlanProfile
 pub mod Figures
+pub mod Late
 pub mod Paper
 pub mod PaperLaws

@@ -1,5 +1,5 @@
--- Source 000, sections 2 and 3.2, in whole signed seconds and with the bus free at t0 where it starts at 0: feasible and
--- optimal schedules of some jobs, and when a set of scheduling points is complete and minimum. Definitions only.
+-- The paper (Hwang, Chen and Agrawala), sections 2 and 3.2, in whole signed seconds and with the bus free at t0 where it starts
+-- at 0: feasible and optimal schedules of some jobs, and when a set of scheduling points is complete and minimum. Definitions only.
 use Prim.Native.Nat.{_≤_, _<_}
 use mathlib.Core.Path.{_≡_}
 use mathlib.Core.Bool.{true}

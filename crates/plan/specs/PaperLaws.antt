@@ -1,4 +1,4 @@
--- What source 000 asks for holds here: the plan is an optimal schedule, and a set of scheduling points is complete and
+-- What the paper asks for holds here: the plan is an optimal schedule, and a set of scheduling points is complete and
 -- minimum exactly when it is the profile.
 use Prim.Native.Nat.{ℕ, _≤_}
 use mathlib.Core.Path.{_≡_, refl, ap₂}

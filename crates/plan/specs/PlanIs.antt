@@ -1,10 +1,10 @@
--- The plan as document 01 defines it: a feasible choice before which no feasible one ranks. The computed plan is that
+-- The plan as R7 defines it: a feasible choice before which no feasible one ranks. The computed plan is that
 -- choice, there is at most one, and there is none exactly where nothing is feasible. Then the ranking is spelled out.
-use Prim.Native.Nat.{ℕ, zero, suc, _+_, _≤_, _<_, Ordering, Ordering·lt, Ordering·eq, Ordering·gt}
+use Prim.Native.Nat.{ℕ, _≤_, _<_, Ordering, Ordering·lt, Ordering·eq, Ordering·gt}
 use mathlib.Core.Path.{_≡_, refl, sym, ap, _∙_}
-use mathlib.Core.Bool.{Bool, true, false, true≢false, false≢true, and-eq-true-iff}
+use mathlib.Core.Bool.{Bool, true, false, true≢false}
 use mathlib.Core.List.{List, [], _∷_}
-use mathlib.Core.List.{List·Memᴰ, List·Memᴰ·head, List·Memᴰ·tail, List·Memᴰ·not-nil, List·Memᴰ·eq-of-singleton}
+use mathlib.Core.List.{List·Memᴰ, List·Memᴰ·head, List·Memᴰ·not-nil}
 use mathlib.Core.Logic.{_↔_, _⊎_, inl, inr, ⊎-elim}
 use mathlib.Core.Option.{Option, none, some, Option·map, Option·some-injective, map-eq-some-iff}
 use native.Mathlib.Omega.{arith}
@@ -12,17 +12,17 @@ use lib.IntN.{ℤ}
 use lib.ListN.{length}
 use lib.Signed.{_≤ℤ_}
 use Rattle.seconds.specs.Signed.{signed, not-lt}
-use Rattle.order.specs.Job.{Job, Point, allowed, busFree, upTo}
+use Rattle.order.specs.Job.{Job, Point}
 use Rattle.order.specs.Choice.{Choice, feasible, finish, keptWeight, choices, run, results}
-use Rattle.order.specs.Moves.{point-path, pick-listed}
 use Rattle.order.specs.Runs.{Ran, ran, runs, choice-listed}
 use Rattle.order.specs.Outcomes.{result-in, result-of}
 use Rattle.order.specs.Counts.{feasible-holds}
+use Rattle.order.specs.OneRate.{OneRate, one-rate-marks, mark-at}
 use Rattle.profile.specs.Profile.{startPoint}
 use Rattle.plan.specs.Plan.{byLastPlace, Ended, ended, plan}
 use Rattle.plan.specs.Comparing.{byLastPlace-total}
 use Rattle.plan.specs.Ranking.{Before, Better, heavier, sooner, tied, before-is, same-rank}
-use Rattle.plan.specs.TieRule.{pickAt, SmallerAtLast, LeftOutAtLast, left-out-of, tie-rule}
+use Rattle.plan.specs.TieRule.{SmallerAtLast, LeftOutAtLast, left-out-of, tie-rule}
 use Rattle.plan.specs.First.{IsFirst, first-is, first-none}
 
 -- A choice with an end.
@@ -127,37 +127,12 @@ plan-some t js c h = go (plan t js) refl
     go none p = absurd (true≢false (sym h ∙ plan-none t js .0 p c))
     go (some e) p = (e, p)
 
--- ---- jobs with one rate, as those of document 01
-
-abbrev pub OneRate : List Job → Type 0
-OneRate [] = Unit {0}
-OneRate (j ∷ js) = (length (j .rates) ≡ 1) × OneRate js
-
-up-to-most : (from n : ℕ) {x : ℕ} → List·Memᴰ x (upTo from n) → x ≤ from + n
-up-to-most from zero m = omega (arith, List·Memᴰ·eq-of-singleton m)
-up-to-most from (suc n) (List·Memᴰ·head e) = omega arith
-up-to-most from (suc n) (List·Memᴰ·tail m) = omega (arith, up-to-most (suc from) n m)
-
--- A feasible choice leaves such a job out or keeps it at its rate.
-pub one-rate-picks : (js : List Job) (c : Choice) (t : ℤ) → OneRate js → feasible js c t ≡ true → (k : ℕ) → pickAt c k ≤ 1
-one-rate-picks js [] t one h k = omega arith
-one-rate-picks [] (x ∷ c) t one h k = absurd (false≢true h)
-one-rate-picks (j ∷ js) (x ∷ c) t one h zero =
-    let both = and-eq-true-iff (allowed j x t) (feasible js c (busFree j x t)) .0 h in
-    omega (arith, up-to-most 0 (length (j .rates)) (pick-listed j x t (both .0)), one .0)
-one-rate-picks (j ∷ js) (x ∷ c) t one h (suc k) =
-    let both = and-eq-true-iff (allowed j x t) (feasible js c (busFree j x t)) .0 h in
-    one-rate-picks js c (busFree j x t) (one .1) (both .1) k
-
--- ---- in document 01's words
+-- ---- in the words of R7
 
 module _ (t : ℤ) (js : List Job) (e : Ended) (p : IsPlan t js e) where
   -- The plan's choice is feasible, and the plan ends at that choice's finish with its kept weight.
   pub plan-ran : Ran js (e .choice) (startPoint t) (e .end)
   plan-ran = ran js (e .choice) (startPoint t) (p .feasible)
-
-  pub plan-end : e .end ≡ endOf t js (e .choice)
-  plan-end = point-path (plan-ran .free) (omega (arith, plan-ran .sum))
 
   module _ (d : Choice) (h : feasible js d t ≡ true) where
     none-better : ¬ Better (withEnd d (endOf t js d)) e
@@ -189,7 +164,7 @@ module _ (t : ℤ) (js : List Job) (e : Ended) (p : IsPlan t js e) where
     pub plan-leaves-out : OneRate js → keptWeight js d ≡ e .end .weight → finish js d t ≡ e .end .time
         → (d ≡ e .choice) ⊎ LeftOutAtLast (e .choice) d
     plan-leaves-out one w f =
-        ⊎-elim inl (λ s. inr (left-out-of s (one-rate-picks js d t one h (s .place)))) (plan-last-place w f)
+        ⊎-elim inl (λ s. inr (left-out-of s (mark-at d (one-rate-marks js d t one h) (s .place)))) (plan-last-place w f)
 
 -- All of it: feasible, of greatest kept weight, among those of least finish, and among those with the smaller pick at
 -- the last place where it differs from another.

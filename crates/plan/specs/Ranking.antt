@@ -1,4 +1,4 @@
--- What it is for one ended choice to rank before another, in the words of document 01.
+-- What it is for one ended choice to rank before another, in the words of R7.
 use Prim.Native.Nat.{ℕ, _<_, compare, Ordering, Ordering·lt, Ordering·eq, Ordering·gt}
 use mathlib.Core.Path.{_≡_, refl, sym}
 use mathlib.Core.Logic.{_↔_, _⊎_, inl, inr}

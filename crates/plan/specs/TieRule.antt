@@ -93,7 +93,3 @@ left-out-first c d n l = by-place c d n (l .place) (l .within) (omega arith) (l 
 -- Where the other's picks are at most 1, a smaller pick is left out against kept, so it comes first only so.
 pub left-out-of : {c d : Choice} (s : SmallerAtLast c d) → pickAt d (s .place) ≤ 1 → LeftOutAtLast c d
 left-out-of s one = record { place = s .place; within = s .within; leftOut = omega arith; kept = omega arith; after = s .after }
-
-pub first-leaves-out : (c d : Choice) → length c ≡ length d → ((k : ℕ) → pickAt d k ≤ 1) → byLastPlace c d ≡ Ordering·lt
-    → LeftOutAtLast c d
-first-leaves-out c d n one e = let s = place-of c d n e in left-out-of s (one (s .place))

@@ -10,7 +10,7 @@ use Rattle.packed.specs.Judge.{Check, Verdict, fine, refused, judge}
 use Rattle.packed.specs.Packed.{countOf, orderOf}
 use Rattle.packed.specs.Refusals.{roomChecks, orderChecks}
 use Rattle.profiles.specs.Numbers.{writtenOver}
-use Rattle.cells.specs.Work.{area}
+use Rattle.cells.specs.Area.{area}
 use Rattle.filling.specs.After.{workBy}
 use Rattle.planner.specs.declared.Figures.{Figures}
 use Rattle.planner.specs.declared.Planned.{Planned}

@@ -9,14 +9,16 @@ use native.Mathlib.Omega.{arith}
 use lib.Dec.{T}
 use lib.IntN.{ℤ}
 use lib.ListN.{length, drop}
-use Rattle.seconds.specs.Ranges.{InFree, time-free}
+use Rattle.seconds.specs.Ranges.{InFree}
+use Rattle.seconds.specs.RangesLaws.{time-free}
 use Rattle.order.specs.Job.{Job, Point, jobsWithin, weightOf}
 use Rattle.order.specs.Choice.{feasible, starts, mask, numberKept}
 use Rattle.order.specs.Runs.{run-length, run-in-range, ran}
 use Rattle.order.specs.Outcomes.{outcome-in}
 use Rattle.packed.specs.Packed.{countOf, t0Of, jobsIn}
 use Rattle.packed.specs.Accepted.{OrderFine, jobs-fit}
-use Rattle.fields.specs.Places.{OneRate, jobs-count, jobs-one-rate}
+use Rattle.order.specs.OneRate.{OneRate}
+use Rattle.fields.specs.Places.{jobs-count, jobs-one-rate}
 use Rattle.profile.specs.Profile.{startPoint}
 use Rattle.plan.specs.Plan.{Ended, plan}
 use Rattle.plan.specs.PlanIs.{plan-is}

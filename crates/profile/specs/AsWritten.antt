@@ -1,6 +1,6 @@
--- Slips of merging that document 01 keeps out, as computed facts.
+-- What merging must not keep, as computed facts.
 use mathlib.Core.Path.{_≡_, refl}
-use mathlib.Core.List.{List, [], _∷_}
+use mathlib.Core.List.{[], _∷_}
 use Prim.Native.Nat.{ℕ}
 use lib.IntN.{ℤ, pos}
 use Rattle.order.specs.Job.{Point}

@@ -12,7 +12,8 @@ use lib.IntN.{ℤ}
 use lib.ListN.{length, take, drop, take-append-drop}
 use Rattle.seconds.specs.Limits.{earliest, latestFree, mostWeight, mostPoints}
 use Rattle.seconds.specs.Signed.{true-T}
-use Rattle.seconds.specs.Ranges.{InFree, isFree, between-true, time-free}
+use Rattle.seconds.specs.Ranges.{InFree, isFree}
+use Rattle.seconds.specs.RangesLaws.{between-true, time-free}
 use Rattle.order.specs.Job.{Job, Order, Point, jobsWithin, weightOf, orderWithin}
 use Rattle.order.specs.Choice.{outcomes}
 use Rattle.order.specs.Within.{JobWithin, jobs-within, jobsWithin-append, order-within}

@@ -1,4 +1,4 @@
--- Extending, in document 01's words: at each time the greatest sum of a point's weight and the kept weight of a choice that
+-- Extending, in the words of R12: at each time the greatest sum of a point's weight and the kept weight of a choice that
 -- is feasible from that point and finishes by then; and the shortest profile that gives it.
 use Prim.Native.Nat.{ℕ, _+_}
 use mathlib.Core.Path.{_≡_, refl, sym, _∙_}

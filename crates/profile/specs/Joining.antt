@@ -1,12 +1,12 @@
 -- Extending and better-of put together, over all lists of points and jobs, the empty ones too: extending twice is extending
 -- by the joined jobs, better-of may be taken before extending, and better-of is as free of order as a maximum.
-use mathlib.Core.Path.{_≡_, refl, sym, ap, _∙_}
+use mathlib.Core.Path.{_≡_, sym, ap, _∙_}
 use mathlib.Core.List.{List, [], _∷_, _++_, append-assoc, append-nil}
 use mathlib.Core.Logic.{⊎-elim}
 use Rattle.order.specs.Job.{Job, Order, Point, joined}
 use Rattle.order.specs.Choice.{outcomes}
 use Rattle.order.specs.Given.{_⊑_}
-use Rattle.order.specs.Outcomes.{outcomes-none, outcomes-append}
+use Rattle.order.specs.Outcomes.{outcomes-append}
 use Rattle.order.specs.GivenLaws.{given-left, given-right, given-either}
 use Rattle.order.specs.GivenLaws.{same-refl, same-sym, same-trans, same-append, same-outcomes, same-then}
 use Rattle.profile.specs.Profile.{profileOf, extend, betterOf, startPoint, orderProfile}
@@ -14,10 +14,6 @@ use Rattle.profile.specs.Rising.{Rising}
 use Rattle.profile.specs.Points.{profileOf-same, profileOf-cong, profileOf-rising}
 
 -- ---- extending
-
--- By no jobs.
-pub extend-none : (P : List Point) → extend P [] ≡ profileOf P
-extend-none P = ap profileOf (outcomes-none P)
 
 -- By some jobs and then by others.
 pub extend-extend : (P : List Point) (A B : List Job) → extend (extend P A) B ≡ extend P (A ++ B)
@@ -59,9 +55,6 @@ betterOf-self P =
     profileOf-cong (record { to = λ r g. ⊎-elim (λ h. h) (λ h. h) (given-either P g); back = λ r g. given-left P g })
 
 -- With no points.
-pub none-betterOf : (P : List Point) → betterOf [] P ≡ profileOf P
-none-betterOf P = refl
-
 pub betterOf-none : (P : List Point) → betterOf P [] ≡ profileOf P
 betterOf-none P = ap profileOf (append-nil P)
 

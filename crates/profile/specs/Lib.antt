@@ -1,4 +1,4 @@
--- Profiles: the definitions of document 01, and their laws.
+-- Profiles: the definitions by the rules, and their laws.
 pub mod Profile
 pub mod AsWritten
 pub mod Rising

@@ -1,19 +1,13 @@
--- The profiles of an order's prefixes, made job by job, and the point total counted on the way.
-use Prim.Native.Nat.{ℕ, zero, suc, _+_, _<_}
-use mathlib.Core.Path.{_≡_, refl, sym, ap, _∙_}
+-- The point total counted job by job: the profile of each prefix is made from the one before.
+use Prim.Native.Nat.{ℕ, zero, suc, _+_}
+use mathlib.Core.Path.{_≡_, refl, ap, _∙_}
 use mathlib.Core.List.{List, [], _∷_}
 use native.Mathlib.Omega.{arith}
 use lib.IntN.{ℤ}
-use lib.ListN.{length, take, getD}
-use lib.Seq.{take-suc}
+use lib.ListN.{length, take}
 use Rattle.order.specs.Job.{Job, Point}
 use Rattle.profile.specs.Profile.{extend, startPoint, pointsUpTo, pointTotal}
 use Rattle.profile.specs.Joining.{extend-extend}
-
--- The profile after one job more is the profile before it, extended by that job; `past` is what getD finds past the end.
-pub extend-step : (P : List Point) (js : List Job) (k : ℕ) (past : Job) → k < length js
-    → extend P (take (suc k) js) ≡ extend (extend P (take k js)) (getD js k past ∷ [])
-extend-step P js k past h = ap (extend P) (take-suc js k past h) ∙ sym (extend-extend P (take k js) (getD js k past ∷ []))
 
 -- The points of the profiles after each job, each made from the one before.
 abbrev pub pointsFrom : List Point → List Job → ℕ

@@ -12,8 +12,8 @@ use lib.ListN.{length}
 use lib.Signed.{leZ, _≤ℤ_}
 use Rattle.seconds.specs.Signed.{signed}
 use Rattle.order.specs.Job.{Point}
-use Rattle.order.specs.Given.{Covers, Given, _⊑_, Same}
-use Rattle.order.specs.GivenLaws.{giver, given-by, given-own, given-covered}
+use Rattle.order.specs.Given.{_⊑_, Same}
+use Rattle.order.specs.GivenLaws.{giver, given-own, given-covered}
 use Rattle.profile.specs.Profile.{greater, worth, lookup, orElse, profileOf}
 use Rattle.profile.specs.Rising.{Rising, rising-none, rising-more, below-member}
 use Rattle.profile.specs.Points.{profileOf-rises, profileOf-same, rising-equal, profileOf-shortest}
@@ -54,22 +54,6 @@ pub worth-is : (ps : List Point) (t : ℤ) (o : Option ℕ) → worth ps t ≡ o
 worth-is ps t o = ((λ e. subst (Greatest (WeightBy ps t)) e (worth-greatest ps t)), greatest-one (worth-greatest ps t))
 
 -- ---- the worth at all times, and what a list gives
-
--- A list gives a point exactly when it is worth the point's weight, or more, at the point's time.
-pub given-worth : (ps : List Point) (r : Point) → Given r ps ↔ ((w : ℕ) × (worth ps (r .time) ≡ some w) × (r .weight ≤ w))
-given-worth ps r = (λ g. let m = giver g in go (m .0) (m .1) (m .2) (worth-greatest ps (r .time)), back)
-  where
-    go : (p : Point) → List·Memᴰ p ps → Covers p r → {o : Option ℕ} → Greatest (WeightBy ps (r .time)) o
-        → (w : ℕ) × (o ≡ some w) × (r .weight ≤ w)
-    go p m c (nothing f) = absurd (f (p .weight) (record { point = p; member = m; by = c .soon; weighs = refl }))
-    go p m c (greatest {w = w} h f) =
-        (w, refl, omega (arith, f (p .weight) (record { point = p; member = m; by = c .soon; weighs = refl }), c .heavy))
-
-    reached : {w : ℕ} → r .weight ≤ w → Greatest (WeightBy ps (r .time)) (some w) → Given r ps
-    reached l (greatest h f) = given-by (h .member) (record { soon = h .by; heavy = omega (arith, h .weighs) })
-
-    back : (w : ℕ) × (worth ps (r .time) ≡ some w) × (r .weight ≤ w) → Given r ps
-    back b = reached (b .2) (worth-is ps (r .time) (some (b .0)) .0 (b .1))
 
 -- A list that gives all that another gives reaches the other's weights at every time,
 given-under : {ps qs : List Point} → ps ⊑ qs → (t : ℤ) → Under (WeightBy ps t) (WeightBy qs t)

@@ -1,4 +1,4 @@
--- P8 of document 01 by rows: A and B both weigh 10 and one of them fits; B ends first, but C waits until 10 for either,
+-- P8 by rows: A and B both weigh 10 and one of them fits; B ends first, but C waits until 10 for either,
 -- so A is kept and the later B is left out. A walk along the earliest finishes would keep B.
 use Prim.Native.Nat.{ℕ, _-_}
 use mathlib.Core.Path.{_≡_, refl}

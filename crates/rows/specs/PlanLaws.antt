@@ -2,8 +2,6 @@
 -- from there, and there is none where the row has no cell.
 use Prim.Native.Nat.{ℕ, suc, _≤_, _<_}
 use mathlib.Core.Path.{_≡_, refl, sym, ap, _∙_}
-use mathlib.Core.Bool.{true≢false}
-use mathlib.Core.Logic.{_↔_}
 use mathlib.Core.List.{List, [], _∷_, reverse, reverse-reverse, append-nil}
 use mathlib.Core.Option.{Option, none, some, Option·map, Option·some-injective}
 use native.Mathlib.Omega.{arith}
@@ -13,14 +11,13 @@ use Rattle.seconds.specs.Signed.{signed}
 use Rattle.order.specs.Job.{Job, Point}
 use Rattle.order.specs.Choice.{Choice, run}
 use Rattle.order.specs.Moves.{point-path}
-use Rattle.order.specs.Runs.{ran}
 use Rattle.profile.specs.Profile.{startPoint}
 use Rattle.plan.specs.Plan.{Ended, plan}
 use Rattle.plan.specs.Ranking.{Better, heavier, sooner, tied, before-is}
-use Rattle.plan.specs.PlanIs.{withEnd, IsPlan, plan-is, plan-none}
-use Rattle.plan.specs.PlanProfile.{reached, reached-by, reaches}
+use Rattle.plan.specs.PlanIs.{withEnd, IsPlan, plan-is}
+use Rattle.plan.specs.PlanProfile.{reached, reaches}
 use Rattle.rows.specs.Row.{Row, point, startRow, rowAfter, By, Cell, Says, NonePast, reach, heaviest}
-use Rattle.rows.specs.RowLaws.{nothing-there, by-self, earliest-says, rows-say, back-is}
+use Rattle.rows.specs.RowLaws.{by-self, earliest-says, rows-say, back-is}
 use Rattle.rows.specs.Reach.{says-none-past, reach-none-past}
 use Rattle.rows.specs.ReadLaws.{Heaviest, no-cell, the-cell, heaviest-is}
 use Rattle.rows.specs.Walk.{onward, walkBack, walkFrom, planUpTo, planByRows}
@@ -116,19 +113,3 @@ module _ (t : ℤ) (js : List Job) where
 -- Every plan is the plan by rows.
 pub plan-by-rows : (t : ℤ) (js : List Job) → planByRows t js ≡ plan t js
 plan-by-rows t js = plan-up-to t js (reach js) (reach-none-past t js)
-
--- There is no plan exactly when the last row has no cell.
-pub no-plan-no-cell : (t : ℤ) (js : List Job) → (plan t js ≡ none) ↔ ((w : ℕ) → rowAfter js (startRow t) w ≡ none)
-no-plan-no-cell t js = (to, back)
-  where
-    back : ((w : ℕ) → rowAfter js (startRow t) w ≡ none) → plan t js ≡ none
-    back empty = no-cell-no-plan t js (reach js) (reach-none-past t js) (λ r c h. nothing-there (sym (empty (r .weight)) ∙ c))
-
-    to : plan t js ≡ none → (w : ℕ) → rowAfter js (startRow t) w ≡ none
-    to e w = go (rowAfter js (startRow t) w) refl
-      where
-        go : (cell : Option ℤ) → rowAfter js (startRow t) w ≡ cell → rowAfter js (startRow t) w ≡ none
-        go none d = d
-        go (some u) d =
-            let c = reached-by t js (last-says t js .listed (point u w) d) in
-            absurd (true≢false (sym (ran js (c .0) (startPoint t) (c .1) .can) ∙ plan-none t js .0 e (c .0)))

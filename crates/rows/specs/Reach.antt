@@ -7,15 +7,11 @@ use mathlib.Core.List.{List, [], _∷_, List·Memᴰ as In, List·Memᴰ·head a
 use mathlib.Core.List.{List·Memᴰ·not-nil as not-nil, List·Memᴰ·cases-cons as cases-cons, List·Memᴰ·eq-of-singleton}
 use mathlib.Core.Option.{Option, none, some}
 use native.Mathlib.Omega.{arith}
-use lib.Dec.{T, leb}
+use lib.Dec.{leb}
 use lib.IntN.{ℤ}
-use Rattle.order.specs.Job.{Job, Point, gainOf, picks, weightOf, jobsWithin}
-use Rattle.order.specs.Moves.{gain-light}
-use Rattle.order.specs.Within.{JobWithin, jobs-within}
+use Rattle.order.specs.Job.{Job, Point, gainOf, picks}
 use Rattle.profile.specs.Profile.{startPoint}
-use Rattle.profile.specs.Rising.{Rising}
-use Rattle.profile.specs.Last.{lastWeight, last-heaviest}
-use Rattle.rows.specs.Row.{Row, point, earliestOf, startRow, cellBy, earliestBy, nextRow, rowAfter}
+use Rattle.rows.specs.Row.{Row, point, startRow, cellBy, earliestBy, nextRow, rowAfter}
 use Rattle.rows.specs.Row.{Says, NonePast, mostOf, reach}
 use Rattle.rows.specs.RowLaws.{nothing-there, earliest-says}
 
@@ -47,10 +43,6 @@ start-none-past t =
     says-none-past (earliest-says (startPoint t ∷ [])) .1
     (λ q m. omega (arith, ap (λ (p : Point). p .weight) (List·Memᴰ·eq-of-singleton m)))
 
--- The row of a rising list has no cell past its last weight.
-pub earliest-none-past : {ps : List Point} → Rising ps → NonePast (lastWeight ps) (earliestOf ps)
-earliest-none-past {ps} rises = says-none-past (earliest-says ps) .1 (last-heaviest rises)
-
 -- ---- from row to row
 
 -- No cell of the next row is past the old top and the most that a pick adds.
@@ -70,11 +62,6 @@ next-none-past j {top} {most} {row} light n = record { past = λ w h. none-by (p
     none-by (x ∷ xs) light w h =
         rw (none-of x (light x (here refl)) w h) (none-by xs (λ y m. light y (there m)) w h)
 
--- A job within the limits adds at most its weight.
-pub next-none-past-within : (j : Job) {top : ℕ} {row : Row} → JobWithin j → NonePast top row
-    → NonePast (top + j .weight) (nextRow j row)
-next-none-past-within j k n = next-none-past j (λ x m. gain-light j x k) n
-
 -- No pick adds more than the most.
 pub most-of : (j : Job) (xs : List ℕ) (x : ℕ) → In x xs → gainOf j x ≤ mostOf j xs
 most-of j [] x m = absurd (not-nil m)
@@ -90,22 +77,3 @@ after-none-past (j ∷ js) {top} n =
 -- Of an order's rows none has a cell past what its jobs reach.
 pub reach-none-past : (t : ℤ) (js : List Job) → NonePast (reach js) (rowAfter js (startRow t))
 reach-none-past t js = none-past-more (omega arith) (after-none-past js (start-none-past t))
-
--- Jobs within the limits reach no further than their weights,
-most-light : (j : Job) (xs : List ℕ) → JobWithin j → mostOf j xs ≤ j .weight
-most-light j [] k = omega arith
-most-light j (x ∷ xs) k = omega (arith, gain-light j x k, most-light j xs k)
-
-pub reach-light : (js : List Job) → T (jobsWithin js) → reach js ≤ weightOf js
-reach-light [] k = omega arith
-reach-light (j ∷ js) k =
-    let within = jobs-within j js k in
-    omega (arith, most-light j (picks j) (within .0), reach-light js (within .1))
-
--- so no cell is past those: of an order, and after any row.
-pub weight-none-past : (t : ℤ) (js : List Job) → T (jobsWithin js) → NonePast (weightOf js) (rowAfter js (startRow t))
-weight-none-past t js k = none-past-more (reach-light js k) (reach-none-past t js)
-
-pub within-none-past : (js : List Job) {top : ℕ} {row : Row} → T (jobsWithin js) → NonePast top row
-    → NonePast (top + weightOf js) (rowAfter js row)
-within-none-past js k n = none-past-more (omega (arith, reach-light js k)) (after-none-past js n)

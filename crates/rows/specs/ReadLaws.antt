@@ -192,12 +192,7 @@ read-off-is row top = profileOf-only (read-rises row (suc top) held-none) (recor
 pub read-profile : {row : Row} {ps : List Point} (top : ℕ) → Says row ps → NonePast top row → readOff row top ≡ profileOf ps
 read-profile {row} top s n = read-off-is row top ∙ profileOf-cong (cells-same top s n)
 
--- Extending gives the profile of the cells of the row after the jobs,
-pub extend-by-cells : (ps : List Point) (js : List Job) (top : ℕ) → NonePast top (rowAfter js (earliestOf ps))
-    → extend ps js ≡ profileOf (cells (rowAfter js (earliestOf ps)) top)
-extend-by-cells ps js top n = sym (profileOf-cong (cells-same top (rows-say js ps) n))
-
--- which the one pass reads off.
+-- So extending gives what the one pass reads off the row after the jobs.
 pub extend-by-rows : (ps : List Point) (js : List Job) (top : ℕ) → NonePast top (rowAfter js (earliestOf ps))
     → extend ps js ≡ readOff (rowAfter js (earliestOf ps)) top
 extend-by-rows ps js top n = sym (read-profile top (rows-say js ps) n)

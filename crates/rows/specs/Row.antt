@@ -9,7 +9,7 @@ use lib.Dec.{leb, eqb}
 use lib.IntN.{ℤ}
 use lib.Signed.{ltZ, _≤ℤ_}
 use lib.ListN.{take}
-use Rattle.seconds.specs.Signed.{minZ}
+use Rattle.seconds.specs.Ranges.{minZ}
 use Rattle.order.specs.Job.{Job, Point, allowed, busFree, gainOf, picks}
 use Rattle.order.specs.Choice.{consIf}
 use Rattle.profile.specs.Profile.{orElse, startPoint}

@@ -48,14 +48,6 @@ pub earlier-none : (a : Option ℤ) → earlier a none ≡ a
 earlier-none none = refl
 earlier-none (some a) = refl
 
--- A third may be joined to either side.
-pub earlier-assoc : (a b c : Option ℤ) → earlier (earlier a b) c ≡ earlier a (earlier b c)
-earlier-assoc none b c = refl
-earlier-assoc (some a) none c = refl
-earlier-assoc (some a) (some b) none = refl
-earlier-assoc (some a) (some b) (some c) =
-    ap some (omega (signed, min-is a b, min-is (minZ a b) c, min-is b c, min-is a (minZ b c)))
-
 -- It comes by any time by which one of them comes.
 pub by-left : (a b : Option ℤ) (u : ℤ) → By a u → By (earlier a b) u
 by-left none b u h = nothing-there (h .is)
@@ -72,25 +64,6 @@ by-right (some a) (some b) u h =
     record { time = minZ a b; is = refl; soon = omega (signed, min-is a b) }
 
 -- ---- what a row says
-
--- Two cells, each by the time of the other, are one.
-pub same-cell : (a b : Option ℤ) → ((t : ℤ) → a ≡ some t → By b t) → ((t : ℤ) → b ≡ some t → By a t) → a ≡ b
-same-cell none none f g = refl
-same-cell none (some t) f g = nothing-there (g t refl .is)
-same-cell (some t) none f g = nothing-there (f t refl .is)
-same-cell (some t) (some u) f g =
-    let h = f t refl in
-    let k = g u refl in
-    let d : u ≡ h .time = Option·some-injective u (h .time) (h .is) in
-    let e : t ≡ k .time = Option·some-injective t (k .time) (k .is) in
-    ap some (omega signed)
-
--- Two rows that say the same list agree at each weight.
-pub says-one : {row other : Row} {ps : List Point} → Says row ps → Says other ps → (w : ℕ) → row w ≡ other w
-says-one {row} {other} r s w =
-    same-cell (row w) (other w)
-    (λ t e. s .earliest (point t w) (r .listed (point t w) e))
-    (λ t e. r .earliest (point t w) (s .listed (point t w) e))
 
 -- A row that says a list says any list of the same points.
 pub says-along : {row : Row} {ps qs : List Point} → ((r : Point) → In r ps → In r qs) → ((r : Point) → In r qs → In r ps)
@@ -125,13 +98,6 @@ earliest-says (p ∷ ps) =
           (λ n. by-right (cellOf p (q .weight)) (earliestOf ps (q .weight)) (q .time) (s .earliest q n))
           (cases-cons m);
     }
-
--- The row of two lists.
-pub earliest-append : (ps qs : List Point) (w : ℕ) → earliestOf (ps ++ qs) w ≡ earlier (earliestOf ps w) (earliestOf qs w)
-earliest-append [] qs w = refl
-earliest-append (p ∷ ps) qs w =
-    ap (earlier (cellOf p w)) (earliest-append ps qs w)
-    ∙ sym (earlier-assoc (cellOf p w) (earliestOf ps w) (earliestOf qs w))
 
 -- ---- from row to row
 

@@ -16,7 +16,7 @@ use lib.ListN.{length}
 use lib.Signed.{leZ, _≤ℤ_}
 use Rattle.seconds.specs.Signed.{signed}
 use Rattle.order.specs.Job.{Job, Point, gainOf, upTo, picks, move}
-use Rattle.order.specs.Choice.{Choice, run, bitOf, maskOf, mask, numberKept}
+use Rattle.order.specs.Choice.{Choice, run, bitOf, maskOf, mask}
 use Rattle.order.specs.Moves.{Moved, moved, moves, moveTo, latestBefore, latest-before, latest-allows, pick-listed}
 use Rattle.order.specs.Runs.{run-nil, run-more, run-last, run-length}
 use Rattle.order.specs.Outcomes.{outcome-in}
@@ -170,11 +170,6 @@ met : (before : List Job) (p : Point) {row : Row} → Says row (p ∷ []) → (c
     → run (reverse before) c p ≡ some q → By (rowBack before row (q .weight)) (q .time)
 met before p s c q r =
     back-says before (p ∷ []) s .earliest q (outcome-in (reverse before) (p ∷ []) c (here refl) r)
-
--- So where there is a choice that leaves a weight by a time, the walk from there has a cell to begin with.
-pub ends-by : (before : List Job) (p : Point) {row : Row} → Says row (p ∷ []) → (w : ℕ) (by : ℤ) (c : Choice)
-    → Ends (reverse before) p w by c → By (rowBack before row w) by
-ends-by before p s w by c e = rw (e .weighs) at (by-later (met before p s c (e .end) (e .runs)) (e .soon))
 
 -- ---- the tie rule with one place more
 
@@ -338,9 +333,3 @@ bits-mask c h = let n : 64 - length c + length c ≡ 64 = omega arith in ap (λ 
 pub walk-bits : (k : ℕ) (before : List Job) (row : Row) (w : ℕ) (by : ℤ) (after : Choice)
     → foldBack withPick before row w by (bitsOf k after) ≡ Option·map (bitsOf k) (walkBack before row w by after)
 walk-bits k before row w by after = fold-is withPick (bitsOf k) (bits-more k) before row w by after
-
--- The number of jobs kept is counted on the way.
-pub walk-kept : (before : List Job) (row : Row) (w : ℕ) (by : ℤ) (after : Choice)
-    → foldBack (λ (x n : ℕ). bitOf x + n) before row w by (numberKept after)
-    ≡ Option·map numberKept (walkBack before row w by after)
-walk-kept before row w by after = fold-is (λ (x n : ℕ). bitOf x + n) numberKept (λ x c. refl) before row w by after

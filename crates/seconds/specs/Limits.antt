@@ -1,4 +1,4 @@
--- The numbers that document 01 fixes, once each.
+-- The numbers that the rules fix, once each. Definitions only.
 use Prim.Native.Nat.{ℕ, _+_}
 use lib.IntN.{ℤ, pos, negsuc}
 
@@ -16,6 +16,10 @@ latest = pos 100000
 -- The latest bus-free time that a job within its deadline can leave: a point's time reaches this far.
 abbrev pub latestFree : ℤ
 latestFree = pos (100000 + rest)
+
+-- The highest number of a job; the lowest is 0.
+abbrev pub highestNumber : ℕ
+highestNumber = 63
 
 -- The longest job, in seconds.
 abbrev pub longest : ℕ
@@ -38,3 +42,7 @@ mostPoints = 301
 -- What stands for the start of a job that is left out.
 abbrev pub leftOut : ℤ
 leftOut = pos 200000
+
+-- The coldest cell that is heated, in degrees.
+abbrev pub coldest : ℤ
+coldest = negsuc 29

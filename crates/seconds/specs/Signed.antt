@@ -2,20 +2,21 @@
 -- needs no range: the laws are rules of one set, `omega signed`. Sums and the like are facts, listed: `omega (signed, add-is x y)`.
 use Prim.Native.Nat.{ℕ, zero, suc, _+_, _*_, _^_, _≤_, _<_, min, max}
 use mathlib.Core.Path.{_≡_, refl, sym, ap, _∙_, subst}
-use mathlib.Core.Bool.{Bool, true, false, not, cond}
-use mathlib.Core.Logic.{_⊎_, inl, inr, ⊎-elim, _≢_, _↔_}
+use mathlib.Core.Bool.{Bool, true, false, not}
+use mathlib.Core.Logic.{_⊎_, inl, inr, ⊎-elim, _≢_}
 use native.Mathlib.Nat.{add-zero, zero-add}
 use native.Mathlib.Omega.{arith}
-use lib.Dec.{T, T-prop, leb, ltb, eqb, leb→le, le→leb, nleb→lt, eqb→eq, leb·suc-suc}
+use lib.Dec.{T, leb, ltb, eqb, leb→le, le→leb, nleb→lt, eqb→eq, leb·suc-suc}
 use lib.Arith.{lt→nleb}
 use lib.Ieee.Bits.{is-true, is-false}
-use lib.IntN.{ℤ, pos, negsuc, _+ℤ_, _-ℤ_, _*ℤ_, negℤ, natAbs, subℕ}
+use lib.IntN.{ℤ, pos, negsuc, _+ℤ_, _-ℤ_, negℤ, natAbs, subℕ}
 use lib.Signed.{leZ, ltZ, _≤ℤ_, _<ℤ_, mag, nonNeg}
-use mir.Syntax.{Width, w32}
+use mir.Syntax.{Width}
 use mir.Val.{SFits, hbits, toZ, ofZ}
 use mir.Facts.{toZ-ofZ}
 use borrow.Author.Tests.{ltb-true, ltb-false, leb-true, leb-false, lt-ltb, le-ltb, le-leb, lt-leb, eqb-true, eqb-false, eq-eqb, ne-eqb}
 use borrow.Table.Steps.{cases}
+pub use Rattle.seconds.specs.Ranges.{maxZ, minZ}
 
 -- ---- an integer as a difference
 
@@ -28,14 +29,6 @@ up (negsuc n) = 0
 abbrev pub dn : ℤ → ℕ
 dn (pos n) = 0
 dn (negsuc n) = suc n
-
--- The later of two numbers.
-abbrev pub maxZ : ℤ → ℤ → ℤ
-maxZ x y = cond (leZ x y) y x
-
--- The earlier of two numbers.
-abbrev pub minZ : ℤ → ℤ → ℤ
-minZ x y = cond (leZ x y) x y
 
 -- ---- facts to list with their arguments: what the operations do to the difference
 
@@ -64,11 +57,6 @@ neg-is (negsuc n) = (refl, refl)
 -- A difference.
 pub sub-is : (x y : ℤ) → up (x -ℤ y) + (dn x + up y) ≡ (up x + dn y) + dn (x -ℤ y)
 sub-is x y = omega (arith, add-is x (negℤ y), neg-is y)
-
--- A multiple.
-pub mul-is : (x : ℤ) (k : ℕ) → (up (x *ℤ pos k) ≡ up x * k) × (dn (x *ℤ pos k) ≡ dn x * k)
-mul-is (pos a) k = omega arith
-mul-is (negsuc a) k = omega (arith, neg-is (pos (suc a * k)))
 
 -- The size: the sum of the parts, and the distance between them.
 pub abs-is : (z : ℤ) → (natAbs z ≡ up z + dn z) × (natAbs z + (up z + dn z) ≡ 2 * max (up z) (dn z))
@@ -270,10 +258,6 @@ pub ruleset signed = (arith, reads, holds)
 
 -- ---- more facts to list with their arguments
 
--- Two numbers that differ.
-pub ne-is : (x y : ℤ) → x ≢ y → up x + dn y ≢ up y + dn x
-ne-is x y h e = h (eq-holds x y e)
-
 -- The later of two.
 pub max-is : (x y : ℤ) → up (maxZ x y) + (dn x + dn y) ≡ max (up x + dn y) (up y + dn x) + dn (maxZ x y)
 max-is x y = cases (leZ x y) (λ e. rw e (omega signed)) (λ e. rw e (omega signed))
@@ -287,24 +271,9 @@ min-is x y = cases (leZ x y) (λ e. rw e (omega signed)) (λ e. rw e (omega sign
 pub ≤ℤ-trans : {x y z : ℤ} → x ≤ℤ y → y ≤ℤ z → x ≤ℤ z
 ≤ℤ-trans h k = omega signed
 
-pub ≤ℤ-antisym : {x y : ℤ} → x ≤ℤ y → y ≤ℤ x → x ≡ y
-≤ℤ-antisym h k = omega signed
-
-pub <ℤ→≤ℤ : {x y : ℤ} → x <ℤ y → x ≤ℤ y
-<ℤ→≤ℤ h = omega signed
-
 -- One number is at or before the other, or after it.
 pub leZ-split : (x y : ℤ) → (x ≤ℤ y) ⊎ (y <ℤ x)
 leZ-split x y = cases (leZ x y) (λ e. inl (omega signed)) (λ e. inr (omega signed))
-
--- One number is before the other, or equal to it, or after it.
-pub <ℤ-split : (x y : ℤ) → (x <ℤ y) ⊎ ((x ≡ y) ⊎ (y <ℤ x))
-<ℤ-split x y = go (leZ-split x y) (leZ-split y x)
-  where
-    go : (x ≤ℤ y) ⊎ (y <ℤ x) → (y ≤ℤ x) ⊎ (x <ℤ y) → (x <ℤ y) ⊎ ((x ≡ y) ⊎ (y <ℤ x))
-    go (inl h) (inl k) = inr (inl (omega signed))
-    go (inl h) (inr k) = inl k
-    go (inr h) k = inr (inr h)
 
 -- What is not in order is in the other order.
 pub not-le : {x y : ℤ} → ¬ (x ≤ℤ y) → y <ℤ x
@@ -313,52 +282,6 @@ not-le {x} {y} h = ⊎-elim (λ k. absurd (h k)) (λ k. k) (leZ-split x y)
 pub not-lt : {x y : ℤ} → ¬ (x <ℤ y) → y ≤ℤ x
 not-lt {x} {y} h = ⊎-elim (λ k. k) (λ k. absurd (h k)) (leZ-split y x)
 
--- What the tests decide.
-pub leZ-true : (x y : ℤ) → leZ x y ≡ true ↔ x ≤ℤ y
-leZ-true x y = omega signed
-
-pub leZ-false : (x y : ℤ) → leZ x y ≡ false ↔ y <ℤ x
-leZ-false x y = omega signed
-
-pub ltZ-true : (x y : ℤ) → ltZ x y ≡ true ↔ x <ℤ y
-ltZ-true x y = omega signed
-
-pub ltZ-false : (x y : ℤ) → ltZ x y ≡ false ↔ y ≤ℤ x
-ltZ-false x y = omega signed
-
--- Each order is a proposition.
-pub ≤ℤ-prop : (x y : ℤ) → IsProp (x ≤ℤ y)
-≤ℤ-prop x y h k = λ i. record { le = T-prop (leZ x y) (h .le) (k .le) i }
-
-pub <ℤ-prop : (x y : ℤ) → IsProp (x <ℤ y)
-<ℤ-prop x y h k = λ i. record { lt = T-prop (ltZ x y) (h .lt) (k .lt) i }
-
 -- Numbers that fit and have the same bits are equal: what `==` in code tells.
 pub same-bits : {w : Width} {x y : ℤ} → SFits w x → SFits w y → ofZ w x ≡ ofZ w y → x ≡ y
 same-bits {w} f g e = sym (toZ-ofZ f) ∙ ap (toZ w) e ∙ toZ-ofZ g
-
--- ---- examples of what `omega signed` closes
-
--- A chain of orders and equations.
-chain : (w x y z : ℤ) → w ≤ℤ x → x <ℤ y → y ≡ z → w <ℤ z
-chain w x y z h k e = omega signed
-
--- A sum, with its fact.
-sum : (x y : ℤ) → x ≤ℤ y → x ≤ℤ (y +ℤ pos 3)
-sum x y h = omega (signed, add-is y (pos 3))
-
--- A need of code: the sum fits, its first part read through its bits.
-need : (x y : ℤ) → SFits w32 x → negsuc 99999 ≤ℤ x → x ≤ℤ pos 100000 → SFits w32 (toZ w32 (ofZ w32 x) +ℤ pos 10000)
-need x y f a b = omega signed
-
--- The same with no range but the type's.
-bounded : (x y : ℤ) → SFits w32 x → SFits w32 y → T (ltZ x y) → SFits w32 (x +ℤ pos 1)
-bounded x y f g t = omega (signed, mag-is x, mag-is y)
-
--- Tests passed and failed.
-tests : (x y : ℤ) (m n : ℕ) → leZ x y ≡ false → T (leZ (pos m) y) → eqb m n ≡ true → ltZ (pos n) x ≡ true
-tests x y m n d t e = omega signed
-
--- The later of two.
-latest-of : (x y z : ℤ) → x ≤ℤ z → y ≤ℤ z → maxZ x y ≤ℤ z
-latest-of x y z h k = omega (signed, max-is x y)

@@ -2,21 +2,18 @@
 -- ones in the mask are the jobs kept.
 use Prim.Native.Nat.{ℕ, zero, suc, _+_, _*_, _-_, _/_, _%_, _^_, _≤_, _<_}
 use mathlib.Core.Path.{_≡_, refl, sym, ap, ap₂, _∙_}
-use mathlib.Core.Bool.{true, and-eq-true-iff, false≢true}
-use mathlib.Core.Logic.{⊎-elim}
+use mathlib.Core.Bool.{true}
 use mathlib.Core.List.{List, [], _∷_}
-use mathlib.Core.List.{List·Memᴰ as In, List·Memᴰ·eq-of-singleton as eq-of-singleton, List·Memᴰ·cases-cons as cases-cons}
 use native.Mathlib.Nat.{pow-suc, mul-assoc, div-eq-of-lt, div-one, mul-add-div-right, mul-div-mul-right, mod-eq-of-lt}
 use native.Mathlib.Omega.{arith}
 use lib.Count.{ones}
 use lib.IntN.{ℤ}
 use lib.ListN.{length, getD}
 use lib.Pow.{pow-pos, pow-add, high, low, split, field, mod-mod-pow}
-use Rattle.order.specs.Job.{Job, allowed, busFree}
+use Rattle.order.specs.Job.{Job}
 use Rattle.order.specs.Choice.{Choice, feasible, bitOf, maskOf, mask, numberKept}
-use Rattle.order.specs.Moves.{pick-listed}
 use Rattle.order.specs.Counts.{mask-fits, kept-is-ones, feasible-holds}
-use Rattle.fields.specs.Places.{OneRate}
+use Rattle.order.specs.OneRate.{OneRate, Marks, one-rate-marks}
 use Rattle.starting.specs.Picks.{picksOf, placesKept}
 
 -- No picks,
@@ -36,12 +33,7 @@ length-picks (suc n) m = ap length (picks-more n m) ∙ ap suc (length-picks n (
 
 -- ---- a choice from its mask
 
--- The picks are noughts and ones.
-abbrev pub Marks : Choice → Type 0
-Marks [] = Unit {0}
-Marks (x ∷ c) = (x ≤ 1) × Marks c
-
--- Then a pick is its own bit.
+-- A pick that is nought or one is its own bit.
 own-bit : (x : ℕ) → x ≤ 1 → bitOf x ≡ x
 own-bit zero h = refl
 own-bit (suc zero) h = refl
@@ -66,24 +58,12 @@ picks-mask (x ∷ c) m h =
     picks-more (length c) (mask (x ∷ c))
     ∙ ap₂ (λ y l. y ∷ l) first (ap (picksOf (length c)) further ∙ picks-mask c (m .1) (omega arith))
 
--- Feasible choices of jobs of one rate each have noughts and ones only,
-feasible-marks : (js : List Job) (c : Choice) (t : ℤ) → OneRate js → feasible js c t ≡ true → Marks c
-feasible-marks [] [] t o h = tt
-feasible-marks [] (x ∷ c) t o h = absurd (false≢true h)
-feasible-marks (j ∷ js) [] t o h = tt
-feasible-marks (j ∷ js) (x ∷ c) t o h =
-    let both = and-eq-true-iff (allowed j x t) (feasible js c (busFree j x t)) .0 h in
-    let listed : In x (0 ∷ 1 ∷ []) = rw (o .0) at (pick-listed j x t (both .0)) in (
-      ⊎-elim (λ e. omega arith) (λ k. omega (arith, eq-of-singleton k)) (cases-cons listed),
-      feasible-marks js c (busFree j x t) (o .1) (both .1),
-    )
-
--- so they are read back from their masks.
+-- So feasible choices of jobs of one rate each are read back from their masks.
 pub picks-feasible : (js : List Job) (c : Choice) (t : ℤ) → OneRate js → length js ≤ 64 → feasible js c t ≡ true
     → picksOf (length js) (mask c) ≡ c
 picks-feasible js c t o few h =
     let each = feasible-holds js c t h .each in
-    rw (← each) (picks-mask c (feasible-marks js c t o h) (omega arith))
+    rw (← each) (picks-mask c (one-rate-marks js c t o h) (omega arith))
 
 -- ---- a mask from its choice
 

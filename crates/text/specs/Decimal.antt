@@ -1,4 +1,4 @@
--- Numbers in decimal as bytes, and lines of them: what the program prints.
+-- Numbers in decimal as bytes, and lines of them: what the program prints. Definitions only.
 use Prim.Native.Nat.{ℕ, zero, suc, _+_, _/_, _%_}
 use mathlib.Core.Bool.{cond}
 use mathlib.Core.List.{List, [], _∷_, _++_, map}

@@ -1,52 +1,42 @@
--- P1 to P11 of document 01 as one list: each question, and the figures that document 01 gives for it.
+-- P1 to P11 as one list, with an order of no jobs and a job that never runs: each question as a call is asked it, and the
+-- figures that the rules give for it. Answers and lent numbers are those of the definitions that the calls' contracts cite.
 -- One statement holds of the whole list, by computation.
+use Prim.Native.Nat.{ℕ, _*_}
 use mathlib.Core.Path.{_≡_, refl}
-use Prim.Native.Nat.{ℕ}
-use mathlib.Core.Bool.{Bool, true, false}
+use mathlib.Core.Bool.{true, false}
 use mathlib.Core.List.{List, [], _∷_, _++_, map}
-use mathlib.Core.Option.{Option, none, some}
 use lib.IntN.{ℤ, pos, negsuc}
-use Rattle.seconds.specs.Limits.{rest, leftOut}
-use Rattle.seconds.specs.Twos.{bitsTo}
-use Rattle.order.specs.Job.{Job, Order, Point, oneRate}
-use Rattle.profile.specs.Profile.{lookup, betterOf, orderProfile}
-use Rattle.plan.specs.Plan.{Answer, planAnswer}
-use Rattle.heat.specs.Heat.{heatUp}
-
--- ---- answers as figures
-
--- A plan's line: refusal, place, jobs kept, kept weight, lost weight, finish, point total; then the starts.
-abbrev planLine : Option Answer → List ℤ
-planLine none = pos 11 ∷ pos 0 ∷ []
-planLine (some a) =
-    pos 0 ∷ pos 0 ∷ pos (a .kept) ∷ pos (a .keptWeight) ∷ pos (a .lostWeight) ∷ a .finish ∷ pos (a .points) ∷ a .starts
-
--- A profile as alternating numbers.
-abbrev alternating : List Point → List ℤ
-alternating [] = []
-alternating (p ∷ ps) = p .time ∷ pos (p .weight) ∷ alternating ps
-
--- A lookup: found, weight.
-abbrev found : Option Point → List ℤ
-found none = pos 0 ∷ pos 0 ∷ []
-found (some p) = pos 1 ∷ pos (p .weight) ∷ []
-
--- A heat-up: refusal, length.
-abbrev heating : Option ℕ → List ℤ
-heating none = pos 12 ∷ pos 0 ∷ []
-heating (some l) = pos 0 ∷ pos l ∷ []
+use lib.ListN.{length, take, replicate}
+use Rattle.seconds.specs.Limits.{rest}
+use Rattle.seconds.specs.Twos.{bitsTo, toBits}
+use Rattle.order.specs.Job.{Order, oneRate}
+use Rattle.packed.specs.Layout.{decode, encode, numberOf, bytesOf}
+use Rattle.packed.specs.Places.{part, flat, each, first}
+use Rattle.packed.specs.Packed.{headerWord, headerOf, countOf, t0Of, spareOf, recordAt, jobWord, jobFields, numbersOf}
+use Rattle.packed.specs.Packed.{jobCount, fieldsAt, packedHeader, packedJob, packOrder, jobOf, jobsOf, orderOf}
+use Rattle.packed.specs.Refusals.{fieldsWithin, firstBad, numberAt, firstRepeat, headerChecks, jobChecks, weightChecks}
+use Rattle.profiles.specs.Answer.{lookupOf, lookupRefusal, foundOf, weightFound}
+use Rattle.better.specs.Answer.{joinedOf, joinRefusal, pointsWritten as pointsJoined, outAfter as joinedAfter}
+use Rattle.extending.specs.Calls.{extendJudged, extendChecks, extendedOf, extendRefusal, pointsWritten, outAfter}
+use Rattle.planner.specs.Calls.{planChecks, plannedOf, planNumbers, PlanNumbers, startsAfter}
+use Rattle.heat.specs.Answer.{heatingOf, refusalOf as heatRefusal, lengthOf}
 
 -- ---- the orders
 
+-- A job's six numbers: its number, whether it is critical, weight, ready time, length and deadline.
+abbrev job : ℕ → ℕ → ℕ → ℤ → ℕ → ℤ → List ℤ
+job number critical weight ready long deadline =
+    pos number ∷ pos critical ∷ pos weight ∷ ready ∷ pos long ∷ deadline ∷ []
+
 -- Single jobs and pairs are numbered by their place, ready at 0, with the bus free at 0.
-abbrev critical : ℕ → ℕ → ℤ → Job
-critical n l d = oneRate n true 0 (pos 0) l d
+abbrev critical : ℕ → ℕ → ℤ → List ℤ
+critical number long deadline = job number 1 0 (pos 0) long deadline
 
-abbrev worth10 : ℕ → ℕ → ℤ → Job
-worth10 n l d = oneRate n false 10 (pos 0) l d
+abbrev worth10 : ℕ → ℕ → ℤ → List ℤ
+worth10 number long deadline = job number 0 10 (pos 0) long deadline
 
-abbrev from0 : List Job → Order
-from0 js = record { t0 = pos 0; jobs = js }
+abbrev from0 : List ℤ → List ℕ
+from0 jobs = packOrder (pos 0) jobs
 
 -- The order of P1: five jobs, the bus free at -600.
 abbrev pub morning : Order
@@ -62,81 +52,151 @@ morning =
           ∷ [];
     }
 
-abbrev point : ℤ → ℕ → Point
-point t w = record { time = t; weight = w }
+-- The same packed.
+abbrev packedMorning : List ℕ
+packedMorning =
+    packOrder (negsuc 599)
+    (job 7 1 0 (negsuc 599) 495 (pos 0)
+    ++ (job 3 0 20 (negsuc 199) 300 (pos 250)
+    ++ (job 12 0 15 (pos 0) 200 (pos 300) ++ (job 5 1 0 (pos 100) 100 (pos 450) ++ job 9 0 15 (pos 0) 100 (pos 500)))))
+
+pub morning-packed : orderOf packedMorning ≡ morning
+unfolding bitsTo toBits decode encode numberOf bytesOf part flat each headerWord headerOf countOf t0Of recordAt jobWord
+    jobFields numbersOf jobCount fieldsAt packedHeader packedJob packOrder jobOf jobsOf orderOf
+morning-packed = refl
+
+-- ---- the answers as figures
+
+-- Of a plan: refusal, place, jobs kept, kept weight, lost weight, finish, point total.
+abbrev figures : PlanNumbers → List ℤ
+figures n =
+    pos (n .refusal) ∷ pos (n .place) ∷ pos (n .kept) ∷ pos (n .keptWeight) ∷ pos (n .lostWeight) ∷ n .finish ∷ pos (n .points)
+    ∷ []
+
+-- Of a lookup: refusal, found, weight.
+abbrev found : List ℤ → ℤ → List ℤ
+found profile t =
+    let r = lookupOf profile t in
+    pos (lookupRefusal r) ∷ pos (foundOf r) ∷ pos (weightFound r) ∷ []
+
+-- Of heating: refusal, length.
+abbrev heated : ℕ → List ℤ
+heated byte = pos (heatRefusal (heatingOf byte)) ∷ pos (lengthOf (heatingOf byte)) ∷ []
 
 -- ---- the list
+
+-- The numbers of P1's profile, as P2 tells them.
+abbrev morningProfile : List ℤ
+morningProfile = pos 200 ∷ pos 0 ∷ pos 295 ∷ pos 20 ∷ pos 395 ∷ pos 35 ∷ []
 
 pub record Example : Type 0 where
   pub asked : List ℤ
   pub told : List ℤ
 
-abbrev pub examples : List Example
-examples =
-    -- P1: jobs 7, 3, 5 and 9 are kept, job 12 is left out
-    record {
-      asked = planLine (planAnswer morning);
-      told =
-          pos 0 ∷ pos 0 ∷ pos 4 ∷ pos 35 ∷ pos 15 ∷ pos 395 ∷ pos 10
-          ∷ negsuc 599 ∷ negsuc 104 ∷ leftOut ∷ pos 195 ∷ pos 295 ∷ [];
-    }
-    -- P2: its profile
-    ∷ record {
-      asked = alternating (orderProfile morning);
-      told = pos 200 ∷ pos 0 ∷ pos 295 ∷ pos 20 ∷ pos 395 ∷ pos 35 ∷ [];
-    }
-    -- P3: lookups at 199, 200, 394 and 395
-    ∷ record { asked = found (lookup (orderProfile morning) (pos 199)); told = pos 0 ∷ pos 0 ∷ [] }
-    ∷ record { asked = found (lookup (orderProfile morning) (pos 200)); told = pos 1 ∷ pos 0 ∷ [] }
-    ∷ record { asked = found (lookup (orderProfile morning) (pos 394)); told = pos 1 ∷ pos 20 ∷ [] }
-    ∷ record { asked = found (lookup (orderProfile morning) (pos 395)); told = pos 1 ∷ pos 35 ∷ [] }
-    -- P4: a critical job that just meets its deadline
-    ∷ record {
-      asked = planLine (planAnswer (from0 (critical 0 10 (pos 10) ∷ [])));
-      told = pos 0 ∷ pos 0 ∷ pos 1 ∷ pos 0 ∷ pos 0 ∷ pos 10 ∷ pos 1 ∷ pos 0 ∷ [];
-    }
-    -- P5: one that does not, and a non-critical one
-    ∷ record { asked = planLine (planAnswer (from0 (critical 0 10 (pos 9) ∷ []))); told = pos 11 ∷ pos 0 ∷ [] }
-    ∷ record {
-      asked = planLine (planAnswer (from0 (worth10 0 10 (pos 9) ∷ [])));
-      told = pos 0 ∷ pos 0 ∷ pos 0 ∷ pos 0 ∷ pos 10 ∷ pos 0 ∷ pos 1 ∷ leftOut ∷ [];
-    }
-    -- P6: of two alike the first is kept
-    ∷ record {
-      asked = planLine (planAnswer (from0 (worth10 0 10 (pos 10) ∷ worth10 1 10 (pos 10) ∷ [])));
-      told = pos 0 ∷ pos 0 ∷ pos 1 ∷ pos 10 ∷ pos 10 ∷ pos 10 ∷ pos 4 ∷ pos 0 ∷ leftOut ∷ [];
-    }
-    -- P7: the second is shorter, and is kept
-    ∷ record {
-      asked = planLine (planAnswer (from0 (worth10 0 10 (pos 10) ∷ worth10 1 5 (pos 10) ∷ [])));
-      told = pos 0 ∷ pos 0 ∷ pos 1 ∷ pos 10 ∷ pos 10 ∷ pos 5 ∷ pos 4 ∷ leftOut ∷ pos 0 ∷ [];
-    }
-    -- P8: A and C, though B alone would end before A
-    ∷ record {
-      asked =
-          planLine
-          (planAnswer
-          (from0 (worth10 0 4 (pos 4) ∷ worth10 1 2 (pos 4) ∷ oneRate 2 true 0 (pos 10) 1 (pos 11) ∷ [])));
-      told = pos 0 ∷ pos 0 ∷ pos 2 ∷ pos 10 ∷ pos 10 ∷ pos 11 ∷ pos 5 ∷ pos 0 ∷ leftOut ∷ pos 10 ∷ [];
-    }
-    -- P9: better-of
-    ∷ record {
-      asked = alternating (betterOf (point (pos 0) 0 ∷ point (pos 20) 7 ∷ []) (point (pos 5) 7 ∷ []));
-      told = pos 0 ∷ pos 0 ∷ pos 5 ∷ pos 7 ∷ [];
-    }
-    -- P10: the bytes 255, 0, 9 and 10
-    ∷ record {
-      asked = heating (heatUp 255) ++ (heating (heatUp 0) ++ (heating (heatUp 9) ++ heating (heatUp 10)));
-      told = pos 0 ∷ pos 495 ∷ pos 0 ∷ pos 450 ∷ pos 0 ∷ pos 45 ∷ pos 0 ∷ pos 0 ∷ [];
-    }
-    -- P11: the bytes 246, 245, 226 and 225
-    ∷ record {
-      asked = heating (heatUp 246) ++ (heating (heatUp 245) ++ (heating (heatUp 226) ++ heating (heatUp 225)));
-      told = pos 0 ∷ pos 900 ∷ pos 0 ∷ pos 1020 ∷ pos 0 ∷ pos 3300 ∷ pos 12 ∷ pos 0 ∷ [];
-    }
-    ∷ []
+-- Beside an example's own numbers a call is lent room for a profile and a work area: 602 and 14,749 numbers, of any values.
+module _ (out work : List ℤ) where
+  -- A plan's figures, then the starts, which were 1 for each job.
+  abbrev planned : List ℕ → ℕ → List ℤ
+  planned order jobs =
+      figures (planNumbers (plannedOf order (replicate jobs (pos 1)) work)) ++ startsAfter order (replicate jobs (pos 1)) work
 
--- Every example comes out as document 01 says.
-pub examples-hold : map (λ (e : Example). e .asked) examples ≡ map (λ (e : Example). e .told) examples
-unfolding rest bitsTo
-examples-hold = refl
+  -- Of extending and of better-of: refusal, points written, and the numbers written.
+  abbrev extended : List ℤ → List ℕ → List ℤ
+  extended profile order =
+      let points = pointsWritten (extendedOf profile order out work) in
+      pos (extendRefusal (extendedOf profile order out work)) ∷ pos points ∷ take (2 * points) (outAfter profile order out work)
+
+  abbrev joined : List ℤ → List ℤ → List ℤ
+  joined p q =
+      let points = pointsJoined (joinedOf p q out) in
+      pos (joinRefusal (joinedOf p q out)) ∷ pos points ∷ take (2 * points) (joinedAfter p q out)
+
+  abbrev pub examples : List Example
+  examples =
+      -- P1: the packed header and the first record
+      record {
+        asked = map pos (take 12 packedMorning);
+        told =
+            pos 0x17 ∷ pos 0xFD ∷ pos 0xA8 ∷ pos 0x00
+            ∷ pos 0x1E ∷ pos 0x03 ∷ pos 0xFD ∷ pos 0xA8 ∷ pos 0x07 ∷ pos 0xBC ∷ pos 0x00 ∷ pos 0x00 ∷ [];
+      }
+      -- P1: jobs 7, 3, 5 and 9 are kept, job 12 is left out
+      ∷ record {
+        asked = planned packedMorning 5;
+        told =
+            pos 0 ∷ pos 0 ∷ pos 4 ∷ pos 35 ∷ pos 15 ∷ pos 395 ∷ pos 10
+            ∷ negsuc 599 ∷ negsuc 104 ∷ pos 200000 ∷ pos 195 ∷ pos 295 ∷ [];
+      }
+      -- P2: its profile, from the point (-600, 0): three points
+      ∷ record {
+        asked = extended (negsuc 599 ∷ pos 0 ∷ []) packedMorning;
+        told = pos 0 ∷ pos 3 ∷ pos 200 ∷ pos 0 ∷ pos 295 ∷ pos 20 ∷ pos 395 ∷ pos 35 ∷ [];
+      }
+      -- P3: lookups in it at 199, 200, 394 and 395
+      ∷ record { asked = found morningProfile (pos 199); told = pos 0 ∷ pos 0 ∷ pos 0 ∷ [] }
+      ∷ record { asked = found morningProfile (pos 200); told = pos 0 ∷ pos 1 ∷ pos 0 ∷ [] }
+      ∷ record { asked = found morningProfile (pos 394); told = pos 0 ∷ pos 1 ∷ pos 20 ∷ [] }
+      ∷ record { asked = found morningProfile (pos 395); told = pos 0 ∷ pos 1 ∷ pos 35 ∷ [] }
+      -- P4: a critical job that just meets its deadline
+      ∷ record {
+        asked = planned (from0 (critical 0 10 (pos 10))) 1;
+        told = pos 0 ∷ pos 0 ∷ pos 1 ∷ pos 0 ∷ pos 0 ∷ pos 10 ∷ pos 1 ∷ pos 0 ∷ [];
+      }
+      -- P5: one that does not is refused, and the start stays; a non-critical one is left out
+      ∷ record {
+        asked = planned (from0 (critical 0 10 (pos 9))) 1;
+        told = pos 11 ∷ pos 0 ∷ pos 0 ∷ pos 0 ∷ pos 0 ∷ pos 0 ∷ pos 0 ∷ pos 1 ∷ [];
+      }
+      ∷ record {
+        asked = planned (from0 (worth10 0 10 (pos 9))) 1;
+        told = pos 0 ∷ pos 0 ∷ pos 0 ∷ pos 0 ∷ pos 10 ∷ pos 0 ∷ pos 1 ∷ pos 200000 ∷ [];
+      }
+      -- P6: of two alike the first is kept
+      ∷ record {
+        asked = planned (from0 (worth10 0 10 (pos 10) ++ worth10 1 10 (pos 10))) 2;
+        told = pos 0 ∷ pos 0 ∷ pos 1 ∷ pos 10 ∷ pos 10 ∷ pos 10 ∷ pos 4 ∷ pos 0 ∷ pos 200000 ∷ [];
+      }
+      -- P7: the second is shorter, and is kept
+      ∷ record {
+        asked = planned (from0 (worth10 0 10 (pos 10) ++ worth10 1 5 (pos 10))) 2;
+        told = pos 0 ∷ pos 0 ∷ pos 1 ∷ pos 10 ∷ pos 10 ∷ pos 5 ∷ pos 4 ∷ pos 200000 ∷ pos 0 ∷ [];
+      }
+      -- P8: A and C, though B alone would end before A
+      ∷ record {
+        asked = planned (from0 (worth10 0 4 (pos 4) ++ (worth10 1 2 (pos 4) ++ job 2 1 0 (pos 10) 1 (pos 11)))) 3;
+        told = pos 0 ∷ pos 0 ∷ pos 2 ∷ pos 10 ∷ pos 10 ∷ pos 11 ∷ pos 5 ∷ pos 0 ∷ pos 200000 ∷ pos 10 ∷ [];
+      }
+      -- no jobs: the finish is the bus-free time, and all counts are 0 (R24)
+      ∷ record {
+        asked = planned (packOrder (pos 5) []) 0;
+        told = pos 0 ∷ pos 0 ∷ pos 0 ∷ pos 0 ∷ pos 0 ∷ pos 5 ∷ pos 0 ∷ [];
+      }
+      -- ready 5, length 10, deadline 12: left out, though the bus is free at 0 (R4)
+      ∷ record {
+        asked = planned (from0 (job 0 0 1 (pos 5) 10 (pos 12))) 1;
+        told = pos 0 ∷ pos 0 ∷ pos 0 ∷ pos 0 ∷ pos 1 ∷ pos 0 ∷ pos 1 ∷ pos 200000 ∷ [];
+      }
+      -- P9: the better of two profiles: two points
+      ∷ record {
+        asked = joined (pos 0 ∷ pos 0 ∷ pos 20 ∷ pos 7 ∷ []) (pos 5 ∷ pos 7 ∷ []);
+        told = pos 0 ∷ pos 2 ∷ pos 0 ∷ pos 0 ∷ pos 5 ∷ pos 7 ∷ [];
+      }
+      -- P10: the bytes 255, 0, 9 and 10
+      ∷ record {
+        asked = heated 255 ++ (heated 0 ++ (heated 9 ++ heated 10));
+        told = pos 0 ∷ pos 495 ∷ pos 0 ∷ pos 450 ∷ pos 0 ∷ pos 45 ∷ pos 0 ∷ pos 0 ∷ [];
+      }
+      -- P11: the bytes 246, 245, 226 and 225
+      ∷ record {
+        asked = heated 246 ++ (heated 245 ++ (heated 226 ++ heated 225));
+        told = pos 0 ∷ pos 900 ∷ pos 0 ∷ pos 1020 ∷ pos 0 ∷ pos 3300 ∷ pos 12 ∷ pos 0 ∷ [];
+      }
+      ∷ []
+
+  -- Every example comes out as the rules say.
+  pub examples-hold : length out ≡ 602 → length work ≡ 14749
+      → map (λ (e : Example). e .asked) examples ≡ map (λ (e : Example). e .told) examples
+  unfolding rest bitsTo toBits decode encode numberOf bytesOf part flat each first headerWord headerOf countOf t0Of spareOf
+      recordAt jobWord jobFields numbersOf jobCount fieldsAt packedHeader packedJob packOrder jobOf jobsOf orderOf fieldsWithin
+      firstBad numberAt firstRepeat headerChecks jobChecks weightChecks planChecks extendJudged extendChecks
+  examples-hold room area = rw (room, area)

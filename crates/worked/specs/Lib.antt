@@ -1,2 +1,3 @@
--- The worked examples of document 01, computed on the definitions.
+-- The worked examples and the figures of the rules, computed on the definitions.
+pub mod Figures
 pub mod Examples

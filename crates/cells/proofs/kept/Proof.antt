@@ -9,7 +9,8 @@ use mir.Syntax.{w32}
 use mir.Val.{SFits, toZ, ofZ}
 use mir.Facts.{toZ-ofZ}
 use Rattle.seconds.specs.Limits.{rest}
-use Rattle.seconds.specs.Ranges.{InTime, time-fits}
+use Rattle.seconds.specs.Ranges.{InTime}
+use Rattle.seconds.specs.RangesLaws.{time-fits}
 use Rattle.seconds.specs.Signed.{signed, maxZ}
 use Rattle.cells.specs.Work.{seen}
 use Rattle.cells.specs.CellLaws.{first-later, second-later, finish-in-time, kept-in-time, kept-too-late}

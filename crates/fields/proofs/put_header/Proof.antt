@@ -8,7 +8,8 @@ use denote.Ref.{now}
 use lib.ListN.{drop}
 use mir.Facts.{toZ-ofZ}
 use borrow.Author.Needs.{needs}
-use Rattle.seconds.specs.Twos.{toBits, toBits-below, time-in}
+use Rattle.seconds.specs.Twos.{toBits}
+use Rattle.seconds.specs.TwosLaws.{toBits-below, time-in}
 use Rattle.packed.specs.Layout.{bytesOf}
 use Rattle.packed.specs.LayoutLaws.{header-encode}
 use Rattle.packed.specs.Packed.{packedHeader}

@@ -8,7 +8,7 @@ use mir.Val.{SFits, toZ}
 use mir.Facts.{toZ-pos, toZ-ofZ}
 use borrow.Author.Needs.{needs}
 use Rattle.seconds.specs.Signed.{signed, sub-is}
-use Rattle.seconds.specs.Twos.{low-half, high-half}
+use Rattle.seconds.specs.TwosLaws.{low-half, high-half}
 use Rattle.fields.proofs.time_of.Statement.{statement}
 use Rattle.fields.proofs.time_of.Tie as tie
 

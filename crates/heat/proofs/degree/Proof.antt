@@ -8,7 +8,7 @@ use mir.Val.{SFits, toZ}
 use mir.Facts.{toZ-pos, toZ-ofZ}
 use borrow.Author.Needs.{needs}
 use Rattle.seconds.specs.Signed.{signed, sub-is}
-use Rattle.seconds.specs.Twos.{byte-low, byte-high}
+use Rattle.seconds.specs.TwosLaws.{byte-low, byte-high}
 use Rattle.heat.proofs.degree.Statement.{statement}
 use Rattle.heat.proofs.degree.Tie as tie
 

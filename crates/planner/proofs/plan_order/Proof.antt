@@ -7,7 +7,7 @@ use mir.Syntax.{w32}
 use mir.Val.{SFits}
 use mir.Facts.{toZ-ofZ}
 use borrow.Author.Needs.{needs}
-use Rattle.seconds.specs.Ranges.{time-fits}
+use Rattle.seconds.specs.RangesLaws.{time-fits}
 use Rattle.packed.specs.Accepted.{order-fine}
 use Rattle.fields.specs.Facts.{HeaderRead, header-read}
 use Rattle.planner.specs.CallLaws.{plan-no-room, plan-no-space, plan-done}

@@ -8,7 +8,8 @@ use mir.Val.{SFits, toZ, ofZ}
 use mir.Facts.{toZ-ofZ}
 use borrow.Author.Needs.{needs}
 use Rattle.seconds.specs.Limits.{rest}
-use Rattle.seconds.specs.Ranges.{InTime, time-fits}
+use Rattle.seconds.specs.Ranges.{InTime}
+use Rattle.seconds.specs.RangesLaws.{time-fits}
 use Rattle.seconds.specs.Signed.{maxZ}
 use Rattle.fields.specs.Fields.{asJob}
 use Rattle.fields.specs.Facts.{JobFacts, job-facts, JobFits, facts-fit}

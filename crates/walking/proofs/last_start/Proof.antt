@@ -7,7 +7,7 @@ use mir.Val.{SFits, toZ, ofZ}
 use mir.Facts.{toZ-ofZ}
 use borrow.Author.Needs.{needs}
 use Rattle.seconds.specs.Limits.{rest}
-use Rattle.seconds.specs.Ranges.{rest-small}
+use Rattle.seconds.specs.RangesLaws.{rest-small}
 use Rattle.seconds.specs.Signed.{signed, add-is, sub-is, minZ, min-is}
 use Rattle.walking.proofs.last_start.Statement.{statement}
 use Rattle.walking.proofs.last_start.Tie as tie

@@ -11,7 +11,7 @@ use mir.Syntax.{w32}
 use mir.Val.{toZ, ofZ}
 use mir.Facts.{toZ-ofZ}
 use borrow.Author.Needs.{needs}
-use Rattle.seconds.specs.Ranges.{free-fits, rest-small}
+use Rattle.seconds.specs.RangesLaws.{free-fits, rest-small}
 use Rattle.seconds.specs.Signed.{signed, abs-is}
 use Rattle.packed.specs.Packed.{isCritical}
 use Rattle.fields.specs.Fields.{fieldsOf, asJob}

@@ -1,0 +1,109 @@
+-- The figures of the rules, each beside the name that the definitions have for it; and the refusals of each call by number, in
+-- the sequence in which they are judged. One statement holds of each whole list, by computation.
+use Prim.Native.Nat.{ℕ, _+_, _*_}
+use mathlib.Core.Path.{_≡_, refl}
+use mathlib.Core.List.{List, [], _∷_, map}
+use lib.IntN.{ℤ, pos, negsuc}
+use Rattle.seconds.specs.Limits.{rest, earliest, latest, latestFree, highestNumber, longest, heaviest, mostWeight, mostJobs}
+use Rattle.seconds.specs.Limits.{mostPoints, leftOut, coldest}
+use Rattle.order.specs.Choice.{mask}
+use Rattle.packed.specs.Layout.{widths, headerLayout, jobLayout, headerBytes, jobBytes, jobNumbers}
+use Rattle.packed.specs.Judge.{Check}
+use Rattle.packed.specs.Refusals.{headerChecks, listChecks, jobChecks, weightChecks, unpackChecks, packChecks}
+use Rattle.profiles.specs.Numbers.{mostNumbers}
+use Rattle.cells.specs.Area.{rowSize, area}
+use Rattle.reader.specs.Reading.{stepChecks}
+use Rattle.extending.specs.Calls.{extendJudged, extendChecks}
+use Rattle.planner.specs.Calls.{planChecks}
+use Rattle.openings.specs.Choosing.{choosingChecks}
+
+-- ---- names and figures
+
+pub record Figure : Type 0 where
+  pub named : ℤ
+  pub figure : ℤ
+
+abbrev is : ℤ → ℤ → Figure
+is named figure = record { named = named; figure = figure }
+
+abbrev pub figures : List Figure
+figures =
+    -- R2: times, numbers, lengths and weights of jobs
+    is earliest (negsuc 99999)
+    ∷ is latest (pos 100000)
+    ∷ is (pos highestNumber) (pos 63)
+    ∷ is (pos longest) (pos 10000)
+    ∷ is (pos heaviest) (pos 50)
+    -- R3: jobs of an order, and their weights together
+    ∷ is (pos mostJobs) (pos 48)
+    ∷ is (pos mostWeight) (pos 300)
+    -- R5: the bus rests no seconds after a job, so it is free by the latest deadline
+    ∷ is (pos rest) (pos 0)
+    ∷ is latestFree (pos 100000)
+    -- R8: place 0 has the highest of 64 bits
+    ∷ is (pos (mask (1 ∷ []))) (pos 9223372036854775808)
+    -- R10: the start of a job left out
+    ∷ is leftOut (pos 200000)
+    -- R11, R25: points of a profile, and its numbers
+    ∷ is (pos mostPoints) (pos 301)
+    ∷ is (pos mostNumbers) (pos 602)
+    -- R20: the coldest cell
+    ∷ is coldest (negsuc 29)
+    -- R21, R22: bytes of a header and of a job, numbers of a job
+    ∷ is (pos headerBytes) (pos 4)
+    ∷ is (pos jobBytes) (pos 8)
+    ∷ is (pos jobNumbers) (pos 6)
+    -- R24, R32: the most numbers, and the most bytes, that an order has
+    ∷ is (pos (jobNumbers * mostJobs)) (pos 288)
+    ∷ is (pos (headerBytes + jobBytes * mostJobs)) (pos 388)
+    -- R29: the numbers of a row, and of the work area
+    ∷ is (pos rowSize) (pos 301)
+    ∷ is (pos area) (pos 14749)
+    ∷ []
+
+-- Every name stands for its figure.
+pub figures-hold : map (λ (f : Figure). f .named) figures ≡ map (λ (f : Figure). f .figure) figures
+unfolding rest
+figures-hold = refl
+
+-- R21: the bits of each field of the header and of a job.
+pub header-bits : widths headerLayout ≡ 6 ∷ 18 ∷ 8 ∷ []
+header-bits = refl
+
+pub job-bits : widths jobLayout ≡ 6 ∷ 1 ∷ 7 ∷ 18 ∷ 14 ∷ 18 ∷ []
+job-bits = refl
+
+-- ---- the refusals of each call (R25), whatever it is asked
+
+abbrev numbers : List Check → List ℕ
+numbers cs = map (λ (c : Check). c .number) cs
+
+pub record Judged : Type 0 where
+  pub checks : List Check
+  pub refusals : List ℕ
+
+module _ (bytes other : List ℕ) (t0 : ℤ) (profile given out work : List ℤ) (place room : ℕ) where
+  abbrev pub judged : List Judged
+  judged =
+      -- unpack, pack
+      record { checks = unpackChecks bytes room; refusals = 1 ∷ 2 ∷ 3 ∷ 4 ∷ 5 ∷ 6 ∷ 7 ∷ 9 ∷ 10 ∷ [] }
+      ∷ record { checks = packChecks t0 given room; refusals = 3 ∷ 4 ∷ 5 ∷ 6 ∷ 7 ∷ 9 ∷ 10 ∷ [] }
+      -- the reader: open, step
+      ∷ record { checks = headerChecks bytes; refusals = 1 ∷ 2 ∷ 3 ∷ 4 ∷ 5 ∷ [] }
+      ∷ record { checks = stepChecks bytes place; refusals = 1 ∷ 2 ∷ 3 ∷ 4 ∷ 5 ∷ 6 ∷ [] }
+      -- extend and plan, with two rooms each; choosing, with two orders
+      ∷ record {
+        checks = extendChecks profile bytes out work;
+        refusals = 1 ∷ 2 ∷ 3 ∷ 4 ∷ 5 ∷ 6 ∷ 7 ∷ 8 ∷ 9 ∷ 10 ∷ 10 ∷ [];
+      }
+      ∷ record { checks = planChecks bytes out work; refusals = 1 ∷ 2 ∷ 3 ∷ 4 ∷ 5 ∷ 6 ∷ 7 ∷ 9 ∷ 10 ∷ 10 ∷ [] }
+      ∷ record {
+        checks = choosingChecks bytes other work;
+        refusals = 1 ∷ 2 ∷ 3 ∷ 4 ∷ 5 ∷ 6 ∷ 7 ∷ 9 ∷ 1 ∷ 2 ∷ 3 ∷ 4 ∷ 5 ∷ 6 ∷ 7 ∷ 9 ∷ 10 ∷ [];
+      }
+      ∷ []
+
+  -- Each call judges these, in this sequence.
+  pub judged-hold : map (λ (j : Judged). numbers (j .checks)) judged ≡ map (λ (j : Judged). j .refusals) judged
+  unfolding headerChecks listChecks jobChecks weightChecks extendJudged extendChecks planChecks choosingChecks
+  judged-hold = refl
