@@ -240,7 +240,10 @@ gives "not refused: the same job, not critical" 0 '0 0 0 0 10 0 1
 header 0 -100000 >order
 try "$leafanchor" plan order
 gives "not refused: no jobs" 0 '0 0 0 0 0 -100000 0' ''
-{ cat p1 && head -c 345 /dev/zero; } >order
+{ header 48 0 && for number in 0 1 2 3 4 5; do for more in 0 1 2 3 4 5 6 7; do job $((8 * number + more)) 0 1 10 9; done; done; } >order
+try "$leafanchor" plan order
+holds "not refused: 388 bytes" '[ "$status" = 0 ] && [ "$(head -n 1 "$out")" = "0 0 0 0 48 0 48" ] && [ "$(wc -l <"$out")" = 49 ]'
+echo >>order
 refused "389 bytes" '4 0' 'the length does not fit *'
 endless() { timeout 10 "$leafanchor" plan </dev/zero; }
 try endless
@@ -298,7 +301,7 @@ gives "standard error closed: two files" 2 '' ''
 
 # at_terminal COMMAND: with a terminal that has no more to say; what it showed is in $out.
 at_terminal() {
-    script -qec "$1" /dev/null </dev/null >"$out" 2>/dev/null
+    timeout 60 script -qec "$1" /dev/null </dev/null >"$out" 2>/dev/null
     status=$?
 }
 at_terminal "$leafanchor plan >$room/written 2>$err"
@@ -412,7 +415,7 @@ kill -s TERM "$one"
 wait "$one" 2>/dev/null
 status=$?
 holds "ended by a signal it ends its build too" '[ "$status" = 143 ] && rt_ended'
-interrupted() { { soon '[ "$(builds)" = 2 ]' && printf '\003'; } | script -qec "$here/leafanchor plan p1" /dev/null; }
+interrupted() { { soon '[ "$(builds)" = 2 ]' && printf '\003'; } | timeout 60 script -qec "$here/leafanchor plan p1" /dev/null; }
 try interrupted
 holds "and so it is with Ctrl-C" '[ "$status" = 130 ] && rt_ended'
 rm "$here/../mood"
