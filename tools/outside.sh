@@ -124,6 +124,25 @@ hold_wrapper() {
     fi
 }
 
+# stops FOLDER WORDS: with the library's folder this one, the wrapper's build stops and says these words.
+stops() {
+    if (LEAFANCHOR_LIB_DIR=$1 && in_cargo check -p leafanchor) >"$out/stops.txt" 2>&1; then
+        die "the wrapper is built with the library of $1"
+    fi
+    grep -q "leafanchor: .*$2" "$out/stops.txt" || die "the wrapper's build stops with other words: $out/stops.txt"
+}
+
+# With no folder named the build script finds the library; it stops where there is none or it is for another machine.
+hold_build_script() {
+    say "the wrapper's build script"
+    (unset LEAFANCHOR_LIB_DIR && in_cargo check -p leafanchor)
+    mkdir -p "$out/none" "$out/other"
+    printf '!<arch>\n%-48s20        `\n\177ELF\002\001%-12s\363\000' other.o/ '' >"$out/other/libleafanchor.a"
+    stops "$out/none" "has no libleafanchor.a that can be read"
+    stops "$out/other" "is for another machine, not for $machine"
+    stops none "must be a whole path"
+}
+
 hold_p1() {
     say "P1 from C, C++ and Rust"
     for program in "$out/plan_p1.c11" "$out/plan_p1.cxx17" "$built/examples/plan_p1"; do
@@ -167,6 +186,7 @@ for machine in "$@"; do
     for_cargo
     hold_c
     hold_wrapper
+    [ -n "$emulator" ] || hold_build_script
     hold_p1
     hold_calls
     hold_stack
