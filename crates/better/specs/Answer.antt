@@ -1,5 +1,5 @@
--- The answer of better-of and the lent numbers after the call, for every input: what the definitions say, and document 01's
--- numbers for each case.
+-- The answer of better-of and the lent numbers after the call, for every input, and its numbers for each case (R14, R26).
+-- Definitions only.
 use Prim.Native.Nat.{ℕ}
 use mathlib.Core.Bool.{cond}
 use mathlib.Core.List.{List}

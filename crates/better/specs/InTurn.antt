@@ -1,6 +1,5 @@
 -- The points of two rising lists in turn: the earlier first, and at one time the heavier first. So taken they are in order,
 -- and give what both lists give.
-use Prim.Native.Nat.{_<_}
 use mathlib.Core.Path.{_≡_, refl}
 use mathlib.Core.Bool.{Bool, true, false, cond, _||_, _&&_}
 use mathlib.Core.List.{List, [], _∷_, _++_}

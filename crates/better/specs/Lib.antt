@@ -3,4 +3,6 @@ pub mod Answer
 pub mod InTurn
 pub mod Heavier
 pub mod Merging
+pub mod MergingLaws
 pub mod AnswerLaws
+pub mod AnswerSays

@@ -1,5 +1,7 @@
 // Better-of: two profiles, held as alternating numbers, joined to the shortest profile that gives at
 // each time the greater of both weights. Any numbers and any room have an answer. Assumes nothing.
+use profiles::MOST_NUMBERS;
+use profiles::valid;
 ghost use mathlib.Core.Path.{_≡_};
 ghost use Rattle.profiles.specs.Places.{AtPoint};
 ghost use Rattle.better.specs.Answer.{joinedOf, outAfter};
@@ -12,9 +14,6 @@ pub enum Joined {
     NoRoom,
     Points(usize),
 }
-
-// The room that is wanted, in numbers.
-const ROOM: usize = 602;
 
 // The weight below all.
 const BELOW_ALL: i32 = -1;
@@ -73,13 +72,13 @@ pub fn better_of(p: &[i32], q: &[i32], out: &mut [i32]) -> Joined
     ensures answer { λ r. ⌜ r ≡ joinedOf (now (p .entry)) (now (q .entry)) (now (out .entry)) ⌝ }
     ensures lent { λ r. ⌜ now (out .exit) ≡ outAfter (now (p .entry)) (now (q .entry)) (now (out .entry)) ⌝ }
 {
-    if !profiles::valid(p) {
+    if !valid(p) {
         return Joined::NotValid;
     }
-    if !profiles::valid(q) {
+    if !valid(q) {
         return Joined::NotValid;
     }
-    if out.len() < ROOM {
+    if out.len() < MOST_NUMBERS {
         return Joined::NoRoom;
     }
     let written = merge(p, q, out);

@@ -1,5 +1,5 @@
--- What the answers of extending say: it is never refused with 11, the places of refusals, and what an empty profile and the
--- bus-free time of the order do.
+-- What the answers of extending say: their numbers, that 11 is never given, the places of refusals, and what an empty profile
+-- and the bus-free time of the order do.
 use Prim.Native.Nat.{ℕ, _+_, _≤_}
 use mathlib.Core.Path.{_≡_, refl, ap}
 use mathlib.Core.Bool.{not}
@@ -16,46 +16,66 @@ use Rattle.packed.specs.Judge.{Verdict, fine, refused}
 use Rattle.packed.specs.JudgeLaws.{judge-tells}
 use Rattle.packed.specs.Packed.{numbersOf, jobsOf, orderOf}
 use Rattle.packed.specs.Refusals.{headerChecks, jobChecks, weightChecks}
-use Rattle.packed.specs.RefusalPlaces.{PlaceIs}
+use Rattle.packed.specs.RefusalPlaces.{PlaceIs, nowhere}
 use Rattle.profiles.specs.Numbers.{mostNumbers, holdsProfile}
 use Rattle.cells.specs.Work.{area}
 use Rattle.judge.specs.Told.{stays, ten-tells, Placed, placed-behind, placed-check, placed-rooms, placed-order}
 use Rattle.extending.specs.Calls.{profileGiven, profileChecks, extendJudged, extendChecks, extendVerdict}
-use Rattle.extending.specs.Calls.{extension, extendedBy, extendedOf}
+use Rattle.extending.specs.Calls.{extension, extendedBy, extendedOf, ExtendCall, extendRefusal, extendPlace, pointsWritten}
 use Rattle.extending.specs.CallLaws.{seven, eight, nine}
-use Rattle.extending.specs.declared.Extended.the-variants.{Refused}
+use Rattle.extending.specs.declared.Extended.{Extended}
 
--- ---- refusal 11
+-- ---- the answer in numbers
 
--- No refusal by the checks has a number above 10.
-extend-ten : (ns : List ℤ) (bytes : List ℕ) (out work : List ℤ) {n p : ℕ} → extendVerdict ns bytes out work ≡ refused n p → n ≤ 10
-unfolding extendChecks extendJudged headerChecks jobChecks weightChecks
-extend-ten ns bytes out work e =
-    judge-tells (λ n p. n ≤ 10) (extendChecks ns bytes out work) (ten-tells (extendChecks ns bytes out work) tt) e
+module _ (ns : List ℤ) (bytes : List ℕ) (out work : List ℤ) where
+  -- The answer's refusal number and place, and the points written.
+  abbrev Says : ℕ → ℕ → ℕ → Type 0
+  Says refusal place points =
+      let a = extendedOf ns bytes out work in
+      (extendRefusal a ≡ refusal) × (extendPlace a ≡ place) × (pointsWritten a ≡ points)
 
--- So extending is never refused with 11, or more.
-pub extend-never-eleven : (ns : List ℤ) (bytes : List ℕ) (out work : List ℤ) (n p : ℕ)
-    → extendedOf ns bytes out work ≡ Refused n p → n ≤ 10
-extend-never-eleven ns bytes out work n p e = go (extendVerdict ns bytes out work) refl e
-  where
-    go : (v : Verdict) → extendVerdict ns bytes out work ≡ v → extendedBy v (extension ns bytes) ≡ Refused n p → n ≤ 10
-    go fine d f = let z : _≡_ {A = ℕ} 0 1 = cc in absurd (omega arith)
-    go (refused m q) d f = let same : m ≡ n = cc in omega (arith, extend-ten ns bytes out work d)
+  -- Refused: the number and the place of the first check that applies, and no points.
+  pub refused-says : {n p : ℕ} → extendVerdict ns bytes out work ≡ refused n p → Says n p 0
+  refused-says e = rw e (refl, refl, refl)
 
--- ---- the place of a refusal
+  -- Not refused: the points of the extended profile.
+  pub points-say : extendVerdict ns bytes out work ≡ fine → Says 0 0 (length (extension ns bytes))
+  points-say e = rw e (refl, refl, refl)
 
--- That of 6 or 7, or else 0.
-pub extend-place : (ns : List ℤ) (bytes : List ℕ) (out work : List ℤ) (n p : ℕ) → extendVerdict ns bytes out work ≡ refused n p
-    → PlaceIs (numbersOf bytes) n p
-unfolding extendChecks extendJudged weightChecks
-extend-place ns bytes out work =
-    let zs = numbersOf bytes in
-    let first : Placed zs (seven ns bytes) = λ n p e. placed-order bytes n p (stays (seven ns bytes) (weightChecks 0 zs) e) in
-    let eighth = placed-behind zs (seven ns bytes) (profileChecks ns) first
-    (placed-check zs 8 (not (holdsProfile ns)) (omega arith) (omega arith)) in
-    let ninth = placed-behind zs (eight ns bytes) (nine ns bytes) eighth
-    (placed-check zs 9 (ltb mostWeight (lastWeight (profileGiven ns) + weightOf (jobsOf zs))) (omega arith) (omega arith)) in
-    placed-rooms zs (extendJudged ns bytes) mostNumbers (length out) area (length work) ninth
+  -- No refusal by the checks has a number above 10,
+  extend-ten : {n p : ℕ} → extendVerdict ns bytes out work ≡ refused n p → n ≤ 10
+  unfolding extendChecks extendJudged headerChecks jobChecks weightChecks
+  extend-ten =
+      judge-tells (λ n p. n ≤ 10) (extendChecks ns bytes out work) (ten-tells (extendChecks ns bytes out work) tt)
+
+  -- so no outcome that the contract allows is refused with 11, or more.
+  pub extend-never-eleven : {r : Extended} {out′ work′ : List ℤ} → ExtendCall ns bytes out work r out′ work′ → extendRefusal r ≤ 10
+  extend-never-eleven h = rw (h .answer) (go (extendVerdict ns bytes out work) refl)
+    where
+      go : (v : Verdict) → extendVerdict ns bytes out work ≡ v → extendRefusal (extendedBy v (extension ns bytes)) ≤ 10
+      go fine d = omega arith
+      go (refused n p) d = extend-ten d
+
+  -- The place of a check is that of 6 or 7, or else 0,
+  place-judged : Placed (numbersOf bytes) (extendChecks ns bytes out work)
+  unfolding extendChecks extendJudged weightChecks
+  place-judged =
+      let zs = numbersOf bytes in
+      let first : Placed zs (seven ns bytes) = λ n p e. placed-order bytes n p (stays (seven ns bytes) (weightChecks 0 zs) e) in
+      let eighth = placed-behind zs (seven ns bytes) (profileChecks ns) first
+      (placed-check zs 8 (not (holdsProfile ns)) (omega arith) (omega arith)) in
+      let ninth = placed-behind zs (eight ns bytes) (nine ns bytes) eighth
+      (placed-check zs 9 (ltb mostWeight (lastWeight (profileGiven ns) + weightOf (jobsOf zs))) (omega arith) (omega arith)) in
+      placed-rooms zs (extendJudged ns bytes) mostNumbers (length out) area (length work) ninth
+
+  -- and so is that of the answer.
+  pub extend-place : let a = extendedOf ns bytes out work in PlaceIs (numbersOf bytes) (extendRefusal a) (extendPlace a)
+  extend-place = go (extendVerdict ns bytes out work) refl
+    where
+      go : (v : Verdict) → extendVerdict ns bytes out work ≡ v
+          → let a = extendedBy v (extension ns bytes) in PlaceIs (numbersOf bytes) (extendRefusal a) (extendPlace a)
+      go fine d = nowhere {n = 0} (omega arith) (omega arith)
+      go (refused n p) d = place-judged n p d
 
 -- ---- what extending does not look at
 

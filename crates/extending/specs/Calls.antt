@@ -72,7 +72,7 @@ pub record ExtendCall
   pub written : out′ ≡ outAfter ns bytes out work
   pub area : work′ ≡ extendWorkAfter ns bytes out work
 
--- ---- document 01's numbers for each case; all but the refusal and its place are 0 in a refused answer
+-- ---- the numbers for each case; all but the refusal and its place are 0 in a refused answer (R26)
 
 -- The answer of extending: refusal number, place and points written.
 abbrev pub extendRefusal : Extended → ℕ

@@ -1,5 +1,6 @@
 // The call that extends a profile by a packed order. Any numbers, bytes and buffers have an answer. Assumes
 // nothing.
+use cells::AREA;
 use cells::ROW;
 use cells::clear;
 use counting::write_profile;
@@ -10,6 +11,7 @@ use filling::start_profile;
 use judge::Verdict;
 use judge::judge_jobs;
 use judge::judge_weight;
+use profiles::MOST_NUMBERS;
 use profiles::valid;
 ghost use mathlib.Core.Path.{_≡_};
 ghost use mathlib.Core.List.{_++_};
@@ -24,12 +26,6 @@ pub enum Extended {
     Refused(u32, usize),
     Points(usize),
 }
-
-// How many numbers all rows take together.
-const AREA: usize = 14_749;
-
-// The room that is wanted for a profile, in numbers.
-const ROOM: usize = 602;
 
 // The extended profile by the rows of all jobs, written to the front of `out`. Returns how many points.
 fn extend_by_rows(profile: &[i32], bytes: &[u8], out: &mut [i32], work: &mut [i32]) -> usize
@@ -54,7 +50,7 @@ fn extend_with_room(profile: &[i32], bytes: &[u8], out: &mut [i32], work: &mut [
         ExtendCall (now (profile .entry)) (now (bytes .entry)) (now (out .entry)) (now (work .entry)) r
         (now (out .exit)) (now (work .exit)) ⌝ }
 {
-    if out.len() < ROOM {
+    if out.len() < MOST_NUMBERS {
         return Extended::Refused(10, 0);
     }
     if work.len() < AREA {

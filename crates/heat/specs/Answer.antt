@@ -1,4 +1,4 @@
--- The answer of the heat-up call, for every byte: document 01's length, or refusal 12.
+-- The answer of the heat-up call, for every byte, and its numbers for each case (R20). Definitions only.
 use Prim.Native.Nat.{ℕ}
 use mathlib.Core.Option.{Option, none, some}
 use Rattle.heat.specs.Heat.{heatUp}

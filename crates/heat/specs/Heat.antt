@@ -1,4 +1,4 @@
--- Heat-up lengths: the degree that a sampler's byte means, and the seconds of heating by the two slopes.
+-- Heat-up lengths: the degree that a sampler's byte means, and the seconds of heating by the two slopes. Definitions only.
 use Prim.Native.Nat.{ℕ, _+_, _*_}
 use mathlib.Core.Bool.{cond}
 use mathlib.Core.Option.{Option, none, some}

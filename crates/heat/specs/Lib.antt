@@ -1,5 +1,6 @@
--- Heat-up lengths: the rule of document 01, the answer of the call, and the table.
+-- Heat-up lengths: the rule (R19, R20), the answer of the call, and the table.
 pub mod Heat
 pub mod Answer
 pub mod Degree
+pub mod AnswerSays
 pub mod Table

@@ -1,10 +1,10 @@
 -- A rule of a table, proved at all of its entries by one test that is computed over the whole table; and the
 -- heat-up table with its two slopes.
-use mathlib.Core.Path.{_≡_, refl, sym, ap, _∙_, subst}
-use mathlib.Core.Bool.{Bool, true, false, _&&_, cond}
+use mathlib.Core.Path.{_≡_, ap, _∙_}
+use mathlib.Core.Bool.{Bool, true, _&&_}
 use mathlib.Core.List.{List, [], _∷_}
 use Prim.Native.Nat.{ℕ, zero, suc, _+_, _<_}
-use native.Mathlib.Nat.{zero-add, suc-add, add-suc, add-zero, le-of-suc-le-suc, not-suc-le-zero}
+use native.Mathlib.Nat.{zero-add, add-zero, le-of-suc-le-suc, not-suc-le-zero}
 use native.Mathlib.Omega.{arith}
 use lib.Dec.{T, eqb, eqb→eq}
 use lib.ListN.{length, getD}

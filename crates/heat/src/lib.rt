@@ -2,7 +2,6 @@
 // length for each whole degree from -30 to +9. Every byte has an answer; below -30 degrees it is a
 // refusal. Assumes nothing.
 ghost use mathlib.Core.Path.{_≡_};
-ghost use lib.IntN.{ℤ};
 ghost use Rattle.heat.specs.Heat.{degreeOf};
 ghost use Rattle.heat.specs.Answer.{heatingOf};
 

@@ -1,11 +1,11 @@
 -- What the definitions say at the named inputs, by computation, as far as it depends on the bytes: the orders that they
 -- mean, and that all checks are passed.
 use Prim.Native.Nat.{ℕ, suc}
-use mathlib.Core.Path.{_≡_, refl}
+use mathlib.Core.Path.{_≡_, refl, _∙_}
 use mathlib.Core.Bool.{true}
 use mathlib.Core.List.{List, [], _∷_}
 use lib.IntN.{ℤ, pos}
-use lib.ListN.{length, length-replicate}
+use lib.ListN.{length, getD, length-replicate}
 use Rattle.seconds.specs.Limits.{rest}
 use Rattle.seconds.specs.Twos.{bitsTo}
 use Rattle.order.specs.Job.{Order, oneRate}
@@ -20,9 +20,12 @@ use Rattle.cells.specs.Work.{area, cleared, clearedTo}
 use Rattle.extending.specs.Calls.{extendJudged, extendChecks, extendVerdict}
 use Rattle.planner.specs.Calls.{planChecks, planVerdict}
 use Rattle.openings.specs.Choosing.{choosingChecks, choosingVerdict}
-use Rattle.report.specs.AsPrinted.{morningBytes}
+use Rattle.text.specs.Decimal.{digitsIn, digits, figure}
+use Rattle.report.specs.Report.{refusalLine, planLine, startWord, jobLine, jobLines, planText, textOf, reportOf}
+use Rattle.report.specs.Report.{textRoom, printed}
+use Rattle.report.specs.AsPrinted.{morningBytes, morningText, morning-printed}
 use Rattle.worked.specs.Examples.{morning}
-use Rattle.hollow.specs.Named.{ones, front, room, rows, oneJobBytes, start}
+use Rattle.hollow.specs.Named.{ones, front, room, rows, oneJobBytes, start, page}
 
 -- P4 as an order.
 abbrev pub oneJob : Order
@@ -70,3 +73,36 @@ front-ones n = refl
 pub front-cleared : (work : List ℤ) → front (cleared work) ≡ pos 0
 unfolding cleared clearedTo
 front-cleared work = refl
+
+-- ---- the text
+
+-- P4's text: 0 0 1 0 0 10 1, then 0 0.
+abbrev pub oneJobText : List ℕ
+oneJobText =
+    48 ∷ 32 ∷ 48 ∷ 32 ∷ 49 ∷ 32 ∷ 48 ∷ 32 ∷ 48 ∷ 32 ∷ 49 ∷ 48 ∷ 32 ∷ 49 ∷ 10
+    ∷ 48 ∷ 32 ∷ 48 ∷ 10 ∷ []
+
+one-job-printed : reportOf oneJobBytes ≡ oneJobText
+unfolding rest bitsTo decode numberOf part flat each first headerWord headerOf countOf t0Of spareOf recordAt jobWord jobFields
+    numbersOf jobCount fieldsAt jobOf jobsOf orderOf fieldsWithin firstBad numberAt firstRepeat headerChecks jobChecks
+    weightChecks digitsIn digits figure refusalLine planLine startWord jobLine jobLines planText textOf reportOf
+one-job-printed = refl
+
+-- With room a page has the whole text.
+with-page : (bytes out : List ℕ) → length out ≡ textRoom → printed bytes out ≡ reportOf bytes
+unfolding printed
+with-page bytes out e = rw e
+
+page-long : length page ≡ textRoom
+unfolding page
+page-long = length-replicate {A = ℕ} textRoom 1
+
+pub morning-on-page : printed morningBytes page ≡ morningText
+morning-on-page = with-page morningBytes page page-long ∙ morning-printed
+
+pub one-job-on-page : printed oneJobBytes page ≡ oneJobText
+one-job-on-page = with-page oneJobBytes page page-long ∙ one-job-printed
+
+pub page-front : getD page 0 0 ≡ 1
+unfolding page
+page-front = refl

@@ -1,6 +1,6 @@
 -- A call's contract as a relation of inputs and outcomes, versions of a call, and what it is for hollow ones to be shut out.
 -- Definitions only.
-use mathlib.Core.Path.{_≡_}
+use mathlib.Core.Path.{_≡_, refl}
 use mathlib.Core.Bool.{Bool, true}
 
 -- An outcome is an answer and the lent buffers at exit. The contract allows some outcomes at each input: the one that the
@@ -13,6 +13,32 @@ pub record Contract (X R B : Type 0) : Type 1 where
   pub only : (x : X) (r : R) (b : B) → allows x r b → (r ≡ answer x) × (b ≡ left x)
   pub lent : X → B
   pub refusal : R → Bool
+
+-- A call that writes nothing: for every input its answer is said.
+abbrev pub answering : {X R : Type 0} → (X → R) → (R → Bool) → Contract X R (Unit {0})
+answering said refusal =
+    record {
+      allows = λ x r b. r ≡ said x;
+      answer = said;
+      left = λ x. tt;
+      met = λ x. refl;
+      only = λ x r b h. (h, refl);
+      lent = λ x. tt;
+      refusal = refusal;
+    }
+
+-- A call that writes to what it is lent: for every input its answer and what it leaves are said.
+abbrev pub writing : {X R B : Type 0} → (X → R) → (X → B) → (X → B) → (R → Bool) → Contract X R B
+writing said left lent refusal =
+    record {
+      allows = λ x r b. (r ≡ said x) × (b ≡ left x);
+      answer = said;
+      left = left;
+      met = λ x. (refl, refl);
+      only = λ x r b h. h;
+      lent = lent;
+      refusal = refusal;
+    }
 
 -- The same contract over inputs of another form.
 abbrev pub over : {X Y R B : Type 0} → (Y → X) → Contract X R B → Contract Y R B

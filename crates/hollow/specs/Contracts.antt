@@ -3,12 +3,12 @@
 use Prim.Native.Nat.{ℕ}
 use mathlib.Core.Path.{_≡_, refl}
 use mathlib.Core.Bool.{Bool, true, false}
-use mathlib.Core.List.{List}
+use mathlib.Core.List.{List, _++_}
 use base.Fml.{GName}
 use denote.Ref.{RefT, now}
 use lib.Dec.{eqb}
 use lib.IntN.{ℤ}
-use lib.ListN.{length}
+use lib.ListN.{length, drop}
 use Rattle.profiles.specs.Answer.{lookupOf}
 use Rattle.profiles.specs.declared.Finding.{Finding}
 use Rattle.profiles.specs.declared.Finding.the-variants as finding
@@ -29,6 +29,10 @@ use Rattle.reader.specs.declared.Opened.the-variants as opened
 use Rattle.reader.specs.declared.Read.{Read}
 use Rattle.reader.specs.declared.Read.the-variants as read
 use Rattle.reader.specs.declared.Moved.{Moved}
+use Rattle.reader_struct.specs.Standing.{Seen, begunOver, steppedOf, readAt}
+use Rattle.reader_struct.specs.declared.Reader.{Reader}
+use Rattle.reader_struct.specs.declared.Stepped.{Stepped}
+use Rattle.reader_struct.specs.declared.Reading.{Reading}
 use Rattle.heat.specs.Answer.{heatingOf}
 use Rattle.heat.specs.declared.Heating.{Heating}
 use Rattle.heat.specs.declared.Heating.the-variants as heating
@@ -41,7 +45,8 @@ use Rattle.extending.specs.declared.Extended.the-variants as extended
 use Rattle.openings.specs.Choosing.{chosenOf, workAfter, Asked, partOf, placeOf, Handed}
 use Rattle.openings.specs.declared.Chosen.{Chosen}
 use Rattle.openings.specs.declared.Chosen.the-variants as chosen
-use Rattle.hollow.specs.Contract.{Contract, over}
+use Rattle.report.specs.Report.{printed}
+use Rattle.hollow.specs.Contract.{Contract, answering, writing, over}
 
 -- ---- which answers are refusals
 
@@ -126,28 +131,11 @@ extending =
 -- Two profiles, and numbers to write to.
 abbrev pub joiningProfiles : Contract (List ℤ × List ℤ × List ℤ) Joined (List ℤ)
 joiningProfiles =
-    record {
-      allows = λ x r b. (r ≡ joinedOf (x .0) (x .1) (x .2)) × (b ≡ joinedAfter (x .0) (x .1) (x .2));
-      answer = λ x. joinedOf (x .0) (x .1) (x .2);
-      left = λ x. joinedAfter (x .0) (x .1) (x .2);
-      met = λ x. (refl, refl);
-      only = λ x r b h. h;
-      lent = λ x. x .2;
-      refusal = joinRefused;
-    }
+    writing (λ x. joinedOf (x .0) (x .1) (x .2)) (λ x. joinedAfter (x .0) (x .1) (x .2)) (λ x. x .2) joinRefused
 
 -- A profile and a time; nothing is lent to write to.
 abbrev pub lookingUp : Contract (List ℤ × ℤ) Finding (Unit {0})
-lookingUp =
-    record {
-      allows = λ x r b. r ≡ lookupOf (x .0) (x .1);
-      answer = λ x. lookupOf (x .0) (x .1);
-      left = λ x. tt;
-      met = λ x. refl;
-      only = λ x r b h. (h, refl);
-      lent = λ x. tt;
-      refusal = lookupRefused;
-    }
+lookingUp = answering (λ x. lookupOf (x .0) (x .1)) lookupRefused
 
 -- The same over point records.
 abbrev pub lookingUpRecords : Contract (List Point × ℤ) Finding (Unit {0})
@@ -158,41 +146,16 @@ lookingUpRecords = over (λ x. (flattened (x .0), x .1)) lookingUp
 -- Bytes, and numbers to write to.
 abbrev pub unpacking : Contract (List ℕ × List ℤ) Unpacked (List ℤ)
 unpacking =
-    record {
-      allows = λ x r b. (r ≡ unpackOf (x .0) (length (x .1))) × (b ≡ numbersAfter (x .0) (x .1));
-      answer = λ x. unpackOf (x .0) (length (x .1));
-      left = λ x. numbersAfter (x .0) (x .1);
-      met = λ x. (refl, refl);
-      only = λ x r b h. h;
-      lent = λ x. x .1;
-      refusal = unpackRefused;
-    }
+    writing (λ x. unpackOf (x .0) (length (x .1))) (λ x. numbersAfter (x .0) (x .1)) (λ x. x .1) unpackRefused
 
 -- A bus-free time, numbers, and bytes to write to.
 abbrev pub packing : Contract (ℤ × List ℤ × List ℕ) Packed (List ℕ)
 packing =
-    record {
-      allows = λ x r b. (r ≡ packOf (x .0) (x .1) (length (x .2))) × (b ≡ bytesAfter (x .0) (x .1) (x .2));
-      answer = λ x. packOf (x .0) (x .1) (length (x .2));
-      left = λ x. bytesAfter (x .0) (x .1) (x .2);
-      met = λ x. (refl, refl);
-      only = λ x r b h. h;
-      lent = λ x. x .2;
-      refusal = packRefused;
-    }
+    writing (λ x. packOf (x .0) (x .1) (length (x .2))) (λ x. bytesAfter (x .0) (x .1) (x .2)) (λ x. x .2) packRefused
 
 -- Bytes to read from.
 abbrev pub openingReader : Contract (List ℕ) Opened (Unit {0})
-openingReader =
-    record {
-      allows = λ x r b. r ≡ openOf x;
-      answer = openOf;
-      left = λ x. tt;
-      met = λ x. refl;
-      only = λ x r b h. (h, refl);
-      lent = λ x. tt;
-      refusal = openRefused;
-    }
+openingReader = answering openOf openRefused
 
 -- Bytes and a place. The place stands for a buffer: it is handed in, and handed back moved on.
 abbrev pub stepping : Contract (List ℕ × ℕ) Read ℕ
@@ -207,20 +170,52 @@ stepping =
       refusal = stepRefused;
     }
 
+-- Bytes where they stand, to open a reader over: the answer, and all that can be seen of the reader.
+abbrev pub beginning : Contract (RefT (List ℕ)) (Opened × Seen) (Unit {0})
+beginning =
+    record {
+      allows = λ x r b. (r .0 ≡ openOf (now x)) × (r .1 ≡ begunOver x);
+      answer = λ x. (openOf (now x), begunOver x);
+      left = λ x. tt;
+      met = λ x. (refl, refl);
+      only = λ x r b h. (λ i. (h .0 i, h .1 i), refl);
+      lent = λ x. tt;
+      refusal = λ r. openRefused (r .0);
+    }
+
+-- A reader. It stands for a buffer: it is handed in, and handed back moved on.
+abbrev pub steppingReader : Contract Reader Read Reader
+steppingReader =
+    record {
+      allows = λ x r b. _≡_ {A = Stepped} (record { reader = b; answer = r }) (steppedOf x);
+      answer = λ x. steppedOf x .answer;
+      left = λ x. steppedOf x .reader;
+      met = λ x. refl;
+      only = λ x r b h. (λ i. h i .answer, λ i. h i .reader);
+      lent = λ x. x;
+      refusal = stepRefused;
+    }
+
+-- Bytes to open a reader over, and a place to step from.
+abbrev pub readingAt : Contract (List ℕ × ℕ) Reading (Unit {0})
+readingAt = answering (λ x. readAt (x .0) (x .1)) (λ r. stepRefused (r .moved .answer))
+
+-- ---- the text
+
+-- The text for bytes, in so much room.
+abbrev told : List ℕ × List ℕ → List ℕ
+told x = printed (x .0) (x .1)
+
+-- Bytes, and bytes to write the text to; that nothing is written stands for a refusal.
+abbrev pub reporting : Contract (List ℕ × List ℕ) ℕ (List ℕ)
+reporting =
+    writing (λ x. length (told x)) (λ x. told x ++ drop (length (told x)) (x .1)) (λ x. x .1) (λ r. eqb r 0)
+
 -- ---- heat-up lengths
 
 -- A byte.
 abbrev pub heatingUp : Contract ℕ Heating (Unit {0})
-heatingUp =
-    record {
-      allows = λ x r b. r ≡ heatingOf x;
-      answer = heatingOf;
-      left = λ x. tt;
-      met = λ x. refl;
-      only = λ x r b h. (h, refl);
-      lent = λ x. tt;
-      refusal = heatRefused;
-    }
+heatingUp = answering heatingOf heatRefused
 
 -- ---- openings
 

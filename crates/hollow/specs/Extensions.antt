@@ -1,6 +1,6 @@
--- Extensions that are not the definition's. One that handles the first job and passes the rest by is shut out by demand 2,
--- and by the joining law of demand 3. A profile that comes back unextended meets the laws of demand 3, and is shut out by
--- demand 2 alone.
+-- Extensions that are not the definition's. One that handles the first job and passes the rest by is shut out by the contract
+-- (R12), and by the joining law of R16. A profile that comes back unextended meets the laws of R16, and is shut out by the
+-- contract alone.
 use mathlib.Core.Path.{refl, ap}
 use mathlib.Core.Logic.{_≢_}
 use mathlib.Core.List.{List, [], _∷_}
@@ -21,7 +21,7 @@ use Rattle.hollow.specs.Computed.{accepted}
 
 -- ---- the definition's
 
--- It meets the laws of demand 3, and its call is allowed at every input.
+-- It meets the laws of R16, and its call is allowed at every input.
 pub extend-demand-3 : Demand3 extend
 extend-demand-3 = record { joins = extend-extend; better-first = extend-betterOf }
 
@@ -61,11 +61,7 @@ first-job-not-joining h =
 pub unextended-demand-3 : Demand3 unextended
 unextended-demand-3 = record { joins = λ P A B. refl; better-first = λ P Q A. refl }
 
--- So demand 3 alone does not fix the extension; the definition does.
-pub unextended-other : fromStart unextended ≢ fromStart extend
-unfolding rest
-unextended-other e = omega (arith, ap length e)
-
+-- So R16 alone does not fix the extension; the definition does.
 pub unextended-shut-out : ShutOut extending (extendingBy unextended) extendMorning
 unfolding rest
 unextended-shut-out = other-points unextended (omega arith)

@@ -27,6 +27,17 @@ use Rattle.reader.proofs.open as opens
 use Rattle.reader.proofs.open.Reads as open-reads
 use Rattle.reader.proofs.step as step
 use Rattle.reader.proofs.step.Reads as step-reads
+use Rattle.reader_struct.specs.Standing.{seen}
+use Rattle.reader_struct.specs.declared.Begun.{Begun}
+use Rattle.reader_struct.specs.declared.Stepped.{Stepped}
+use Rattle.reader_struct.specs.declared.Reading.{Reading}
+use Rattle.reader_struct.proofs.open as begin
+use Rattle.reader_struct.proofs.step as reader-step
+use Rattle.reader_struct.proofs.read_at as read-at
+use Rattle.reader_struct.proofs.read_at.Reads as read-at-reads
+use Rattle.reader_struct.proofs.Determined as readers
+use Rattle.report.proofs.report as report
+use Rattle.report.proofs.report.Reads as report-reads
 use Rattle.heat.specs.declared.Heating.{Heating}
 use Rattle.heat.proofs.heat_up as heat-up
 use Rattle.heat.proofs.heat_up.Reads as heat-up-reads
@@ -42,7 +53,8 @@ use Rattle.openings.proofs.question.Reads as question-reads
 use Rattle.openings.proofs.choose as choose
 use Rattle.openings.proofs.choose.Reads as choose-reads
 use Rattle.hollow.specs.Contracts.{planning, extending, joiningProfiles, lookingUp, lookingUpRecords, unpacking, packing}
-use Rattle.hollow.specs.Contracts.{openingReader, stepping, heatingUp, asking, choosing}
+use Rattle.hollow.specs.Contracts.{openingReader, stepping, beginning, steppingReader, readingAt, reporting, heatingUp}
+use Rattle.hollow.specs.Contracts.{asking, choosing}
 
 pub plan-is : (κs : Lfts 3) (a : Args plan.signature κs) (r : Planned) (x : AtExit plan.ended κs)
     → plan-reads.Post κs a r x
@@ -83,6 +95,24 @@ open-is κs a r x = refl
 pub step-is : (κs : Lfts 1) (a : Args step.signature κs) (r : Moved) (x : AtExit step.ended κs)
     → step-reads.Post κs a r x ≡ stepping .allows (a .0 .now, a .1 .0) (r .answer) (r .place)
 step-is κs a r x = refl
+
+-- Over a reader the claims of opening and of a step are written out where they are tied to the contracts.
+pub begin-is : (κs : Lfts 1) (a : Args begin.signature κs) (r : Begun)
+    → readers.Opens κs a r ≡ beginning .allows (a .0) (r .answer, seen (r .reader)) tt
+begin-is κs a r = refl
+
+pub reader-step-is : (κs : Lfts 1) (a : Args reader-step.signature κs) (r : Stepped)
+    → readers.Steps κs a r ≡ steppingReader .allows (a .0) (r .answer) (r .reader)
+reader-step-is κs a r = refl
+
+pub read-at-is : (κs : Lfts 1) (a : Args read-at.signature κs) (r : Reading) (x : AtExit read-at.ended κs)
+    → read-at-reads.Post κs a r x ≡ readingAt .allows (a .0 .now, a .1 .0) r tt
+read-at-is κs a r x = refl
+
+-- The contract of the report says also that the text fits: the relation holds wherever it does.
+pub report-says : (κs : Lfts 2) (a : Args report.signature κs) (r : ℕ) (x : AtExit report.ended κs)
+    → report-reads.Post κs a r x → reporting .allows (a .0 .now, a .1 .0 .now) r (x .1 .0 .now)
+report-says κs a r x h = (h .count, h .text)
 
 pub heat-up-is : (κs : Lfts 0) (a : Args heat-up.signature κs) (r : Heating) (x : AtExit heat-up.ended κs)
     → heat-up-reads.Post κs a r x ≡ heatingUp .allows (a .0) r tt

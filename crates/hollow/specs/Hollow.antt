@@ -1,4 +1,4 @@
--- The hollow versions of planning and extending that document 01 names beside those that every call has: an extension that
+-- The hollow versions of planning and extending that are tried beside those that every call has: an extension that
 -- handles the first job and passes the rest by, a profile that comes back unextended, an invented point total.
 -- Definitions only.
 use Prim.Native.Nat.{ℕ}
@@ -22,7 +22,7 @@ use Rattle.hollow.specs.Contracts.{PlanInput, ExtendInput}
 abbrev pub Extension : Type 0
 Extension = List Point → List Job → List Point
 
--- The laws of demand 3, of any such way: by some jobs and then by others is by the joined jobs,
+-- The laws of R16, of any such way: by some jobs and then by others is by the joined jobs,
 abbrev pub Joins : Extension → Type 0
 Joins ext = (P : List Point) (A B : List Job) → ext (ext P A) B ≡ ext P (A ++ B)
 

@@ -1,4 +1,4 @@
--- The inputs at which hollow versions are tried: P1, P2, P4 and P9 of document 01, with lent buffers that hold a 1 everywhere,
+-- The inputs at which hollow versions are tried: P1, P2, P4 and P9 of the rules, with lent buffers that hold a 1 everywhere,
 -- so that what is written or cleared shows. Definitions only.
 use Prim.Native.Nat.{ℕ}
 use mathlib.Core.List.{List, [], _∷_}
@@ -9,6 +9,8 @@ use Rattle.packed.specs.Packed.{numbersOf}
 use Rattle.profiles.specs.Numbers.{mostNumbers}
 use Rattle.point_records.specs.declared.Point.{Point}
 use Rattle.cells.specs.Work.{area}
+use Rattle.reader_struct.specs.declared.Reader.{Reader}
+use Rattle.report.specs.Report.{textRoom}
 use Rattle.report.specs.AsPrinted.{morningBytes}
 use Rattle.hollow.specs.Contracts.{PlanInput, ExtendInput}
 
@@ -38,6 +40,10 @@ oneJobBytes = 0x04 ∷ 0x00 ∷ 0x00 ∷ 0x00 ∷ 0x02 ∷ 0x00 ∷ 0x00 ∷ 0x0
 -- The profile (-600, 0), which P1 extends to its own.
 abbrev pub start : List ℤ
 start = negsuc 599 ∷ pos 0 ∷ []
+
+-- Bytes that stand at the beginning of a block of memory.
+abbrev pub block : ℕ → List ℕ → RefT (List ℕ)
+block b bytes = record { ptr = (b, 0); name = b; now = bytes }
 
 -- A point record.
 abbrev point : ℕ → ℕ → Point
@@ -86,13 +92,18 @@ packMorning = (negsuc 599, numbersOf morningBytes, replicate 44 1)
 abbrev pub packOneJob : ℤ × List ℤ × List ℕ
 packOneJob = (pos 0, numbersOf oneJobBytes, replicate 12 1)
 
+-- A reader over P1's bytes at a place.
+abbrev pub readerAt : ℕ → Reader
+readerAt place = record { bytes = block 0 morningBytes; place = place }
+
+-- The text for P1, and for P4, on an empty page.
+unfoldable pub page : List ℕ
+page = replicate textRoom 1
+
 -- Two openings, P1 and P4, at a time: P4 has a point long before P1, which has the heavier one in the end.
 abbrev pub askAt : ℤ → List ℕ × List ℕ × ℤ × List ℤ
 askAt t = (morningBytes, oneJobBytes, t, rows)
 
--- Bytes that stand at the beginning of a block of memory, and the same openings in two blocks.
-abbrev pub block : ℕ → List ℕ → RefT (List ℕ)
-block b bytes = record { ptr = (b, 0); name = b; now = bytes }
-
+-- The same openings in two blocks.
 abbrev pub chooseAt : ℤ → RefT (List ℕ) × RefT (List ℕ) × ℤ × List ℤ
 chooseAt t = (block 0 morningBytes, block 1 oneJobBytes, t, rows)

@@ -29,12 +29,14 @@ use Rattle.openings.specs.Choosing.{winnerOf}
 use Rattle.report.specs.AsPrinted.{morningBytes}
 use Rattle.hollow.specs.Contract.{ShutOut, Leaves, NotHollow, NotHollowIn}
 use Rattle.hollow.specs.Contracts.{PlanInput, planning, ExtendInput, extending, joiningProfiles, lookingUp, lookingUpRecords}
-use Rattle.hollow.specs.Contracts.{unpacking, packing, openingReader, stepping, heatingUp, asking, choosing}
+use Rattle.hollow.specs.Contracts.{unpacking, packing, openingReader, stepping, beginning, steppingReader, readingAt}
+use Rattle.hollow.specs.Contracts.{reporting, heatingUp, asking, choosing}
 use Rattle.hollow.specs.Laws.{unwritten, not-hollow, not-hollow-in}
 use Rattle.hollow.specs.Named.{ones, front, rows, oneJobBytes, planMorning, planOneJob, extendMorning, extendOneJob}
 use Rattle.hollow.specs.Named.{joinTwo, joinOne, lookupAt, lookupRecordsAt, unpackMorning, unpackOneJob}
-use Rattle.hollow.specs.Named.{packMorning, packOneJob, askAt, chooseAt}
+use Rattle.hollow.specs.Named.{packMorning, packOneJob, block, readerAt, page, askAt, chooseAt}
 use Rattle.hollow.specs.Computed.{accepted, length-ones, front-ones, front-cleared}
+use Rattle.hollow.specs.Computed.{morning-on-page, one-job-on-page, page-front}
 
 -- ---- planning and extending, on P1 and P4
 
@@ -113,6 +115,9 @@ pub record PackedNotHollow : Type 0 where
   pub packs : NotHollowIn packing (λ b. b) packMorning packOneJob
   pub opens : NotHollow openingReader morningBytes oneJobBytes
   pub steps : NotHollowIn stepping (λ b. b) (morningBytes, 0) (morningBytes, 1)
+  pub begins : NotHollow beginning (block 0 morningBytes) (block 0 oneJobBytes)
+  pub moves : NotHollowIn steppingReader (λ b. b .place) (readerAt 0) (readerAt 1)
+  pub reads : NotHollow readingAt (morningBytes, 0) (morningBytes, 1)
 
 pub packed-not-hollow : PackedNotHollow
 unfolding bitsTo toBits decode encode numberOf bytesOf part flat each first headerWord headerOf countOf t0Of spareOf
@@ -125,4 +130,17 @@ packed-not-hollow =
       opens = not-hollow openingReader refl openCount (omega arith);
       steps =
           not-hollow-in stepping refl (λ r. natAbs (front (readNumbers r))) (omega arith) (λ b. b) (λ p. pos p) (omega signed);
+      begins = not-hollow beginning refl (λ r. openCount (r .0)) (omega arith);
+      moves =
+          not-hollow-in steppingReader refl (λ r. natAbs (front (readNumbers r))) (omega arith) (λ b. b .place) (λ p. pos p)
+          (omega signed);
+      reads = not-hollow readingAt refl (λ r. natAbs (front (readNumbers (r .moved .answer)))) (omega arith);
     }
+
+-- ---- the text, of P1 and P4
+
+-- By its length, and its first byte.
+pub report-not-hollow : NotHollowIn reporting (λ b. b) (morningBytes, page) (oneJobBytes, page)
+report-not-hollow =
+    not-hollow-in reporting (rw morning-on-page) (λ r. r) (rw (morning-on-page, one-job-on-page) (omega arith)) (λ b. b)
+    (λ l. pos (getD l 0 0)) (rw (morning-on-page, page-front) (omega signed))

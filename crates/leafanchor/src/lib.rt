@@ -1,6 +1,7 @@
-// The calls of document 01 for programs in C: each calls the proved call of its crate and hands its answer over as numbers.
-// Any bytes, numbers and rooms have an answer. What the caller owes, and nothing checks: no pointer is null, each has room
-// for its length, and lent buffers do not overlap.
+// The calls for programs in C: each calls the proved call of its crate and hands its answer over as numbers. Any bytes,
+// numbers and rooms have an answer. What the caller owes, and no call checks: a pointer is never null, also where its
+// length is 0; it points to as many elements as the length beside it says; a buffer that a call writes overlaps no other
+// buffer of that call (those that it only reads may overlap).
 ghost use mathlib.Core.Path.{_≡_};
 ghost use lib.ListN.{length};
 ghost use Rattle.heat.specs.Answer.{heatingOf};

@@ -1,2 +1,3 @@
 -- What is proved of the calls' contracts.
 pub mod Determined
+pub mod Outcomes

@@ -101,7 +101,7 @@ pub record Handed (first second : RefT (List ℕ)) (t : ℤ) (work : List ℤ) (
   pub place : r .ptr ≡ placeOf (chosenOf (now first) (now second) t work) (first .ptr) (second .ptr)
   pub area : work′ ≡ workAfter (now first) (now second) t work
 
--- ---- document 01's numbers for each case
+-- ---- the numbers for each case (R18)
 
 -- The refusal number; 0 if there is a winner.
 abbrev pub refusalOf : Chosen → ℕ

@@ -1,4 +1,4 @@
--- Both sides of the edges of choosing as one list: each answer, and what document 01 says of it. One statement holds of the
+-- Both sides of the edges of choosing as one list: each answer, and what the rules say of it. One statement holds of the
 -- whole list, by computation.
 use Prim.Native.Nat.{ℕ, _+_}
 use mathlib.Core.Path.{_≡_, refl}
@@ -69,7 +69,7 @@ edges =
     ∷ edge (chosenOf idle idle (pos 0) []) (Refused 10)
     ∷ []
 
--- Every edge is where document 01 has it.
+-- Every edge is where R17, R24 and R25 have it.
 pub edges-hold : map (λ (e : Edge). e .asked) edges ≡ map (λ (e : Edge). e .told) edges
 unfolding decode encode numberOf bytesOf bitsTo toBits part flat each first headerWord headerOf countOf t0Of spareOf
     recordAt jobWord jobFields numbersOf jobCount fieldsAt packedHeader packedJob packOrder jobOf jobsOf orderOf

@@ -4,4 +4,5 @@ pub mod Edges
 pub mod Weighing
 pub mod WeighingLaws
 pub mod ChoosingLaws
+pub mod AnswerSays
 pub mod WinnerLaws

@@ -1,32 +1,33 @@
--- What it is to win, in document 01's words: the winner is worth the greater of both, equal goes to the first, and 11 is given
--- exactly when the other checks are passed and neither opening has a point by the time.
+-- What it is to win, in the words of the rules: the winner is worth the greater of both, equal goes to the first, and 11 is
+-- given exactly when the other checks are passed and neither opening has a point by the time.
 use Prim.Native.Nat.{ℕ, _≤_}
 use mathlib.Core.Path.{_≡_, refl, sym, ap, _∙_}
-use mathlib.Core.Bool.{Bool, true, false, cond, _&&_}
-use mathlib.Core.List.{List, [], _∷_}
+use mathlib.Core.Bool.{Bool, true, false, cond}
+use mathlib.Core.List.{List, _++_}
 use mathlib.Core.Logic.{_↔_}
 use mathlib.Core.Option.{Option, none, some}
 use native.Mathlib.Omega.{arith}
-use lib.Dec.{T, leb, ltb}
-use lib.Ieee.Fits.{and-l, and-r}
+use lib.Dec.{ltb}
 use lib.IntN.{ℤ}
-use lib.ListN.{drop}
+use lib.ListN.{length, drop}
 use borrow.Table.Steps.{cases}
 use Rattle.seconds.specs.Signed.{signed}
 use Rattle.profile.specs.Profile.{greater}
-use Rattle.rows.specs.RowLaws.{nothing-there}
-use Rattle.packed.specs.Judge.{Check, Verdict as Judged, fine, refused, judge}
-use Rattle.packed.specs.JudgeLaws.{Tells, judge-tells}
+use Rattle.packed.specs.Judge.{Verdict as Judged, fine, refused, judge}
+use Rattle.packed.specs.JudgeLaws.{stages-fine, judge-tells}
 use Rattle.packed.specs.Layout.{headerBytes}
 use Rattle.packed.specs.Places.{flat}
 use Rattle.packed.specs.Packed.{countOf, recordAt}
 use Rattle.packed.specs.PackedLaws.{flat-records}
-use Rattle.packed.specs.Refusals.{headerChecks, jobChecks, weightChecks, orderChecks}
+use Rattle.packed.specs.Refusals.{headerChecks, jobChecks, weightChecks, roomChecks, orderChecks}
+use Rattle.packed.specs.RefusalLaws.{room-fine}
 use Rattle.packed.specs.Accepted.{order-fine}
-use Rattle.cells.specs.Work.{cleared}
+use Rattle.cells.specs.Work.{area, cleared}
+use Rattle.judge.specs.Told.{ten-tells}
 use Rattle.openings.specs.Choosing.{openingWorth, byWorth, Tie, toFirst, winnerBy, choosingChecks, choosingVerdict}
-use Rattle.openings.specs.Choosing.{chosenBy, chosenOf, workAfter}
+use Rattle.openings.specs.Choosing.{chosenBy, Asked, refusalOf}
 use Rattle.openings.specs.ChoosingLaws.{cleared-past}
+use Rattle.openings.specs.AnswerSays.{won-by, neither-won}
 use Rattle.openings.specs.declared.Chosen.{Chosen}
 use Rattle.openings.specs.declared.Chosen.the-variants.{Refused, First, Second}
 
@@ -64,50 +65,63 @@ equal-first first second t w e f = rw (e, f) (cases (ltb w w) (λ d. rw d) (λ d
 
 -- ---- 11
 
-neither : (even : Bool) (a b : Option ℕ) → byWorth even a b ≡ Refused 11 → (a ≡ none) × (b ≡ none)
-neither even a b h = go a b (ap (λ (c : Chosen). wonWorth c a b) (sym h) ∙ won-greater even a b)
-  where
-    go : (a b : Option ℕ) → none ≡ greater a b → (a ≡ none) × (b ≡ none)
-    go none none e = (refl, refl)
-    go none (some w) e = nothing-there e
-    go (some v) none e = nothing-there e
-    go (some v) (some w) e = nothing-there e
+-- Neither opening has a point by the time: both orders are accepted, and there is room for the rows.
+pub record NeitherInTime (first second : List ℕ) (t : ℤ) (work : List ℤ) : Type 0 where
+  pub one : judge (orderChecks first) ≡ fine
+  pub other : judge (orderChecks second) ≡ fine
+  pub room : area ≤ length work
+  pub first-late : openingWorth first t ≡ none
+  pub second-late : openingWorth second t ≡ none
 
--- Every number of some checks is at most a number.
-abbrev atMost : ℕ → List Check → Bool
-atMost m [] = true
-atMost m (c ∷ cs) = leb (c .number) m && atMost m cs
+module _ (first second : List ℕ) (t : ℤ) (work : List ℤ) where
+  -- The checks give 1 to 10,
+  checks-most : {n p : ℕ} → choosingVerdict first second work ≡ refused n p → n ≤ 10
+  unfolding choosingChecks headerChecks jobChecks weightChecks
+  checks-most =
+      judge-tells (λ n p. n ≤ 10) (choosingChecks first second work) (ten-tells (choosingChecks first second work) tt)
 
-most-tells : (m : ℕ) (cs : List Check) → T (atMost m cs) → Tells (λ n p. n ≤ m) cs
-most-tells m [] h = tt
-most-tells m (c ∷ cs) h =
-    let this = and-l (leb (c .number) m) (atMost m cs) h in
-    let others = and-r (leb (c .number) m) (atMost m cs) h in
-    (λ e. omega signed, most-tells m cs others)
+  -- and are passed exactly when both orders are accepted and there is room.
+  checks-passed : choosingVerdict first second work ≡ fine
+      ↔ ((judge (orderChecks first) ≡ fine) × (judge (orderChecks second) ≡ fine) × (area ≤ length work))
+  unfolding choosingChecks
+  checks-passed =
+      let all = stages-fine (orderChecks first ++ orderChecks second) (roomChecks area (length work)) in
+      let orders = stages-fine (orderChecks first) (orderChecks second) in
+      let enough = room-fine area (length work) in (
+        λ e. (orders .0 (all .0 e .0) .0, orders .0 (all .0 e .0) .1, enough .0 (all .0 e .1)),
+        λ h. all .1 (orders .1 (h .0, h .1), enough .1 (h .2)),
+      )
 
--- The other checks give 1 to 10.
-checks-most : (first second : List ℕ) (work : List ℤ) {n p : ℕ} → choosingVerdict first second work ≡ refused n p → n ≤ 10
-unfolding choosingChecks headerChecks jobChecks weightChecks
-checks-most first second work e =
-    judge-tells (λ n p. n ≤ 10) (choosingChecks first second work) (most-tells 10 (choosingChecks first second work) tt) e
+  -- Every outcome of the question that its contract allows has refusal 11 exactly when neither opening has a point by the time,
+  module _ {r : Chosen} {work′ : List ℤ} (asked : Asked first second t work r work′) where
+    pub asked-eleven : refusalOf r ≡ 11 ↔ NeitherInTime first second t work
+    asked-eleven = (λ e. there (choosingVerdict first second work) refl (ap refusalOf (sym (asked .answer)) ∙ e), back)
+      where
+        there : (v : Judged) → choosingVerdict first second work ≡ v
+            → refusalOf (chosenBy v (winnerBy toFirst first second t)) ≡ 11 → NeitherInTime first second t work
+        there fine d e =
+            let passed = checks-passed .0 d in
+            let late = neither-won (won-by (openingWorth first t) (openingWorth second t)) e in
+            record {
+              one = passed .0;
+              other = passed .1;
+              room = passed .2;
+              first-late = late .0;
+              second-late = late .1;
+            }
+        there (refused n p) d e = absurd (omega (arith, checks-most d))
 
--- 11 is given exactly when these are passed and neither opening has a point by the time,
-pub given-11 : (first second : List ℕ) (t : ℤ) (work : List ℤ) → chosenOf first second t work ≡ Refused 11
-    ↔ ((choosingVerdict first second work ≡ fine) × (openingWorth first t ≡ none) × (openingWorth second t ≡ none))
-given-11 first second t work = (there (choosingVerdict first second work) refl, λ h. rw (h .0, h .1, h .2))
-  where
-    there : (v : Judged) → choosingVerdict first second work ≡ v → chosenBy v (winnerBy toFirst first second t) ≡ Refused 11
-        → (choosingVerdict first second work ≡ fine) × (openingWorth first t ≡ none) × (openingWorth second t ≡ none)
-    there fine d e = let n = neither true (openingWorth first t) (openingWorth second t) e in (d, n .0, n .1)
-    there (refused n p) d e =
-        let same : n ≡ 11 = cc in
-        absurd (omega (arith, checks-most first second work d))
+        back : NeitherInTime first second t work → refusalOf r ≡ 11
+        back h =
+            ap refusalOf (asked .answer)
+            ∙ rw (checks-passed .1 (h .one, h .other, h .room), h .first-late, h .second-late)
 
--- and the work area is cleared then too.
-pub cleared-11 : (first second : List ℕ) (t : ℤ) (work : List ℤ) → chosenOf first second t work ≡ Refused 11
-    → workAfter first second t work ≡ cleared work
-cleared-11 first second t work e =
-    rw (given-11 first second t work .0 e .0) (cleared-past (winnerBy toFirst first second t) work)
+    -- and the work area is cleared then too.
+    pub eleven-clears : refusalOf r ≡ 11 → work′ ≡ cleared work
+    eleven-clears e =
+        let h = asked-eleven .0 e in
+        asked .area
+        ∙ rw (checks-passed .1 (h .one, h .other, h .room)) (cleared-past (winnerBy toFirst first second t) work)
 
 -- ---- the part
 

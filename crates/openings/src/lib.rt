@@ -1,5 +1,6 @@
 // Choosing between two openings at a time: which of two packed orders keeps more weight by then, and the
 // winner's records. Any bytes, time and work area have an answer. Assumes nothing.
+use cells::AREA;
 use cells::Found;
 use cells::ROW;
 use cells::clear;
@@ -20,9 +21,6 @@ pub enum Chosen {
     First,
     Second,
 }
-
-// How many numbers all rows take together.
-const AREA: usize = 14_749;
 
 // The heaviest cell of an opening that is there by a time, from the rows of all its jobs.
 fn weigh(bytes: &[u8], t: i32, work: &mut [i32]) -> Found

@@ -18,7 +18,8 @@ use Rattle.judge.specs.Verdicts.{verdictOf}
 use Rattle.judge.specs.Told.{refusal-told}
 use Rattle.judge.specs.declared.Verdict.the-variants.{Refused as Said}
 use Rattle.pack.specs.Answer.{packedBy, bytesBy, packOf, bytesAfter}
-use Rattle.pack.specs.Writing.{Packable, firstRecords, all-written}
+use Rattle.pack.specs.Writing.{Packable, firstRecords}
+use Rattle.pack.specs.WritingLaws.{all-written}
 use Rattle.pack.specs.declared.Packed.{Packed}
 use Rattle.pack.specs.declared.Packed.the-variants.{Refused, Bytes}
 

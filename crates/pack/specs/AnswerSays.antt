@@ -44,6 +44,22 @@ place-is t0 numbers room = go (judge (packChecks t0 numbers room)) refl
     go fine f = nowhere {n = 0} (omega arith) (omega arith)
     go (refused n p) f = pack-place t0 numbers room f
 
+-- ---- the answer in numbers
+
+module _ (t0 : ℤ) (numbers : List ℤ) (room : ℕ) where
+  -- The answer's refusal number and place, and the bytes written.
+  abbrev Says : ℕ → ℕ → ℕ → Type 0
+  Says refusal place written =
+      let a = packOf t0 numbers room in (refusalOf a ≡ refusal) × (placeOf a ≡ place) × (bytesWritten a ≡ written)
+
+  -- Refused: the number and the place of the first check that applies, and no bytes.
+  pub refused-says : {n p : ℕ} → judge (packChecks t0 numbers room) ≡ refused n p → Says n p 0
+  refused-says e = rw e (refl, refl, refl)
+
+  -- Not refused: the bytes of the packed order.
+  pub bytes-say : judge (packChecks t0 numbers room) ≡ fine → Says 0 0 (length (packOrder t0 numbers))
+  bytes-say e = rw e (refl, refl, refl)
+
 -- Every other number of a refused answer is 0.
 pub refused-else-0 : (a : Packed) → refusalOf a ≢ 0 → bytesWritten a ≡ 0
 refused-else-0 (Refused n p) h = refl

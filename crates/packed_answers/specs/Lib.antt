@@ -1,2 +1,2 @@
--- The answers on packed orders as structs of document 01's numbers.
+-- The answers on packed orders as structs of numbers.
 pub mod Numbers

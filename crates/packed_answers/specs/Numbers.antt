@@ -1,5 +1,5 @@
--- For each answer on a packed order, or on the sampler's byte, the struct that says it: document 01's refusal number and values.
--- In a refused answer all but the refusal and its place, and the reader's own place, are 0. Definitions only.
+-- For each answer on a packed order, or on the sampler's byte, the struct that says it: the refusal number and the values of
+-- the rules. In a refused answer all but the refusal and its place, and the reader's own place, are 0 (R26). Definitions only.
 use Prim.Native.Nat.{ℕ}
 use lib.IntN.{pos}
 use Rattle.heat.specs.Answer.{refusalOf as heatRefusal, lengthOf}
@@ -9,10 +9,8 @@ use Rattle.unpack.specs.Answer.{refusalOf as unpackRefusal, placeOf as unpackPl
 use Rattle.unpack.specs.declared.Unpacked.{Unpacked}
 use Rattle.pack.specs.Answer.{refusalOf as packRefusal, placeOf as packPlace, bytesWritten}
 use Rattle.pack.specs.declared.Packed.{Packed}
-use Rattle.reader.specs.Reading.{openRefusal, openCount, readRefusal, readPlace, readNumbers}
+use Rattle.reader.specs.Reading.{openRefusal, openCount, readRefusal, readPlace, readEnd, readNumbers}
 use Rattle.reader.specs.declared.Opened.{Opened}
-use Rattle.reader.specs.declared.Read.{Read}
-use Rattle.reader.specs.declared.Read.the-variants as read
 use Rattle.reader.specs.declared.Moved.{Moved}
 use Rattle.packed_answers.specs.declared.HeatAnswer.{HeatAnswer}
 use Rattle.packed_answers.specs.declared.UnpackAnswer.{UnpackAnswer}
@@ -36,12 +34,6 @@ packNumbers p = record { refusal = packRefusal p; place = packPlace p; bytes = b
 abbrev pub openNumbers : Opened → OpenAnswer
 openNumbers o = record { refusal = openRefusal o; jobs = openCount o }
 
--- The end is told by 1.
-abbrev pub endOf : Read → ℕ
-endOf (read.Job job) = 0
-endOf read.End = 1
-endOf (read.Refused n p) = 0
-
 -- A step that gives no job, with the place at which the reader then stands.
 abbrev pub noJob : ℕ → ℕ → ℕ → ℕ → StepAnswer
 noJob refusal place end next =
@@ -64,7 +56,7 @@ stepNumbers m =
     record {
       refusal = readRefusal (m .answer);
       place = readPlace (m .answer);
-      end = endOf (m .answer);
+      end = readEnd (m .answer);
       number = theNumber (readNumbers (m .answer));
       critical = theMark (readNumbers (m .answer));
       weight = theWeight (readNumbers (m .answer));

@@ -1,5 +1,5 @@
-// The answers on packed orders, and on the sampler's byte, as structs with C's layout: document 01's refusal number and values
-// for each case. Every answer has its struct. Assumes nothing.
+// The answers on packed orders, and on the sampler's byte, as structs with C's layout: the refusal number and the values
+// of the rules for each case. Every answer has its struct. Assumes nothing.
 ghost use mathlib.Core.Path.{_≡_};
 ghost use Rattle.packed_answers.specs.Numbers.{heatNumbers, unpackNumbers, packNumbers};
 ghost use Rattle.packed_answers.specs.Numbers.{openNumbers, noJob, stepNumbers};

@@ -1,5 +1,5 @@
--- For each answer on profiles, plans and openings the struct that says it: document 01's refusal number and values. In a refused
--- answer all but the refusal and its place are 0. Definitions only.
+-- For each answer on profiles, plans and openings the struct that says it: the refusal number and the values of the rules. In
+-- a refused answer all but the refusal and its place are 0 (R26). Definitions only.
 use Prim.Native.Nat.{ℕ, _-_}
 use Rattle.packed.specs.Layout.{headerBytes}
 use Rattle.profiles.specs.Answer.{lookupRefusal, foundOf, weightFound}

@@ -1,5 +1,5 @@
-// The answers on profiles, plans and openings as structs with C's layout: document 01's refusal number and values for each
-// case. Every answer has its struct. Assumes nothing.
+// The answers on profiles, plans and openings as structs with C's layout: the refusal number and the values of the rules
+// for each case. Every answer has its struct. Assumes nothing.
 ghost use mathlib.Core.Path.{_≡_};
 ghost use Prim.Native.Nat.{_-_};
 ghost use Rattle.packed.specs.Layout.{headerBytes};

@@ -1,101 +1,192 @@
--- What the answers of planning say: when it is refused with 11, how the figures of a plan fit together, and the places of
--- refusals.
+-- What the answers of planning say: their numbers, the places of refusals, when 11 is given, and how the figures of a plan fit
+-- together and with the list of jobs kept.
 use Prim.Native.Nat.{ℕ, _+_, _≤_}
-use mathlib.Core.Path.{_≡_, refl}
+use mathlib.Core.Path.{_≡_, refl, sym, ap, _∙_}
 use mathlib.Core.Bool.{false}
 use mathlib.Core.Logic.{_↔_}
 use mathlib.Core.List.{List, _++_}
-use mathlib.Core.Option.{Option, none, some, map-eq-none-iff}
+use mathlib.Core.Option.{Option, none, some, map-eq-none-iff, map-eq-some-iff}
 use native.Mathlib.Omega.{arith}
 use lib.Count.{ones}
-use lib.Dec.{T}
-use lib.IntN.{ℤ}
+use lib.IntN.{ℤ, pos}
 use lib.ListN.{length}
-use Rattle.order.specs.Job.{weightOf, orderWithin}
-use Rattle.order.specs.Choice.{Choice, feasible}
-use Rattle.plan.specs.Plan.{Answer, answerOf, plan, planAnswer}
-use Rattle.plan.specs.PlanIs.{plan-none}
+use Rattle.order.specs.Job.{Job, weightOf}
+use Rattle.order.specs.Choice.{Choice, feasible, lostWeight, mask, numberKept}
+use Rattle.order.specs.Runs.{run-length}
+use Rattle.profile.specs.Profile.{startPoint, pointTotal}
+use Rattle.plan.specs.Plan.{Ended, plan, Answer, answerOf, planAnswer}
+use Rattle.plan.specs.PlanIs.{plan-none, plan-is}
 use Rattle.plan.specs.Figures.{answer-figures}
-use Rattle.packed.specs.Judge.{Verdict, fine, refused}
+use Rattle.packed.specs.Judge.{Verdict, fine, refused, judge}
 use Rattle.packed.specs.JudgeLaws.{stages-fine, judge-tells}
 use Rattle.packed.specs.Packed.{countOf, numbersOf, orderOf}
 use Rattle.packed.specs.Refusals.{headerChecks, jobChecks, weightChecks, roomChecks, orderChecks}
+use Rattle.packed.specs.RefusalLaws.{room-fine}
 use Rattle.packed.specs.Accepted.{order-within}
-use Rattle.packed.specs.RefusalPlaces.{PlaceIs}
+use Rattle.packed.specs.RefusalPlaces.{PlaceIs, nowhere}
 use Rattle.cells.specs.Work.{area}
-use Rattle.judge.specs.Told.{ten-tells, placed-rooms, placed-order}
-use Rattle.planner.specs.Calls.{planChecks, planVerdict, figuresOf, plannedBy, plannedOf}
+use Rattle.judge.specs.Told.{ten-tells, Placed, placed-rooms, placed-order}
+use Rattle.starting.specs.Picks.{jobsKept}
+use Rattle.starting.specs.PicksLaws.{kept-list}
+use Rattle.planner.specs.Calls.{planChecks, planVerdict, figuresOf, plannedBy, plannedOf, PlanCall}
+use Rattle.planner.specs.Calls.{PlanNumbers, planNumbers}
 use Rattle.planner.specs.declared.Figures.{Figures}
-use Rattle.planner.specs.declared.Planned.the-variants.{Refused, Made}
+use Rattle.planner.specs.declared.Planned.{Planned}
+use Rattle.planner.specs.declared.Planned.the-variants.{Made}
+
+-- ---- the answer in numbers
+
+-- A refusal: all but its number and place is 0.
+abbrev pub refusedWith : ℕ → ℕ → PlanNumbers
+refusedWith n p =
+    record { refusal = n; place = p; mask = 0; kept = 0; keptWeight = 0; lostWeight = 0; finish = pos 0; points = 0 }
+
+-- A plan of some jobs with the bus free at a time, by the choice that it makes and the point that it ends in.
+abbrev pub plannedWith : ℤ → List Job → Ended → PlanNumbers
+plannedWith t js e =
+    record {
+      refusal = 0;
+      place = 0;
+      mask = mask (e .choice);
+      kept = numberKept (e .choice);
+      keptWeight = e .end .weight;
+      lostWeight = lostWeight js (e .choice);
+      finish = e .end .time;
+      points = pointTotal t js;
+    }
+
+module _ (bytes : List ℕ) (starts work : List ℤ) where
+  abbrev t0 : ℤ
+  t0 = orderOf bytes .t0
+
+  abbrev jobs : List Job
+  jobs = orderOf bytes .jobs
+
+  -- Refused by a check: the number and the place of the first that applies.
+  pub refused-says : {n p : ℕ} → planVerdict bytes starts work ≡ refused n p
+      → planNumbers (plannedOf bytes starts work) ≡ refusedWith n p
+  refused-says e = rw e
+
+  -- Past the checks: 11 where there is no plan,
+  pub no-plan-says : planVerdict bytes starts work ≡ fine → plan t0 jobs ≡ none
+      → planNumbers (plannedOf bytes starts work) ≡ refusedWith 11 0
+  no-plan-says e is = rw (e, is)
+
+  -- else the numbers of the plan.
+  pub plan-says : (e : Ended) → planVerdict bytes starts work ≡ fine → plan t0 jobs ≡ some e
+      → planNumbers (plannedOf bytes starts work) ≡ plannedWith t0 jobs e
+  plan-says e passed is = rw (passed, is)
+
+  -- The checks are passed exactly when the order is accepted and there is room for the starts and the rows.
+  plan-passed : planVerdict bytes starts work ≡ fine
+      ↔ ((judge (orderChecks bytes) ≡ fine) × (countOf bytes ≤ length starts) × (area ≤ length work))
+  unfolding planChecks
+  plan-passed =
+      let places = roomChecks (countOf bytes) (length starts) in
+      let all = stages-fine (orderChecks bytes ++ places) (roomChecks area (length work)) in
+      let first = stages-fine (orderChecks bytes) places in
+      let room = room-fine (countOf bytes) (length starts) in
+      let rows = room-fine area (length work) in (
+        λ e. (first .0 (all .0 e .0) .0, room .0 (first .0 (all .0 e .0) .1), rows .0 (all .0 e .1)),
+        λ h. all .1 (first .1 (h .0, room .1 (h .1)), rows .1 (h .2)),
+      )
+
+  -- No refusal by them has a number above 10.
+  plan-ten : {n p : ℕ} → planVerdict bytes starts work ≡ refused n p → n ≤ 10
+  unfolding planChecks headerChecks jobChecks weightChecks
+  plan-ten =
+      judge-tells (λ n p. n ≤ 10) (planChecks bytes starts work) (ten-tells (planChecks bytes starts work) tt)
+
+  -- Their places are those of 6 and 7, or else 0,
+  plan-placed : Placed (numbersOf bytes) (planChecks bytes starts work)
+  unfolding planChecks
+  plan-placed =
+      placed-rooms (numbersOf bytes) (orderChecks bytes) (countOf bytes) (length starts) area (length work) (placed-order bytes)
+
+  -- and so is the place of the answer.
+  pub plan-place : let a = planNumbers (plannedOf bytes starts work) in PlaceIs (numbersOf bytes) (a .refusal) (a .place)
+  plan-place = go (planVerdict bytes starts work) refl (planAnswer (orderOf bytes))
+    where
+      go : (v : Verdict) → planVerdict bytes starts work ≡ v → (o : Option Answer)
+          → let a = planNumbers (plannedBy v o) in PlaceIs (numbersOf bytes) (a .refusal) (a .place)
+      go fine d none = nowhere {n = 11} (omega arith) (omega arith)
+      go fine d (some a) = nowhere {n = 0} (omega arith) (omega arith)
+      go (refused n p) d o = plan-placed n p d
 
 -- ---- refusal 11
 
--- No refusal by the checks has a number above 10.
-plan-ten : (bytes : List ℕ) (starts work : List ℤ) {n p : ℕ} → planVerdict bytes starts work ≡ refused n p → n ≤ 10
-unfolding planChecks headerChecks jobChecks weightChecks
-plan-ten bytes starts work e =
-    judge-tells (λ n p. n ≤ 10) (planChecks bytes starts work) (ten-tells (planChecks bytes starts work) tt) e
+-- The order is accepted, there is room, and no choice of its jobs is feasible: none holds every critical job in its window.
+pub record NoneFeasible (bytes : List ℕ) (starts work : List ℤ) : Type 0 where
+  pub order : judge (orderChecks bytes) ≡ fine
+  pub places : countOf bytes ≤ length starts
+  pub rows : area ≤ length work
+  pub none : (c : Choice) → feasible (orderOf bytes .jobs) c (orderOf bytes .t0) ≡ false
 
--- Planning is refused with 11 exactly when the checks are passed and no choice is feasible: none holds every critical job
--- in its window.
-pub plan-eleven : (bytes : List ℕ) (starts work : List ℤ) → plannedOf bytes starts work ≡ Refused 11 0
-    ↔ ((planVerdict bytes starts work ≡ fine) × ((c : Choice) → feasible (orderOf bytes .jobs) c (orderOf bytes .t0) ≡ false))
-plan-eleven bytes starts work = (there, back)
-  where
-    no-plan : (planAnswer (orderOf bytes) ≡ none) ↔ ((c : Choice) → feasible (orderOf bytes .jobs) c (orderOf bytes .t0) ≡ false)
-    no-plan =
-        let o = orderOf bytes in
-        let mapped = map-eq-none-iff (answerOf (o .t0) (o .jobs)) (plan (o .t0) (o .jobs)) in
-        let is = plan-none (o .t0) (o .jobs) in
-        (λ e. is .0 (mapped .0 e), λ h. mapped .1 (is .1 h))
+module _ (bytes : List ℕ) (starts work : List ℤ) {r : Planned} {starts′ work′ : List ℤ}
+    (call : PlanCall bytes starts work r starts′ work′) where
+  -- Every outcome that the contract allows has refusal 11 exactly then.
+  pub plan-eleven : planNumbers r .refusal ≡ 11 ↔ NoneFeasible bytes starts work
+  plan-eleven =
+      (λ e. there (planVerdict bytes starts work) refl (planAnswer (orderOf bytes)) refl (ap number (sym (call .answer)) ∙ e), back)
+    where
+      number : Planned → ℕ
+      number a = planNumbers a .refusal
 
-    eleven : (v : Verdict) (a : Option Answer) → ((n p : ℕ) → v ≡ refused n p → n ≤ 10) → plannedBy v a ≡ Refused 11 0
-        → (v ≡ fine) × (a ≡ none)
-    eleven fine none ten e = (refl, refl)
-    eleven fine (some a) ten e = (refl, cc)
-    eleven (refused n p) a ten e = let same : n ≡ 11 = cc in absurd (omega (arith, ten n p refl))
+      -- No answer is no plan, which is no feasible choice.
+      without : (planAnswer (orderOf bytes) ≡ none) ↔ ((c : Choice) → feasible (jobs bytes starts work) c (t0 bytes starts work) ≡ false)
+      without =
+          let o = orderOf bytes in
+          let mapped = map-eq-none-iff (answerOf (o .t0) (o .jobs)) (plan (o .t0) (o .jobs)) in
+          let is = plan-none (o .t0) (o .jobs) in
+          (λ e. is .0 (mapped .0 e), λ h. mapped .1 (is .1 h))
 
-    there : plannedOf bytes starts work ≡ Refused 11 0
-        → (planVerdict bytes starts work ≡ fine) × ((c : Choice) → feasible (orderOf bytes .jobs) c (orderOf bytes .t0) ≡ false)
-    there e =
-        let both =
-        eleven (planVerdict bytes starts work) (planAnswer (orderOf bytes)) (λ n p. plan-ten bytes starts work) e in
-        (both .0, no-plan .0 (both .1))
+      there : (v : Verdict) → planVerdict bytes starts work ≡ v → (o : Option Answer) → planAnswer (orderOf bytes) ≡ o
+          → planNumbers (plannedBy v o) .refusal ≡ 11 → NoneFeasible bytes starts work
+      there fine d none is e =
+          let passed = plan-passed bytes starts work .0 d in
+          record { order = passed .0; places = passed .1; rows = passed .2; none = without .0 is }
+      there fine d (some a) is e = absurd (omega arith)
+      there (refused n p) d o is e = absurd (omega (arith, plan-ten bytes starts work d))
 
-    back : (planVerdict bytes starts work ≡ fine) × ((c : Choice) → feasible (orderOf bytes .jobs) c (orderOf bytes .t0) ≡ false)
-        → plannedOf bytes starts work ≡ Refused 11 0
-    back h = rw (h .0, no-plan .1 (h .1))
+      back : NoneFeasible bytes starts work → planNumbers r .refusal ≡ 11
+      back h =
+          ap number (call .answer) ∙ rw (plan-passed bytes starts work .1 (h .order, h .places, h .rows), without .1 (h .none))
 
 -- ---- a plan's figures
 
--- An order that is planned is within the limits.
-plan-within : (bytes : List ℕ) (starts work : List ℤ) → planVerdict bytes starts work ≡ fine → T (orderWithin (orderOf bytes))
-unfolding planChecks
-plan-within bytes starts work v =
-    let places = roomChecks (countOf bytes) (length starts) in
-    let rows = stages-fine (orderChecks bytes ++ places) (roomChecks area (length work)) .0 v in
-    order-within bytes (stages-fine (orderChecks bytes) places .0 (rows .0) .0)
+-- The figures of a plan that was made: they are those of the order's plan, the ones of the mask are as many as the list of jobs
+-- kept is long, which is the number kept, and the weights kept and lost are all weights.
+pub record Fitting (bytes : List ℕ) (f : Figures) : Type 0 where
+  pub best : Ended
+  pub is : plan (orderOf bytes .t0) (orderOf bytes .jobs) ≡ some best
+  pub marks : ones (f .mask) ≡ length (jobsKept (orderOf bytes .jobs) (best .choice))
+  pub kept : f .kept ≡ length (jobsKept (orderOf bytes .jobs) (best .choice))
+  pub weights : f .«kept_weight» + f .«lost_weight» ≡ weightOf (orderOf bytes .jobs)
 
--- The number kept is that of the ones in the mask, and the weights kept and lost are all weights.
-pub plan-fits : (bytes : List ℕ) (starts work : List ℤ) (f : Figures) → plannedOf bytes starts work ≡ Made f
-    → (f .kept ≡ ones (f .mask)) × (f .«kept_weight» + f .«lost_weight» ≡ weightOf (orderOf bytes .jobs))
-plan-fits bytes starts work f e = go (planVerdict bytes starts work) refl (planAnswer (orderOf bytes)) refl e
+-- The answer of an order's plan has such figures,
+answer-fits : (bytes : List ℕ) (a : Answer) → judge (orderChecks bytes) ≡ fine → planAnswer (orderOf bytes) ≡ some a
+    → Fitting bytes (figuresOf a)
+answer-fits bytes a accepted is =
+    let o = orderOf bytes in
+    let made = map-eq-some-iff (answerOf (o .t0) (o .jobs)) (plan (o .t0) (o .jobs)) .0 is in
+    let fits = answer-figures o a is (order-within bytes accepted) in
+    let e : Ended = made .0 in
+    let same : answerOf (o .t0) (o .jobs) e ≡ a = made .2 in
+    let long = run-length (o .jobs) (e .choice) (startPoint (o .t0)) (plan-is (o .t0) (o .jobs) e .0 (made .1) .feasible) in
+    let list : a .kept ≡ length (jobsKept (o .jobs) (e .choice)) =
+    ap (λ (b : Answer). b .kept) (sym same) ∙ kept-list (o .jobs) (e .choice) long in
+    record { best = e; is = made .1; marks = sym (fits .kept) ∙ list; kept = list; weights = fits .weights }
+
+-- and so has every outcome that the contract allows in which a plan is made.
+pub plan-fits : (bytes : List ℕ) (starts work : List ℤ) {r : Planned} {starts′ work′ : List ℤ}
+    → PlanCall bytes starts work r starts′ work′ → (f : Figures) → r ≡ Made f → Fitting bytes f
+plan-fits bytes starts work call f m =
+    go (planVerdict bytes starts work) refl (planAnswer (orderOf bytes)) refl (sym (call .answer) ∙ m)
   where
     go : (v : Verdict) → planVerdict bytes starts work ≡ v → (o : Option Answer) → planAnswer (orderOf bytes) ≡ o
-        → plannedBy v o ≡ Made f
-        → (f .kept ≡ ones (f .mask)) × (f .«kept_weight» + f .«lost_weight» ≡ weightOf (orderOf bytes .jobs))
+        → plannedBy v o ≡ Made f → Fitting bytes f
     go fine v (some a) is m =
         let same : figuresOf a ≡ f = cc in
-        let fits = answer-figures (orderOf bytes) a is (plan-within bytes starts work v) in
-        rw (← same) (fits .kept, fits .weights)
+        rw (← same) (answer-fits bytes a (plan-passed bytes starts work .0 v .0) is)
     go fine v none is m = let z : _≡_ {A = ℕ} 0 1 = cc in absurd (omega arith)
     go (refused n p) v o is m = let z : _≡_ {A = ℕ} 0 1 = cc in absurd (omega arith)
-
--- ---- the place of a refusal
-
--- That of 6 or 7, or else 0.
-pub plan-place : (bytes : List ℕ) (starts work : List ℤ) (n p : ℕ) → planVerdict bytes starts work ≡ refused n p
-    → PlaceIs (numbersOf bytes) n p
-unfolding planChecks
-plan-place bytes starts work =
-    placed-rooms (numbersOf bytes) (orderChecks bytes) (countOf bytes) (length starts) area (length work) (placed-order bytes)

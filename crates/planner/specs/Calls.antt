@@ -66,7 +66,7 @@ pub record PlanCall (bytes : List ℕ) (starts work : List ℤ) (r : Planned) (s
   pub written : starts′ ≡ startsAfter bytes starts work
   pub area : work′ ≡ planWorkAfter bytes starts work
 
--- ---- document 01's numbers for each case; all but the refusal and its place are 0 in a refused answer
+-- ---- the numbers for each case (R8); all but the refusal and its place are 0 in a refused answer (R26)
 
 -- The answer of planning.
 pub record PlanNumbers : Type 0 where

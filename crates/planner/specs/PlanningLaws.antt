@@ -10,7 +10,7 @@ use lib.ListN.{length, drop}
 use Rattle.seconds.specs.Limits.{mostWeight, mostPoints, mostJobs}
 use Rattle.seconds.specs.Signed.{signed}
 use Rattle.order.specs.Job.{Point}
-use Rattle.order.specs.Choice.{mask, numberKept, starts}
+use Rattle.order.specs.Choice.{mask, numberKept}
 use Rattle.profile.specs.Profile.{startPoint, pointsUpTo, pointTotal}
 use Rattle.profile.specs.Closure.{prefix-short}
 use Rattle.plan.specs.Plan.{Ended, plan, Answer, answerOf, planAnswer}

@@ -1,4 +1,5 @@
 // The call that plans: the plan of a packed order. Any bytes and buffers have an answer. Assumes nothing.
+use cells::AREA;
 use cells::Found;
 use cells::NEVER;
 use cells::ROW;
@@ -35,9 +36,6 @@ pub enum Planned {
     Refused(u32, usize),
     Made(Figures),
 }
-
-// How many numbers all rows take together.
-const AREA: usize = 14_749;
 
 // The plan that ends at the heaviest cell of the last row, by its weight and time; its starts are written.
 fn make_plan(

@@ -1,4 +1,4 @@
--- P3 of document 01 over records, as a computed fact; and records that are no profile.
+-- P3 of the rules over records, as a computed fact; and records that are no profile.
 use mathlib.Core.Path.{_≡_, refl}
 use mathlib.Core.List.{List, [], _∷_, map}
 use lib.IntN.{ℤ, pos, negsuc}

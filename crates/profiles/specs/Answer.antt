@@ -1,4 +1,4 @@
--- The answer of a lookup, for every input: what the definitions say, and document 01's numbers for each case.
+-- The answer of a lookup, for every input, and its numbers for each case (R15). Definitions only.
 use Prim.Native.Nat.{ℕ}
 use mathlib.Core.List.{List}
 use mathlib.Core.Option.{Option, none, some}

@@ -4,6 +4,8 @@ pub mod Answer
 pub mod NumbersLaws
 pub mod OnePass
 pub mod ByTime
+pub mod ByTimeLaws
 pub mod AnswerLaws
+pub mod AnswerSays
 pub mod Places
 pub mod Writing

@@ -26,8 +26,8 @@ const LATEST: i32 = 100000 + REST;
 
 const MOST_WEIGHT: i32 = 300;
 
-// The numbers of the longest profile, and the room that better-of wants.
-const MOST_NUMBERS: usize = 602;
+// The numbers of the longest profile, and the room that a call wants which writes one.
+pub const MOST_NUMBERS: usize = 602;
 
 // Whether the numbers hold a valid profile. Both rise, so the first and the last bound them all.
 pub fn valid(numbers: &[i32]) -> bool

@@ -1,4 +1,4 @@
--- P1 read job by job, and both sides of the reader's edges, as one list: each answer, and what document 01 says of it.
+-- P1 read job by job, and both sides of the reader's edges, as one list: each answer, and what the rules say of it.
 -- One statement holds of the whole list, by computation.
 use Prim.Native.Nat.{ℕ}
 use mathlib.Core.Path.{_≡_, refl}
@@ -91,7 +91,7 @@ edges =
 abbrev pub openings : List Opened
 openings = openOf p1 ∷ openOf damaged ∷ openOf repeated ∷ openOf [] ∷ openOf (p1 ++ 0 ∷ []) ∷ openOf (0 ∷ 0 ∷ 0 ∷ 0 ∷ []) ∷ []
 
--- Every edge is where document 01 has it.
+-- Every edge is where R23 has it.
 pub edges-hold : (map (λ (e : Edge). e .asked) edges ≡ map (λ (e : Edge). e .told) edges)
     × (openings
     ≡ opened.Accepted 5 ∷ opened.Accepted 5 ∷ opened.Accepted 7 ∷ opened.Refused 1 ∷ opened.Refused 4 ∷ opened.Accepted 0 ∷ [])

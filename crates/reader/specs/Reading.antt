@@ -69,7 +69,7 @@ steppedBy bytes place (refused n p) = record { answer = read.Refused n p; place 
 abbrev pub stepOf : List ℕ → ℕ → Moved
 stepOf bytes place = steppedBy bytes place (judge (stepChecks bytes place))
 
--- ---- document 01's numbers for each case
+-- ---- the numbers for each case (R23, R26)
 
 -- The refusal number that opening says.
 abbrev pub openRefusal : Opened → ℕ
@@ -92,6 +92,12 @@ abbrev pub readPlace : Read → ℕ
 readPlace (read.Job job) = 0
 readPlace read.End = 0
 readPlace (read.Refused n p) = p
+
+-- The end is told by 1.
+abbrev pub readEnd : Read → ℕ
+readEnd (read.Job job) = 0
+readEnd read.End = 1
+readEnd (read.Refused n p) = 0
 
 -- The numbers of the job.
 abbrev pub readNumbers : Read → List ℤ

@@ -33,7 +33,7 @@ pub made-again : (job : Job) {zs : List ℤ} → fieldsOf job ≡ zs → job ≡
 made-again job e = ap jobFrom e
 
 -- The bytes of a job say six numbers.
-six-numbers : (bytes : List ℕ) (place : ℕ) → fieldsOf (jobFrom (jobFields bytes place)) ≡ jobFields bytes place
+pub six-numbers : (bytes : List ℕ) (place : ℕ) → fieldsOf (jobFrom (jobFields bytes place)) ≡ jobFields bytes place
 six-numbers bytes place = rw (fields-is bytes place, job-decode (jobWord bytes place))
 
 -- ---- each case

@@ -20,11 +20,12 @@ unfoldable pub picksOf : ℕ → ℕ → Choice
 picksOf zero m = []
 picksOf (suc n) m = m / 2 ^ 63 ∷ picksOf n (m % 2 ^ 63 * 2)
 
--- The places of the jobs that a choice keeps, counted from a place on.
-abbrev pub placesKept : ℕ → Choice → List ℕ
-placesKept at [] = []
-placesKept at (zero ∷ c) = placesKept (suc at) c
-placesKept at (suc k ∷ c) = at ∷ placesKept (suc at) c
+-- The list of the jobs that a choice keeps.
+abbrev pub jobsKept : List Job → Choice → List Job
+jobsKept [] c = []
+jobsKept (j ∷ js) [] = []
+jobsKept (j ∷ js) (zero ∷ c) = jobsKept js c
+jobsKept (j ∷ js) (suc k ∷ c) = j ∷ jobsKept js c
 
 -- ---- one job
 

@@ -14,7 +14,7 @@ use Rattle.order.specs.Job.{Job}
 use Rattle.order.specs.Choice.{Choice, feasible, bitOf, maskOf, mask, numberKept}
 use Rattle.order.specs.Counts.{mask-fits, kept-is-ones, feasible-holds}
 use Rattle.order.specs.OneRate.{OneRate, Marks, one-rate-marks}
-use Rattle.starting.specs.Picks.{picksOf, placesKept}
+use Rattle.starting.specs.Picks.{picksOf, jobsKept}
 
 -- No picks,
 pub picks-none : (m : ℕ) → picksOf 0 m ≡ []
@@ -120,11 +120,13 @@ pick-is-bit (suc n) m (suc i) h l b =
 
 -- ---- how many are kept
 
--- The number kept is the length of the list of places kept.
-pub kept-list : (at : ℕ) (c : Choice) → numberKept c ≡ length (placesKept at c)
-kept-list at [] = refl
-kept-list at (zero ∷ c) = let ih = kept-list (suc at) c in omega arith
-kept-list at (suc k ∷ c) = let ih = kept-list (suc at) c in omega arith
+-- The number kept is the length of the list of jobs kept.
+pub kept-list : (js : List Job) (c : Choice) → length c ≡ length js → numberKept c ≡ length (jobsKept js c)
+kept-list [] [] h = refl
+kept-list [] (x ∷ c) h = absurd (omega arith)
+kept-list (j ∷ js) [] h = refl
+kept-list (j ∷ js) (zero ∷ c) h = let ih = kept-list js c (omega arith) in omega arith
+kept-list (j ∷ js) (suc k ∷ c) h = let ih = kept-list js c (omega arith) in omega arith
 
 -- The ones in a mask are the jobs that it keeps,
 pub ones-kept : (m : ℕ) → m < 2 ^ 64 → ones m ≡ numberKept (picksOf 64 m)

@@ -1,5 +1,5 @@
--- The answer of unpacking and the lent numbers after the call, for every input: what the definitions say, and document 01's
--- numbers for each case.
+-- The answer of unpacking and the lent numbers after the call, for every input, and its numbers for each case (R22, R26).
+-- Definitions only.
 use Prim.Native.Nat.{ℕ}
 use mathlib.Core.List.{List, _++_}
 use lib.IntN.{ℤ, pos}

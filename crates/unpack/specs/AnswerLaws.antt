@@ -1,5 +1,5 @@
 -- What the code of unpacking learns on its way, as the answer of the call and the lent numbers after it.
-use Prim.Native.Nat.{ℕ, _+_, _*_, _≤_, _<_}
+use Prim.Native.Nat.{ℕ, _*_, _≤_, _<_}
 use mathlib.Core.Path.{_≡_, refl, _∙_}
 use mathlib.Core.List.{List, _++_}
 use native.Mathlib.Omega.{arith}
@@ -19,7 +19,8 @@ use Rattle.judge.specs.Verdicts.{verdictOf}
 use Rattle.judge.specs.Told.{refusal-told}
 use Rattle.judge.specs.declared.Verdict.the-variants.{Refused as Said}
 use Rattle.unpack.specs.Answer.{unpackedBy, numbersBy, unpackOf, numbersAfter}
-use Rattle.unpack.specs.Writing.{Unpackable, firstJobs, all-written}
+use Rattle.unpack.specs.Writing.{Unpackable, firstJobs}
+use Rattle.unpack.specs.WritingLaws.{all-written}
 use Rattle.unpack.specs.declared.Unpacked.{Unpacked}
 use Rattle.unpack.specs.declared.Unpacked.the-variants.{Refused, Jobs}
 

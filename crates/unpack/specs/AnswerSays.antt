@@ -43,6 +43,23 @@ place-is bytes room = go (judge (unpackChecks bytes room)) refl
     go fine f = nowhere {n = 0} (omega arith) (omega arith)
     go (refused n p) f = unpack-place bytes room f
 
+-- ---- the answer in numbers
+
+module _ (bytes : List ℕ) (room : ℕ) where
+  -- The answer's refusal number and place, how many jobs, and the bus-free time.
+  abbrev Says : ℕ → ℕ → ℕ → ℤ → Type 0
+  Says refusal place jobs t0 =
+      let a = unpackOf bytes room in
+      (refusalOf a ≡ refusal) × (placeOf a ≡ place) × (jobsUnpacked a ≡ jobs) × (t0Unpacked a ≡ t0)
+
+  -- Refused: the number and the place of the first check that applies, and all else 0.
+  pub refused-says : {n p : ℕ} → judge (unpackChecks bytes room) ≡ refused n p → Says n p 0 (pos 0)
+  refused-says e = rw e (refl, refl, refl, refl)
+
+  -- Not refused: the jobs and the bus-free time of the order.
+  pub jobs-say : judge (unpackChecks bytes room) ≡ fine → Says 0 0 (countOf bytes) (t0Of bytes)
+  jobs-say e = rw e (refl, refl, refl, refl)
+
 -- Every other number of a refused answer is 0.
 pub refused-else-0 : (a : Unpacked) → refusalOf a ≢ 0 → (jobsUnpacked a ≡ 0) × (t0Unpacked a ≡ pos 0)
 refused-else-0 (Refused n p) h = (refl, refl)

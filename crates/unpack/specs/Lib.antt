@@ -1,5 +1,6 @@
 -- Unpacking: the answer of the call and the lent numbers after it, and what the code's loop says on the way.
 pub mod Answer
 pub mod Writing
+pub mod WritingLaws
 pub mod AnswerLaws
 pub mod AnswerSays

@@ -13,7 +13,8 @@ use mir.Facts.{toZ-ofZ}
 use borrow.Author.Needs.{needs}
 use Rattle.profiles.specs.NumbersLaws.{timeAt, weightAt}
 use Rattle.profiles.specs.Places.{NextPoint, next-point}
-use Rattle.better.specs.Merging.{firstGoesAt, first-ended, second-ended, both-left}
+use Rattle.better.specs.Merging.{firstGoesAt}
+use Rattle.better.specs.MergingLaws.{first-ended, second-ended, both-left}
 use Rattle.better.proofs.first_goes.Statement.{statement}
 use Rattle.better.proofs.first_goes.Tie as tie
 

@@ -14,8 +14,10 @@ use mir.Facts.{toZ-ofZ}
 use borrow.Author.Tests.{ltb-true, ltb-false}
 use Rattle.seconds.specs.Signed.{signed}
 use Rattle.profiles.specs.Places.{NextPoint, next-point}
-use Rattle.better.specs.Merging.{first-left, second-left, Taken, taken-first, taken-second}
-use Rattle.better.specs.Merging.{Merging, merging-start, merging-past, merging-room, merging-kept, merging-end}
+use Rattle.better.specs.Merging.{Taken}
+use Rattle.better.specs.MergingLaws.{first-left, second-left, taken-first, taken-second}
+use Rattle.better.specs.Merging.{Merging}
+use Rattle.better.specs.MergingLaws.{merging-start, merging-past, merging-room, merging-kept, merging-end}
 use Rattle.better.proofs.merge.Statement.{statement}
 use Rattle.better.proofs.merge.Tie as tie
 

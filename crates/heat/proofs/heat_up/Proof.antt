@@ -1,15 +1,15 @@
 -- `heat::heat_up` meets its contract: the tests part the degrees as the rule does, and the table says the rest.
 -- Assumes nothing.
 use mathlib.Core.Path.{_≡_, _∙_, sym, ap}
-use Prim.Native.Nat.{ℕ, _<_, _≤_}
+use Prim.Native.Nat.{ℕ, _<_}
 use lib.IntN.{ℤ, pos, negsuc, _+ℤ_, natAbs}
 use lib.Signed.{_≤ℤ_, _<ℤ_, yes-nonNeg}
 use mir.Syntax.{w32}
-use mir.Val.{SFits, Fits, toZ, ofZ}
-use mir.Facts.{toZ-ofZ, fits-below}
+use mir.Val.{SFits, toZ, ofZ}
+use mir.Facts.{toZ-ofZ}
 use borrow.Author.Needs.{needs}
 use Rattle.seconds.specs.Signed.{signed, add-is, abs-is, one-zero}
-use Rattle.heat.specs.Heat.{degreeOf, heatAt}
+use Rattle.heat.specs.Heat.{degreeOf}
 use Rattle.heat.specs.declared.Heating.the-variants.{Seconds}
 use Rattle.heat.specs.Degree.{heating-cold, heating-else, heat-none}
 use Rattle.heat.specs.Table.{table-says}

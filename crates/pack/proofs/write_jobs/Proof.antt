@@ -10,7 +10,8 @@ use Rattle.packed.specs.Packed.{fieldsAt}
 use Rattle.packed.specs.Refusals.{fieldsWithin}
 use Rattle.fields.specs.Fields.{fieldsOf}
 use Rattle.fields.specs.Facts.{read-from}
-use Rattle.pack.specs.Writing.{firstRecords, none-written, written-length, one-more}
+use Rattle.pack.specs.Writing.{firstRecords}
+use Rattle.pack.specs.WritingLaws.{none-written, written-length, one-more}
 use Rattle.pack.proofs.write_jobs.Statement.{statement}
 use Rattle.pack.proofs.write_jobs.Tie as tie
 

@@ -2,7 +2,7 @@
 -- the rest. Assumes nothing.
 use mathlib.Core.Path.{_≡_}
 use mathlib.Core.List.{List}
-use Prim.Native.Nat.{ℕ, _+_, _-_, _≤_, _<_}
+use Prim.Native.Nat.{ℕ, _+_, _-_, _≤_}
 use native.Mathlib.Omega.{arith}
 use lib.IntN.{ℤ}
 use lib.ListN.{length, drop}
@@ -12,7 +12,8 @@ use mir.Val.{SFits, toZ}
 use mir.Facts.{toZ-ofZ}
 use Rattle.seconds.specs.Signed.{signed}
 use Rattle.profiles.specs.NumbersLaws.{timeAt}
-use Rattle.profiles.specs.ByTime.{countBy, count-on, count-stops, count-ends}
+use Rattle.profiles.specs.ByTime.{countBy}
+use Rattle.profiles.specs.ByTimeLaws.{count-on, count-stops, count-ends}
 use Rattle.profiles.proofs.count_by.Statement.{statement}
 use Rattle.profiles.proofs.count_by.Tie as tie
 

@@ -14,7 +14,8 @@ use borrow.Author.Needs.{needs}
 use borrow.Author.Tests.{not-true, not-false}
 use Rattle.seconds.specs.Signed.{signed}
 use Rattle.profiles.specs.Numbers.{holdsProfile}
-use Rattle.profiles.specs.ByTime.{countBy, count-within}
+use Rattle.profiles.specs.ByTime.{countBy}
+use Rattle.profiles.specs.ByTimeLaws.{count-within}
 use Rattle.profiles.specs.Answer.{lookupOf}
 use Rattle.profiles.specs.AnswerLaws.{lookup-refused, lookup-nothing, lookup-found}
 use Rattle.profiles.specs.declared.Finding.the-variants.{Found}

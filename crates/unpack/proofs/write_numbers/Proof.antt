@@ -7,7 +7,8 @@ use native.Mathlib.Omega.{arith}
 use lib.IntN.{ℤ}
 use lib.ListN.{length, take, drop}
 use Rattle.fields.specs.Fields.{fieldsOf}
-use Rattle.unpack.specs.Writing.{firstJobs, none-written, written-length, one-more}
+use Rattle.unpack.specs.Writing.{firstJobs}
+use Rattle.unpack.specs.WritingLaws.{none-written, written-length, one-more}
 use Rattle.unpack.proofs.write_numbers.Statement.{statement}
 use Rattle.unpack.proofs.write_numbers.Tie as tie
 
