@@ -1,5 +1,6 @@
 // Numbers read, written, cut short and added with an answer for every place and every number, so that
 // trial programs carry no bounds of their own. Every function is safe and ends. Assumes nothing.
+ghost use Prim.Native.Nat.{_≤_};
 
 // The numbers of a sum are no less than the first and no greater than the second.
 const LOW: i32 = -1_000_000;
@@ -40,6 +41,22 @@ pub fn front_bytes(bytes: &[u8], many: usize) -> &[u8] {
     bytes
 }
 
+// The first so many numbers, lent to be written, or all where there are fewer.
+pub fn lend(numbers: &mut [i32], many: usize) -> &mut [i32] {
+    if many <= numbers.len() {
+        return &mut numbers[0..many];
+    }
+    numbers
+}
+
+// The same of bytes.
+pub fn lend_bytes(bytes: &mut [u8], many: usize) -> &mut [u8] {
+    if many <= bytes.len() {
+        return &mut bytes[0..many];
+    }
+    bytes
+}
+
 // Whether two runs of numbers are the same.
 pub fn same(one: &[i32], other: &[i32]) -> bool {
     if one.len() != other.len() {
@@ -55,16 +72,23 @@ pub fn same(one: &[i32], other: &[i32]) -> bool {
     true
 }
 
-// Whether all numbers are one number.
-pub fn all_are(numbers: &[i32], number: i32) -> bool {
-    let mut i = 0;
+// The first place, from a place on, that holds another number than one; none is past the end.
+pub fn first_other(numbers: &[i32], number: i32, from: usize) -> usize
+    ensures { λ r. ⌜ from ≤ r ⌝ }
+{
+    let mut i = from;
     while i < numbers.len() {
         if at(numbers, i) != number {
-            return false;
+            return i;
         }
         i += 1;
     }
-    true
+    i
+}
+
+// Whether all numbers are one number.
+pub fn all_are(numbers: &[i32], number: i32) -> bool {
+    first_other(numbers, number, 0) >= numbers.len()
 }
 
 // The sum of two numbers, 0 where one is too far from 0.

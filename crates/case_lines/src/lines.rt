@@ -1,6 +1,8 @@
 // Reads a case: the parts of its line and the numbers in them. Every text and every place has an
 // answer, so that the program carries no bounds.
-ghost use Prim.Native.Nat.{_≤_};
+use careful::put;
+ghost use Prim.Native.Nat.{_+_, _≤_, min};
+ghost use lib.ListN.{length};
 
 // The byte at a place, a space past the end.
 pub fn byte_at(text: &[u8], place: usize) -> u8 {
@@ -24,8 +26,10 @@ pub fn place_of(text: &[u8], from: usize, byte: u8) -> usize
     i
 }
 
-// The place past the first such byte.
-fn past(text: &[u8], from: usize, byte: u8) -> usize {
+// The place past the first such byte: from within the text it lies further on.
+pub fn past(text: &[u8], from: usize, byte: u8) -> usize
+    ensures { λ r. ⌜ min (from + 1) (length (now (text .entry))) ≤ r ⌝ }
+{
     let place = place_of(text, from, byte);
     if place < text.len() {
         return place + 1;
@@ -39,6 +43,11 @@ pub fn between(text: &[u8], from: usize, to: usize) -> &[u8] {
         return &text[from..to];
     }
     &text[..0]
+}
+
+// The word that a case begins with: the call that it is for.
+pub fn call_of(line: &[u8]) -> &[u8] {
+    between(line, 0, place_of(line, 0, b' '))
 }
 
 // Whether a line is a case: an empty one and one that begins with # are none.
@@ -111,23 +120,6 @@ fn number_at(text: &[u8], at: usize) -> i32 {
     signed(size_at(text, at), byte_at(text, at) == b'-')
 }
 
-// The numbers behind the first word of a part, put into a buffer as far as it goes. Returns how many
-// there are.
-pub fn read_numbers(part: &[u8], numbers: &mut [i32]) -> usize {
-    let mut at = past(part, 0, b' ');
-    let mut count = 0;
-    while at < part.len() {
-        careful::put(numbers, count, number_at(part, at));
-        count += 1;
-        let end = place_of(part, at, b' ');
-        if end >= part.len() {
-            return count;
-        }
-        at = end + 1;
-    }
-    count
-}
-
 // Puts the low eight bits of a number at a place; past the end nothing is written.
 fn put_byte(bytes: &mut [u8], place: usize, value: u32) {
     if place < bytes.len() {
@@ -135,20 +127,30 @@ fn put_byte(bytes: &mut [u8], place: usize, value: u32) {
     }
 }
 
-// The same of bytes.
-pub fn read_bytes(part: &[u8], bytes: &mut [u8]) -> usize {
+// The numbers behind the first word of a part, put into one buffer as numbers and into the other as bytes,
+// as far as each goes. Returns how many there are.
+fn read_each(part: &[u8], numbers: &mut [i32], bytes: &mut [u8]) -> usize {
     let mut at = past(part, 0, b' ');
     let mut count = 0;
     while at < part.len() {
+        put(numbers, count, number_at(part, at));
         put_byte(bytes, count, size_at(part, at));
         count += 1;
-        let end = place_of(part, at, b' ');
-        if end >= part.len() {
-            return count;
-        }
-        at = end + 1;
+        at = past(part, at, b' ');
     }
     count
+}
+
+// Those numbers. Returns how many there are.
+pub fn read_numbers(part: &[u8], numbers: &mut [i32]) -> usize {
+    let mut unused = [0; 1];
+    read_each(part, numbers, &mut unused)
+}
+
+// The same as bytes.
+pub fn read_bytes(part: &[u8], bytes: &mut [u8]) -> usize {
+    let mut unused = [0; 1];
+    read_each(part, &mut unused, bytes)
 }
 
 // Where the number stands in front of a case's first bar that follows a word, by the word's last letter.

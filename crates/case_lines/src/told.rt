@@ -3,11 +3,12 @@
 use crate::lines::between;
 use crate::lines::place_of;
 use careful::at;
+use careful::first_other;
 use fields::Job;
 use reader::Moved;
 use reader::Opened;
 use reader::Read;
-ghost use Prim.Native.Nat.{_≤_, _<_};
+ghost use Prim.Native.Nat.{_<_};
 ghost use lib.ListN.{length};
 
 // A word.
@@ -46,27 +47,13 @@ pub fn put_refusal(number: u32, place: usize) {
     put_count(place as u64);
 }
 
-// The first place, from a place on, that does not hold a number.
-fn run_end(numbers: &[i32], number: i32, from: usize) -> usize
-    ensures { λ r. ⌜ from ≤ r ⌝ }
-{
-    let mut i = from;
-    while i < numbers.len() {
-        if at(numbers, i) != number {
-            return i;
-        }
-        i += 1;
-    }
-    i
-}
-
 // The number at a place; of ten and more of one kind how many they are. Returns the place past them.
 fn put_run(numbers: &[i32], place: usize) -> usize
     requires { ⌜ place < length (now numbers) ⌝ }
     ensures { λ r. ⌜ place < r ⌝ }
 {
     let number = at(numbers, place);
-    let end = run_end(numbers, number, place + 1);
+    let end = first_other(numbers, number, place + 1);
     put(number);
     if end - place < 10 {
         return place + 1;

@@ -3,43 +3,35 @@
 use libc::STDIN_FILENO;
 use libc::STDOUT_FILENO;
 use report::ROOM;
-use report::report;
+use report::report_read;
 ghost use mathlib.Core.Path.{_≡_};
 ghost use Prim.Native.Nat.{_<_};
-ghost use lib.ListN.{length};
-ghost use Rattle.io.specs.Counts.{Counts};
-ghost use Rattle.report.specs.Report.{reportOf};
-ghost use Rattle.report.specs.Longer.{longestOrder};
+ghost use lib.ListN.{length, take};
+ghost use Rattle.report.specs.Report.{reportOf, longestOrder};
 
 // One byte more than the longest order has: any longer input has the text of its first bytes (`read-enough`
 // of report).
 const READ: usize = 389;
 
-// The text for some bytes, and nothing else, is handed to standard output.
-fn write(bytes: &[u8], text: &[u8])
-    requires { ⌜ now text ≡ reportOf (now bytes) ⌝ }
-{
-    io::write_all(STDOUT_FILENO, text);
-}
-
-// The text for some bytes is made and written.
-pub fn tell(bytes: &[u8]) {
-    let mut out = [0u8; ROOM];
-    let end = report(bytes, &mut out);
-    write(bytes, &out[..end]);
-}
-
 // The first bytes of standard input, into room for more than the longest order. A slow pipe is waited for.
 fn read(input: &mut [u8]) -> usize
     requires { ⌜ longestOrder < length (now input) ⌝ }
-    ensures { λ r. ⌜ Counts r (now (input .exit)) ⌝ }
 {
     io::read_full(STDIN_FILENO, input)
 }
 
-// One order, read and told.
+// The text for what was read, the first `count` bytes of a buffer, and nothing else goes to standard output.
+fn write(input: &[u8], count: usize, text: &[u8])
+    requires { ⌜ now text ≡ reportOf (take count (now input)) ⌝ }
+{
+    io::write_all(STDOUT_FILENO, text);
+}
+
+// The program: one read, one report of what was read, one write of it.
 pub fn run() {
     let mut input = [0u8; READ];
+    let mut out = [0u8; ROOM];
     let count = read(&mut input);
-    tell(&input[..count]);
+    let end = report_read(&input, count, &mut out);
+    write(&input, count, &out[..end]);
 }

@@ -2,7 +2,7 @@
 -- and a program that reads more than 388 bytes of it has read enough.
 use Prim.Native.Nat.{ℕ, _+_, _*_, _<_}
 use mathlib.Core.Path.{_≡_, sym, ap, _∙_}
-use mathlib.Core.Bool.{not, cond}
+use mathlib.Core.Bool.{not}
 use mathlib.Core.List.{List, _++_}
 use native.Mathlib.Omega.{arith}
 use lib.Dec.{ltb, eqb}
@@ -16,15 +16,7 @@ use Rattle.packed.specs.Packed.{headerWord, countOf, spareOf, numbersOf}
 use Rattle.packed.specs.PackedLaws.{count-is, spare-is}
 use Rattle.packed.specs.Refusals.{headerChecks, jobChecks, weightChecks}
 use Rattle.packed.specs.Steps.{header-judge}
-use Rattle.report.specs.Report.{refusalLine, textOf, reportOf}
-
--- The bytes of an order of 48 jobs.
-abbrev pub longestOrder : ℕ
-longestOrder = 388
-
--- What longer bytes are refused by: 2 or 3 where they apply, else 4.
-abbrev pub tooLong : List ℕ → ℕ
-tooLong bytes = cond (not (eqb (spareOf bytes) 0)) 2 (cond (ltb 48 (countOf bytes)) 3 4)
+use Rattle.report.specs.Report.{refusalLine, textOf, reportOf, longestOrder, tooLong}
 
 module _ (bytes : List ℕ) (long : longestOrder < length bytes) where
   -- Their header refuses them.

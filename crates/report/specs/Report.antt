@@ -1,17 +1,17 @@
 -- The text that the program prints, as a function of the bytes that it reads. Definitions only.
 use Prim.Native.Nat.{ℕ, _≤_}
 use mathlib.Core.Path.{_≡_}
-use mathlib.Core.Bool.{cond}
+use mathlib.Core.Bool.{not, cond}
 use mathlib.Core.List.{List, [], _∷_, _++_}
 use mathlib.Core.Option.{Option, none, some}
-use lib.Dec.{ltb}
+use lib.Dec.{ltb, eqb}
 use lib.IntN.{ℤ, pos}
 use lib.ListN.{length, drop}
 use Rattle.seconds.specs.Limits.{leftOut}
 use Rattle.order.specs.Job.{Job, Order}
 use Rattle.plan.specs.Plan.{Answer, planAnswer}
 use Rattle.packed.specs.Judge.{Verdict, fine, refused, judge}
-use Rattle.packed.specs.Packed.{orderOf}
+use Rattle.packed.specs.Packed.{countOf, spareOf, orderOf}
 use Rattle.packed.specs.Refusals.{same, orderChecks}
 use Rattle.planner.specs.Calls.{figuresOf}
 use Rattle.planner.specs.declared.Figures.{Figures}
@@ -59,7 +59,17 @@ textOf fine o = planText (o .jobs) (planAnswer o)
 unfoldable pub reportOf : List ℕ → List ℕ
 reportOf bytes = textOf (judge (orderChecks bytes)) (orderOf bytes)
 
--- ---- the call
+-- ---- longer input
+
+-- The bytes of an order of 48 jobs.
+abbrev pub longestOrder : ℕ
+longestOrder = 388
+
+-- What longer bytes are refused by: 2 or 3 where they apply, else 4.
+abbrev pub tooLong : List ℕ → ℕ
+tooLong bytes = cond (not (eqb (spareOf bytes) 0)) 2 (cond (ltb 48 (countOf bytes)) 3 4)
+
+-- ---- the calls
 
 -- The room that is wanted for a text, in bytes: enough for that of any order.
 abbrev pub textRoom : ℕ

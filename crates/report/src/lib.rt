@@ -1,5 +1,6 @@
 // The text that the program prints: the plan of the bytes that it read, or why there is none, written into
 // a lent buffer. Assumes nothing.
+use cells::AREA;
 use fields::header_at;
 use fields::job_at;
 use planner::Figures;
@@ -10,6 +11,7 @@ use text::put_count;
 use text::put_number;
 ghost use mathlib.Core.List.{[], _∷_, _++_};
 ghost use Prim.Native.Nat.{_+_, _≤_};
+ghost use lib.ListN.{take};
 ghost use Rattle.text.specs.Decimal.{space, digits};
 ghost use Rattle.text.specs.Buffer.{Room, Wrote};
 ghost use Rattle.report.specs.Report.{planLine, startWord, jobLine, reportOf, Reported};
@@ -25,10 +27,8 @@ const MINUS: u8 = 45;
 // What stands for the start of a job that is left out.
 const LEFT_OUT: i32 = 200_000;
 
-// The most jobs of an order, and the numbers that planning works in.
+// The most jobs of an order.
 const MOST_JOBS: usize = 48;
-
-const AREA: usize = 14_749;
 
 // The room that is wanted for a text, in bytes.
 pub const ROOM: usize = 2048;
@@ -151,4 +151,14 @@ pub fn report(bytes: &[u8], out: &mut [u8]) -> usize
     let mut starts = [0i32; MOST_JOBS];
     let mut work = [0i32; AREA];
     plan_and_tell(bytes, &mut starts, &mut work, out)
+}
+
+// The text for what was read into a buffer: its first `count` bytes, or all where it has fewer.
+pub fn report_read(input: &[u8], count: usize, out: &mut [u8]) -> usize
+    ensures { λ r. ⌜ Reported (take count (now (input .entry))) (now (out .entry)) (now (out .exit)) r ⌝ }
+{
+    if count < input.len() {
+        return report(&input[..count], out);
+    }
+    report(input, out)
 }

@@ -1,0 +1,50 @@
+// Two openings: the question which of them wins at a time, and the choice between them.
+use crate::WORK_MARK;
+use careful::front_bytes;
+use careful::lend;
+use case_lines::count_setting;
+use case_lines::make_order;
+use case_lines::part;
+use case_lines::put_buffer;
+use case_lines::put_count;
+use case_lines::put_part;
+use case_lines::put_refused;
+use case_lines::setting;
+use openings::Chosen;
+
+// What the question answered.
+fn put_chosen(answer: Chosen) {
+    match answer {
+        Chosen::Refused(number) => put_refused(number),
+        Chosen::First => put_count(1),
+        Chosen::Second => put_count(2),
+    }
+}
+
+// `question`: two orders at a time, with a work area lent.
+pub fn question(line: &[u8]) {
+    let mut one = [0; 400];
+    let one_size = make_order(part(line, 1), &mut one);
+    let mut other = [0; 400];
+    let other_size = make_order(part(line, 2), &mut other);
+    let mut space = [WORK_MARK; 15_000];
+    let work = lend(&mut space, count_setting(line, b'k'));
+    let first = front_bytes(&one, one_size);
+    let second = front_bytes(&other, other_size);
+    put_chosen(openings::question(first, second, setting(line, b't'), work));
+    put_buffer(work);
+}
+
+// `choose`: the same.
+pub fn choose(line: &[u8]) {
+    let mut one = [0; 400];
+    let one_size = make_order(part(line, 1), &mut one);
+    let mut other = [0; 400];
+    let other_size = make_order(part(line, 2), &mut other);
+    let mut space = [WORK_MARK; 15_000];
+    let work = lend(&mut space, count_setting(line, b'k'));
+    let first = front_bytes(&one, one_size);
+    let second = front_bytes(&other, other_size);
+    put_part(openings::choose(first, second, setting(line, b't'), work));
+    put_buffer(work);
+}

@@ -1,0 +1,70 @@
+// Packed orders and heat-up: unpacking, packing, and the length for a sampler's byte.
+use crate::MARK;
+use careful::front;
+use careful::front_bytes;
+use careful::lend;
+use careful::lend_bytes;
+use case_lines::count_setting;
+use case_lines::part;
+use case_lines::put;
+use case_lines::put_buffer;
+use case_lines::put_bytes;
+use case_lines::put_count;
+use case_lines::put_refusal;
+use case_lines::put_refused;
+use case_lines::read_bytes;
+use case_lines::read_numbers;
+use case_lines::setting;
+use heat::Heating;
+use pack::Packed;
+use unpack::Unpacked;
+
+// What bytes are written over.
+const BYTE_MARK: u8 = 170;
+
+// What unpacking answered.
+fn put_unpacked(answer: Unpacked) {
+    match answer {
+        Unpacked::Refused(number, place) => put_refusal(number, place),
+        Unpacked::Jobs(jobs, t0) => {
+            put_count(jobs as u64);
+            put(t0);
+        }
+    }
+}
+
+// `unpack`: bytes, into the room lent.
+pub fn unpack(line: &[u8]) {
+    let mut bytes = [0; 400];
+    let size = read_bytes(part(line, 1), &mut bytes);
+    let mut space = [MARK; 300];
+    let numbers = lend(&mut space, count_setting(line, b'm'));
+    put_unpacked(unpack::unpack(front_bytes(&bytes, size), numbers));
+    put_buffer(numbers);
+}
+
+// What packing answered.
+fn put_packed(answer: Packed) {
+    match answer {
+        Packed::Refused(number, place) => put_refusal(number, place),
+        Packed::Bytes(written) => put_count(written as u64),
+    }
+}
+
+// `pack`: a bus-free time and numbers, into the room lent.
+pub fn pack(line: &[u8]) {
+    let mut numbers = [0; 300];
+    let many = read_numbers(part(line, 1), &mut numbers);
+    let mut space = [BYTE_MARK; 400];
+    let bytes = lend_bytes(&mut space, count_setting(line, b'm'));
+    put_packed(pack::pack(setting(line, b'f'), front(&numbers, many), bytes));
+    put_bytes(bytes);
+}
+
+// `heat`: a byte.
+pub fn heat_up(line: &[u8]) {
+    match heat::heat_up((count_setting(line, b'e') % 256) as u8) {
+        Heating::Seconds(seconds) => put_count(seconds as u64),
+        Heating::TooCold => put_refused(12),
+    }
+}

@@ -1,0 +1,57 @@
+// Plans: the call itself, and the text that the program prints for an order.
+use crate::MARK;
+use crate::WORK_MARK;
+use careful::front_bytes;
+use careful::lend;
+use case_lines::count_setting;
+use case_lines::make_order;
+use case_lines::part;
+use case_lines::put;
+use case_lines::put_buffer;
+use case_lines::put_count;
+use case_lines::put_refusal;
+use case_lines::put_word;
+use planner::Figures;
+use planner::Planned;
+
+// A plan's numbers.
+fn put_figures(figures: Figures) {
+    put_word(b" made");
+    put_count(figures.mask);
+    put_count(figures.kept as u64);
+    put_count(figures.kept_weight as u64);
+    put_count(figures.lost_weight as u64);
+    put(figures.finish);
+    put_count(figures.points as u64);
+}
+
+// What planning answered.
+fn put_planned(answer: Planned) {
+    match answer {
+        Planned::Refused(number, place) => put_refusal(number, place),
+        Planned::Made(figures) => put_figures(figures),
+    }
+}
+
+// `plan`: an order, with room for starts and a work area lent.
+pub fn plan(line: &[u8]) {
+    let mut bytes = [0; 400];
+    let size = make_order(part(line, 1), &mut bytes);
+    let mut out = [MARK; 700];
+    let mut space = [WORK_MARK; 15_000];
+    let starts = lend(&mut out, count_setting(line, b'm'));
+    let work = lend(&mut space, count_setting(line, b'k'));
+    put_planned(planner::plan(front_bytes(&bytes, size), starts, work));
+    put_buffer(starts);
+    put_buffer(work);
+}
+
+// `report`: any bytes; the text stands on lines of its own.
+pub fn report(line: &[u8]) {
+    let mut bytes = [0; 400];
+    let size = make_order(part(line, 1), &mut bytes);
+    let mut text = [0; report::ROOM];
+    let end = report::report(front_bytes(&bytes, size), &mut text);
+    put_word(b"\n");
+    put_word(front_bytes(&text, end));
+}
