@@ -1,5 +1,5 @@
--- What an answer of better-of says in numbers, for every input: unless both are valid profiles refusal 8, with too little room
--- refusal 10, and no points either way; else no refusal, and the points of the better of both.
+-- What an answer of better-of says in numbers (R14, R26), for every input: unless both are valid profiles refusal 8, with too
+-- little room refusal 10, and no points either way; else no refusal, and the points of the better of both.
 use Prim.Native.Nat.{ℕ, _≤_, _<_}
 use mathlib.Core.Path.{_≡_, refl}
 use mathlib.Core.List.{List}

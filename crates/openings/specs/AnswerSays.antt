@@ -1,5 +1,5 @@
--- What an answer of the question says in numbers, for every input: refused, the number of the first check that applies and no
--- winner; else the winner by what each opening is worth at the time, or 11.
+-- What an answer of the question says in numbers (R17, R26), for every input: refused, the number of the first check that
+-- applies and no winner; else the winner by what each opening is worth at the time, or 11.
 use Prim.Native.Nat.{ℕ, _≤_, _<_}
 use mathlib.Core.Path.{_≡_, refl}
 use mathlib.Core.Bool.{Bool, true, false, cond}

@@ -1,5 +1,5 @@
--- What the answers of planning say: their numbers, the places of refusals, when 11 is given, and how the figures of a plan fit
--- together and with the list of jobs kept.
+-- What the answers of planning say (R8, R26): their numbers, the places of refusals, when 11 is given, and how the figures of a
+-- plan fit together and with the list of jobs kept.
 use Prim.Native.Nat.{ℕ, _+_, _≤_}
 use mathlib.Core.Path.{_≡_, refl, sym, ap, _∙_}
 use mathlib.Core.Bool.{false}
@@ -133,7 +133,7 @@ module _ (bytes : List ℕ) (starts work : List ℤ) {r : Planned} {starts′ wo
       number a = planNumbers a .refusal
 
       -- No answer is no plan, which is no feasible choice.
-      without : (planAnswer (orderOf bytes) ≡ none) ↔ ((c : Choice) → feasible (jobs bytes starts work) c (t0 bytes starts work) ≡ false)
+      without : (planAnswer (orderOf bytes) ≡ none) ↔ ((c : Choice) → feasible (orderOf bytes .jobs) c (orderOf bytes .t0) ≡ false)
       without =
           let o = orderOf bytes in
           let mapped = map-eq-none-iff (answerOf (o .t0) (o .jobs)) (plan (o .t0) (o .jobs)) in

@@ -1,5 +1,5 @@
--- What the reader says in numbers, over all bytes and at every place: refused, the number and the place of the first check that
--- applies and all else 0; else no refusal, and the count of jobs, the job's numbers, or the end.
+-- What the reader says in numbers (R23), over all bytes and at every place: refused, the number and the place of the first
+-- check that applies and all else 0; else no refusal, and the count of jobs, the job's numbers, or the end.
 use Prim.Native.Nat.{ℕ, _+_, _≤_, _<_}
 use mathlib.Core.Path.{_≡_, refl}
 use mathlib.Core.List.{List, []}

@@ -101,14 +101,6 @@ pub open-refusal : (bytes : List ℕ) {n p : ℕ} → judge (headerChecks bytes)
 unfolding headerChecks
 open-refusal bytes = judge-tells Unaccepted (headerChecks bytes) (one-to-five-tell (headerChecks bytes) tt)
 
--- Its number is at most 5.
-pub open-to-five : (bytes : List ℕ) → openRefusal (openOf bytes) ≤ 5
-open-to-five bytes = go (judge (headerChecks bytes)) refl
-  where
-    go : (v : Verdict) → judge (headerChecks bytes) ≡ v → openRefusal (openedBy (countOf bytes) v) ≤ 5
-    go fine e = omega arith
-    go (refused n p) e = open-refusal bytes e .high
-
 module _ (bytes : List ℕ) (place : ℕ) where
   -- A step is refused so.
   pub step-refusal : {n p : ℕ} → judge (stepChecks bytes place) ≡ refused n p → StepRefusal bytes place n p
