@@ -2,5 +2,4 @@
 pub mod Reading
 pub mod ReadingLaws
 pub mod AnswerSays
-pub mod Told
 pub mod Edges

@@ -8,9 +8,8 @@ use Rattle.packed.specs.Packed.{countOf}
 use Rattle.packed.specs.Refusals.{headerChecks}
 use Rattle.packed.specs.RefusalLaws.{header-fine}
 use Rattle.fields.specs.Facts.{header-read}
-use Rattle.judge.specs.declared.Verdict.the-variants.{Fine, Refused}
+use Rattle.judge.specs.Told.{told-fine, refusal-told}
 use Rattle.reader.specs.Reading.{openedBy}
-use Rattle.reader.specs.Told.{told}
 use Rattle.reader.specs.declared.Opened.the-variants.{Accepted}
 use Rattle.reader.proofs.open.Statement.{statement}
 use Rattle.reader.proofs.open.Tie as tie
@@ -27,8 +26,8 @@ enum-told c = search needs
 -- Past checks 1 to 5.
 passed : (c : tie.After-enum-told) → judge (headerChecks (now (c .before .before .before .before .args .bytes))) ≡ fine
 passed c =
-    told (headerChecks (now (c .before .before .before .before .args .bytes))) Fine
-    (sym (c .enum-told .given .1) ∙ c .before .before .judge-header .ensures)
+    told-fine (headerChecks (now (c .before .before .before .before .args .bytes)))
+    (sym (c .before .before .judge-header .ensures) ∙ c .enum-told .given .1)
 
 header-at-requires : tie.Need-header-at-requires
 header-at-requires c κs = header-fine (now (c .before .before .before .before .args .bytes)) .0 (passed c) .long
@@ -38,7 +37,8 @@ returns c =
     let bytes = now (c .before .before .before .before .before .args .bytes) in
     let r = c .before .number .given in
     sym (ap (openedBy (countOf bytes))
-    (told (headerChecks bytes) (Refused (r .0 .0) (r .0 .1 .0)) (sym (r .1) ∙ c .before .before .before .judge-header .ensures)))
+    (refusal-told (judge (headerChecks bytes)) (r .0 .0) (r .0 .1 .0)
+    (sym (c .before .before .before .judge-header .ensures) ∙ r .1)))
 
 returns-2 : tie.Need-returns-2
 returns-2 c =
