@@ -78,11 +78,12 @@ fn gather(
     count
 }
 
-// Every choice run from every point of a profile.
-fn gather_all(profile: &[i32], numbers: &[i32], pairs: &mut [i32]) -> usize {
+// Every choice run from every point of a profile, behind what is gathered. An order of no jobs gathers the
+// points themselves.
+fn gather_all(profile: &[i32], numbers: &[i32], pairs: &mut [i32], many: usize) -> usize {
     let points = profile.len() / 2;
     let jobs = numbers.len() / 6;
-    let mut count = 0;
+    let mut count = many;
     let mut i = 0;
     while i < points {
         count = gather(
@@ -93,18 +94,6 @@ fn gather_all(profile: &[i32], numbers: &[i32], pairs: &mut [i32]) -> usize {
             pairs,
             count,
         );
-        i += 1;
-    }
-    count
-}
-
-// The points of a profile put behind what is gathered.
-fn gather_points(profile: &[i32], pairs: &mut [i32], many: usize) -> usize {
-    let points = profile.len() / 2;
-    let mut count = many;
-    let mut i = 0;
-    while i < points {
-        count = put_pair(pairs, count, time_of(profile, i), weight_of(profile, i));
         i += 1;
     }
     count
@@ -162,7 +151,7 @@ pub fn extend(profile: &[i32], numbers: &[i32], out: &mut [i32]) -> usize
     ensures { λ r. ⌜ r ≤ 301 ⌝ }
 {
     let mut pairs = [0; 8192];
-    let many = gather_all(profile, numbers, &mut pairs);
+    let many = gather_all(profile, numbers, &mut pairs, 0);
     write_profile(&pairs, many, out)
 }
 
@@ -171,8 +160,8 @@ pub fn join(one: &[i32], other: &[i32], out: &mut [i32]) -> usize
     ensures { λ r. ⌜ r ≤ 301 ⌝ }
 {
     let mut pairs = [0; 1204];
-    let some = gather_points(one, &mut pairs, 0);
-    let many = gather_points(other, &mut pairs, some);
+    let some = gather_all(one, &one[0..0], &mut pairs, 0);
+    let many = gather_all(other, &other[0..0], &mut pairs, some);
     write_profile(&pairs, many, out)
 }
 

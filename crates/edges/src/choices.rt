@@ -21,8 +21,16 @@ fn put_chosen(answer: Chosen) {
     }
 }
 
-// `question`: two orders at a time, with a work area lent.
-pub fn question(line: &[u8]) {
+// The choice between two orders at a time, or the question which of them wins.
+fn compare<'a>(choose: bool, first: &'a [u8], second: &'a [u8], t: i32, work: &mut [i32]) {
+    if choose {
+        return put_part(openings::choose(first, second, t, work));
+    }
+    put_chosen(openings::question(first, second, t, work))
+}
+
+// Either of two orders at a time, with a work area lent.
+fn with_two_orders(line: &[u8], choose: bool) {
     let mut one = [0; 400];
     let one_size = make_order(part(line, 1), &mut one);
     let mut other = [0; 400];
@@ -31,20 +39,16 @@ pub fn question(line: &[u8]) {
     let work = lend(&mut space, count_setting(line, b'k'));
     let first = front_bytes(&one, one_size);
     let second = front_bytes(&other, other_size);
-    put_chosen(openings::question(first, second, setting(line, b't'), work));
+    compare(choose, first, second, setting(line, b't'), work);
     put_buffer(work);
 }
 
-// `choose`: the same.
+// `question`.
+pub fn question(line: &[u8]) {
+    with_two_orders(line, false);
+}
+
+// `choose`.
 pub fn choose(line: &[u8]) {
-    let mut one = [0; 400];
-    let one_size = make_order(part(line, 1), &mut one);
-    let mut other = [0; 400];
-    let other_size = make_order(part(line, 2), &mut other);
-    let mut space = [WORK_MARK; 15_000];
-    let work = lend(&mut space, count_setting(line, b'k'));
-    let first = front_bytes(&one, one_size);
-    let second = front_bytes(&other, other_size);
-    put_part(openings::choose(first, second, setting(line, b't'), work));
-    put_buffer(work);
+    with_two_orders(line, true);
 }

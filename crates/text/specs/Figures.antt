@@ -1,9 +1,9 @@
--- Laws of the figures: the number can be read back, so no two numbers have the same figures; no needless zero stands in
+-- Laws of the figures: the number can be read back, so no two numbers have the same text; no needless zero stands in
 -- front; and how many figures a number has.
 use Prim.Native.Nat.{ℕ, zero, suc, _+_, _-_, _*_, _/_, _%_, _^_, _≤_, _<_, suc-le-suc}
 use mathlib.Core.Path.{_≡_, refl, sym, ap, _∙_}
-use mathlib.Core.Bool.{false, cond}
-use mathlib.Core.List.{List, [], _∷_, _++_, List·Memᴰ, List·Memᴰ·head, List·Memᴰ·append-cases, List·Memᴰ·eq-of-singleton}
+use mathlib.Core.Bool.{false}
+use mathlib.Core.List.{List, [], _∷_, _++_, List·Memᴰ·head, List·Memᴰ·append-cases, List·Memᴰ·eq-of-singleton}
 use mathlib.Core.Logic.{⊎-elim}
 use native.Mathlib.Nat.{pow-suc}
 use native.Mathlib.Omega.{arith}
@@ -11,12 +11,11 @@ use lib.Dec.{ltb, eqb}
 use lib.IntN.{ℤ, pos, negsuc, negℤ, natAbs}
 use lib.Signed.{_≤ℤ_, _<ℤ_}
 use lib.ListN.{length, getD, length-append, List·getD-append}
-use mir.Syntax.{w32}
-use mir.Val.{SFits}
 use borrow.Author.Tests.{lt-ltb, le-ltb, ne-eqb}
 use borrow.Table.Steps.{cases}
-use Rattle.seconds.specs.Signed.{signed, mag-is}
-use Rattle.text.specs.Decimal.{minus, byteOf, digitsIn, digits, figure, words, line}
+use Rattle.seconds.specs.Signed.{signed}
+use Rattle.text.specs.Decimal.{minus, byteOf, digitsIn, digits, figure}
+use Rattle.text.specs.Value.{valueAfter, valueOf, IsFigure, AllFigures, signedOf}
 
 -- ---- the figures, with no count of turns
 
@@ -61,15 +60,6 @@ by-tenths P one more n = go (suc n) n (omega arith)
 
 -- ---- reading back
 
--- The number that figures say after a number that was read before them.
-abbrev pub valueAfter : ℕ → List ℕ → ℕ
-valueAfter read [] = read
-valueAfter read (b ∷ bs) = valueAfter (read * 10 + (b - 48)) bs
-
--- The number that figures say.
-abbrev pub valueOf : List ℕ → ℕ
-valueOf bs = valueAfter 0 bs
-
 -- One more figure.
 value-more : (read : ℕ) (bs : List ℕ) (b : ℕ) → valueAfter read (bs ++ (b ∷ [])) ≡ valueAfter read bs * 10 + (b - 48)
 value-more read [] b = refl
@@ -85,22 +75,9 @@ value-digits = by-tenths (λ n. valueOf (digits n) ≡ n) one more
     more : (n : ℕ) → 10 ≤ n → valueOf (digits (n / 10)) ≡ n / 10 → valueOf (digits n) ≡ n
     more n h below = rw (digits-more n h, value-more 0 (digits (n / 10)) (byteOf (n % 10)), below) (omega arith)
 
--- So no two numbers have the same figures.
-pub digits-injective : (m n : ℕ) → digits m ≡ digits n → m ≡ n
-digits-injective m n e = sym (value-digits m) ∙ ap valueOf e ∙ value-digits n
-
 -- ---- what stands in the figures
 
--- A byte that is a figure.
-pub record IsFigure (b : ℕ) : Type 0 where
-  pub low : byteOf 0 ≤ b
-  pub high : b ≤ byteOf 9
-
--- All of these bytes are figures.
-abbrev pub AllFigures : List ℕ → Type 0
-AllFigures bs = (b : ℕ) → List·Memᴰ b bs → IsFigure b
-
--- Those of a number are.
+-- Those of a number are all figures.
 pub digits-figures : (n : ℕ) → AllFigures (digits n)
 digits-figures = by-tenths (λ n. AllFigures (digits n)) one more
   where
@@ -153,11 +130,6 @@ digits-word n h = digits-short 9 n (omega arith)
 
 -- ---- signed numbers
 
--- The signed number that bytes say.
-abbrev pub signedOf : List ℕ → ℤ
-signedOf [] = pos 0
-signedOf (b ∷ bs) = cond (eqb b minus) (negℤ (pos (valueOf bs))) (pos (valueOf (b ∷ bs)))
-
 -- Bytes that begin with no minus sign say the number that their figures say.
 no-sign : (bs : List ℕ) → AllFigures bs → signedOf bs ≡ pos (valueOf bs)
 no-sign [] each = refl
@@ -176,11 +148,6 @@ signed-figure (negsuc n) = ap (λ (m : ℕ). negℤ (pos m)) (value-digits (suc 
 pub figure-injective : (x y : ℤ) → figure x ≡ figure y → x ≡ y
 figure-injective x y e = sym (signed-figure x) ∙ ap signedOf e ∙ signed-figure y
 
--- A number from zero up is its figures.
-pub figure-from-zero : (n : ℕ) → figure (pos n) ≡ digits n
-unfolding figure
-figure-from-zero n = refl
-
 -- Below zero the text is a minus sign and the figures of the size, else those figures alone.
 pub figure-below : (z : ℤ) → z <ℤ pos 0 → figure z ≡ minus ∷ digits (natAbs z)
 unfolding figure
@@ -191,28 +158,3 @@ pub figure-above : (z : ℤ) → pos 0 ≤ℤ z → figure z ≡ digits (natAbs 
 unfolding figure
 figure-above (pos n) h = refl
 figure-above (negsuc n) h = absurd (omega signed)
-
--- An i32 has eleven bytes at most.
-pub figure-short : (z : ℤ) → SFits w32 z → length (figure z) ≤ 11
-unfolding figure
-figure-short (pos n) f = let h : length (digits n) ≤ 10 = digits-word n (omega (signed, mag-is (pos n))) in omega arith
-figure-short (negsuc n) f =
-    let h : length (digits (suc n)) ≤ 10 = digits-word (suc n) (omega (signed, mag-is (negsuc n))) in
-    omega arith
-
--- ---- examples
-
--- The first line that document 01's P1 prints, and its line of a job left out.
-pub line-of-P1 : line (pos 0 ∷ pos 0 ∷ pos 4 ∷ pos 35 ∷ pos 15 ∷ pos 395 ∷ pos 10 ∷ [])
-    ≡ 48 ∷ 32 ∷ 48 ∷ 32 ∷ 52 ∷ 32 ∷ 51 ∷ 53 ∷ 32 ∷ 49 ∷ 53 ∷ 32 ∷ 51 ∷ 57 ∷ 53 ∷ 32 ∷ 49 ∷ 48 ∷ 10 ∷ []
-unfolding digitsIn digits figure
-line-of-P1 = refl
-
-pub line-left-out : words (figure (pos 12) ∷ (minus ∷ []) ∷ []) ≡ 49 ∷ 50 ∷ 32 ∷ 45 ∷ 10 ∷ []
-unfolding digitsIn digits figure
-line-left-out = refl
-
--- The least i32, which has the longest text.
-pub least-figure : figure (negsuc 2147483647) ≡ 45 ∷ 50 ∷ 49 ∷ 52 ∷ 55 ∷ 52 ∷ 56 ∷ 51 ∷ 54 ∷ 52 ∷ 56 ∷ []
-unfolding digitsIn digits figure
-least-figure = refl

@@ -6,14 +6,8 @@ use native.Mathlib.Omega.{arith}
 use lib.ListN.{length, set, length-set}
 use Rattle.text.specs.Decimal.{byteOf, digits}
 use Rattle.text.specs.Figures.{digits-one, digits-more, digits-some, length-more}
-use Rattle.text.specs.Buffer.{put, put-byte, put-last}
-
--- The figures of `left` are still to be put, the last of them at `place`, for those of `value` to stand in the buffer.
-pub record Filling (entry : List ℕ) (at value : ℕ) (out : List ℕ) (place left : ℕ) : Type 0 where
-  pub still : put at (digits left) out ≡ put at (digits value) entry
-  pub last : suc place ≡ at + length (digits left)
-  pub room : place < length entry
-  pub kept : length out ≡ length entry
+use Rattle.text.specs.Buffer.{put, Filling}
+use Rattle.text.specs.BufferLaws.{put-byte, put-last}
 
 -- At first all are.
 pub filling-none : {entry : List ℕ} {at value place : ℕ} → suc place ≡ at + length (digits value)

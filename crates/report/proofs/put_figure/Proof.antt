@@ -1,7 +1,7 @@
 -- `report::put_figure` meets its contract: the figures, and behind them the byte.
 -- Assumes nothing.
 use borrow.Author.Needs.{needs}
-use Rattle.text.specs.Buffer.{wrote-more}
+use Rattle.text.specs.BufferLaws.{wrote-more}
 use Rattle.report.proofs.put_figure.Statement.{statement}
 use Rattle.report.proofs.put_figure.Tie as tie
 

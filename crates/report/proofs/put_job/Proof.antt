@@ -3,7 +3,7 @@
 use mathlib.Core.List.{append-assoc}
 use mir.Facts.{toZ-ofZ}
 use borrow.Author.Needs.{needs}
-use Rattle.text.specs.Buffer.{wrote-more}
+use Rattle.text.specs.BufferLaws.{wrote-more}
 use Rattle.report.specs.Report.{jobLine}
 use Rattle.report.proofs.put_job.Statement.{statement}
 use Rattle.report.proofs.put_job.Tie as tie

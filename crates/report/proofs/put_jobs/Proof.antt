@@ -12,7 +12,8 @@ use mir.Syntax.{w32}
 use mir.Val.{Fits, toZ, ofZ}
 use Rattle.packed.specs.Packed.{countOf, jobIn}
 use Rattle.cells.specs.CellLaws.{read-back}
-use Rattle.text.specs.Buffer.{Wrote, wrote-none, wrote-more}
+use Rattle.text.specs.Buffer.{Wrote}
+use Rattle.text.specs.BufferLaws.{wrote-none, wrote-more}
 use Rattle.report.specs.Report.{jobLine}
 use Rattle.report.specs.Writing.{listed}
 use Rattle.report.specs.WritingLaws.{number-casts, number-is, listed-none, listed-more}

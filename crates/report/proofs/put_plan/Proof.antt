@@ -3,7 +3,7 @@
 use mir.Syntax.{w32}
 use mir.Val.{SFits}
 use borrow.Author.Needs.{needs}
-use Rattle.text.specs.Buffer.{wrote-more, wrote-number}
+use Rattle.text.specs.BufferLaws.{wrote-more, wrote-number}
 use Rattle.report.specs.WritingLaws.{plan-line}
 use Rattle.report.proofs.put_plan.Statement.{statement}
 use Rattle.report.proofs.put_plan.Tie as tie

@@ -2,7 +2,7 @@
 -- Assumes nothing.
 use mathlib.Core.List.{append-assoc}
 use borrow.Author.Needs.{needs}
-use Rattle.text.specs.Buffer.{wrote-more}
+use Rattle.text.specs.BufferLaws.{wrote-more}
 use Rattle.report.proofs.put_refusal.Statement.{statement}
 use Rattle.report.proofs.put_refusal.Tie as tie
 

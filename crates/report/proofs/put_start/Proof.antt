@@ -6,7 +6,7 @@ use mir.Val.{ofZ}
 use borrow.Author.Needs.{needs}
 use Rattle.seconds.specs.Limits.{leftOut}
 use Rattle.seconds.specs.Signed.{signed, same-bits}
-use Rattle.text.specs.Buffer.{wrote-number}
+use Rattle.text.specs.BufferLaws.{wrote-number}
 use Rattle.report.specs.WritingLaws.{word-left-out, word-kept}
 use Rattle.report.proofs.put_start.Statement.{statement}
 use Rattle.report.proofs.put_start.Tie as tie

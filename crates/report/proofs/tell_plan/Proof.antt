@@ -5,7 +5,7 @@ use native.Mathlib.Omega.{arith}
 use borrow.Author.Needs.{needs}
 use Rattle.packed.specs.Packed.{countOf}
 use Rattle.fields.specs.Facts.{header-read}
-use Rattle.text.specs.Buffer.{wrote-more}
+use Rattle.text.specs.BufferLaws.{wrote-more}
 use Rattle.report.specs.Telling.{plan-told}
 use Rattle.report.proofs.tell_plan.Statement.{statement}
 use Rattle.report.proofs.tell_plan.Tie as tie

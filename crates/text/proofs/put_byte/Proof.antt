@@ -1,7 +1,7 @@
 -- `text::put_byte` meets its contract.
 -- Assumes nothing.
 use borrow.Author.Needs.{needs}
-use Rattle.text.specs.Buffer.{wrote-byte}
+use Rattle.text.specs.BufferLaws.{wrote-byte}
 use Rattle.text.proofs.put_byte.Statement.{statement}
 use Rattle.text.proofs.put_byte.Tie as tie
 

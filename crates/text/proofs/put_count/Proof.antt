@@ -6,8 +6,9 @@ use native.Mathlib.Omega.{arith}
 use borrow.Author.Needs.{needs}
 use lib.ListN.{length-set}
 use Rattle.text.specs.Figures.{digits-some, digits-word, length-more}
-use Rattle.text.specs.Buffer.{wrote}
-use Rattle.text.specs.Filling.{Filling, filling-none, filling-more, filling-all}
+use Rattle.text.specs.BufferLaws.{wrote}
+use Rattle.text.specs.Buffer.{Filling}
+use Rattle.text.specs.Filling.{filling-none, filling-more, filling-all}
 use Rattle.text.proofs.put_count.Statement.{statement}
 use Rattle.text.proofs.put_count.Tie as tie
 

@@ -12,7 +12,7 @@ use borrow.Author.Needs.{needs}
 use Rattle.seconds.specs.Signed.{signed}
 use Rattle.text.specs.Decimal.{minus, digits, figure}
 use Rattle.text.specs.Figures.{figure-below, figure-above}
-use Rattle.text.specs.Buffer.{wrote-more}
+use Rattle.text.specs.BufferLaws.{wrote-more}
 use Rattle.text.proofs.put_number.Statement.{statement}
 use Rattle.text.proofs.put_number.Tie as tie
 

@@ -8,10 +8,10 @@ use Rattle.by_hand.proofs.points.gather_all.Statement.{statement}
 use Rattle.by_hand.proofs.points.gather_all.Tie as tie
 
 abbrev Inv-loop : tie.InvT-loop
-Inv-loop profile numbers pairs₀ points jobs count₀ i₀ pairs count i = length pairs ≡ length pairs₀
+Inv-loop profile numbers pairs₀ many points jobs count₀ i₀ pairs count i = length pairs ≡ length pairs₀
 
 abbrev μ-loop : tie.MeasureT-loop
-μ-loop profile numbers pairs₀ points jobs count₀ i₀ pairs count i = points - i
+μ-loop profile numbers pairs₀ many points jobs count₀ i₀ pairs count i = points - i
 
 loop-holds : tie.Need-loop-holds Inv-loop μ-loop
 loop-holds c = omega arith
