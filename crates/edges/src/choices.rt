@@ -1,5 +1,6 @@
 // Two openings: the question which of them wins at a time, and the choice between them.
 use crate::WORK_MARK;
+use crate::calls;
 use careful::front_bytes;
 use careful::lend;
 use case_lines::count_setting;
@@ -44,11 +45,24 @@ fn with_two_orders(line: &[u8], choose: bool) {
 }
 
 // `question`.
-pub fn question(line: &[u8]) {
+fn question(line: &[u8]) {
     with_two_orders(line, false);
 }
 
 // `choose`.
-pub fn choose(line: &[u8]) {
+fn choose(line: &[u8]) {
     with_two_orders(line, true);
+}
+
+// Runs a case that is for one of these calls; false for any other.
+pub fn run(line: &[u8]) -> bool {
+    if calls(line, b"question") {
+        question(line);
+        return true;
+    }
+    if calls(line, b"choose") {
+        choose(line);
+        return true;
+    }
+    false
 }

@@ -1,7 +1,7 @@
 // Answers the cases of standard input, one a line: a name that begins with the call's, the rooms that are
 // lent and the time, the place or the byte, and behind bars what the call is given. The answer is the name,
 // what the call answered, and behind bars all that the lent buffers hold after it. A call more is a function
-// that takes a case's line, and a word in `run`.
+// that takes a case's line, and a word in the `run` of its file.
 mod choices;
 mod packed;
 mod plans;
@@ -25,59 +25,27 @@ pub const MARK: i32 = 7_777;
 
 pub const WORK_MARK: i32 = -77_777;
 
-// The call that a case is for.
-fn run(line: &[u8]) {
-    let call = call_of(line);
-    if same(call, b"unpack") {
-        return packed::unpack(line);
-    }
-    if same(call, b"pack") {
-        return packed::pack(line);
-    }
-    if same(call, b"heat") {
-        return packed::heat_up(line);
-    }
-    if same(call, b"plan") {
-        return plans::plan(line);
-    }
-    if same(call, b"report") {
-        return plans::report(line);
-    }
-    if same(call, b"extend") {
-        return points::extend(line);
-    }
-    if same(call, b"better") {
-        return points::better(line);
-    }
-    if same(call, b"lookup") {
-        return points::lookup(line);
-    }
-    if same(call, b"records") {
-        return points::records(line);
-    }
-    if same(call, b"question") {
-        return choices::question(line);
-    }
-    if same(call, b"choose") {
-        return choices::choose(line);
-    }
-    if same(call, b"open") {
-        return readers::open(line);
-    }
-    if same(call, b"step") {
-        return readers::step(line);
-    }
-    if same(call, b"read") {
-        return readers::read(line);
-    }
-    put_word(b" no such call");
+// Whether a case is for a call.
+pub fn calls(line: &[u8], call: &[u8]) -> bool {
+    same(call_of(line), call)
+}
+
+// The call that a case is for, in the file that has it.
+fn run(line: &[u8]) -> bool {
+    packed::run(line)
+        || plans::run(line)
+        || points::run(line)
+        || choices::run(line)
+        || readers::run(line)
 }
 
 // One line: a case's name and its answer.
 fn answer(line: &[u8]) {
     if is_case(line) {
         put_name(line);
-        run(line);
+        if !run(line) {
+            put_word(b" no such call");
+        }
         put_word(b"\n");
     }
 }

@@ -1,5 +1,6 @@
 // Packed orders and heat-up: unpacking, packing, and the length for a sampler's byte.
 use crate::MARK;
+use crate::calls;
 use careful::front;
 use careful::front_bytes;
 use careful::lend;
@@ -34,7 +35,7 @@ fn put_unpacked(answer: Unpacked) {
 }
 
 // `unpack`: bytes, into the room lent.
-pub fn unpack(line: &[u8]) {
+fn unpack(line: &[u8]) {
     let mut bytes = [0; 400];
     let size = read_bytes(part(line, 1), &mut bytes);
     let mut space = [MARK; 300];
@@ -52,7 +53,7 @@ fn put_packed(answer: Packed) {
 }
 
 // `pack`: a bus-free time and numbers, into the room lent.
-pub fn pack(line: &[u8]) {
+fn pack(line: &[u8]) {
     let mut numbers = [0; 300];
     let many = read_numbers(part(line, 1), &mut numbers);
     let mut space = [BYTE_MARK; 400];
@@ -62,9 +63,26 @@ pub fn pack(line: &[u8]) {
 }
 
 // `heat`: a byte.
-pub fn heat_up(line: &[u8]) {
+fn heat_up(line: &[u8]) {
     match heat::heat_up((count_setting(line, b'e') % 256) as u8) {
         Heating::Seconds(seconds) => put_count(seconds as u64),
         Heating::TooCold => put_refused(12),
     }
+}
+
+// Runs a case that is for one of these calls; false for any other.
+pub fn run(line: &[u8]) -> bool {
+    if calls(line, b"unpack") {
+        unpack(line);
+        return true;
+    }
+    if calls(line, b"pack") {
+        pack(line);
+        return true;
+    }
+    if calls(line, b"heat") {
+        heat_up(line);
+        return true;
+    }
+    false
 }

@@ -1,6 +1,7 @@
 // Plans: the call itself, and the text that the program prints for an order.
 use crate::MARK;
 use crate::WORK_MARK;
+use crate::calls;
 use careful::front_bytes;
 use careful::lend;
 use case_lines::count_setting;
@@ -34,7 +35,7 @@ fn put_planned(answer: Planned) {
 }
 
 // `plan`: an order, with room for starts and a work area lent.
-pub fn plan(line: &[u8]) {
+fn plan(line: &[u8]) {
     let mut bytes = [0; 400];
     let size = make_order(part(line, 1), &mut bytes);
     let mut out = [MARK; 700];
@@ -47,11 +48,24 @@ pub fn plan(line: &[u8]) {
 }
 
 // `report`: any bytes; the text stands on lines of its own.
-pub fn report(line: &[u8]) {
+fn report(line: &[u8]) {
     let mut bytes = [0; 400];
     let size = make_order(part(line, 1), &mut bytes);
     let mut text = [0; report::ROOM];
     let end = report::report(front_bytes(&bytes, size), &mut text);
     put_word(b"\n");
     put_word(front_bytes(&text, end));
+}
+
+// Runs a case that is for one of these calls; false for any other.
+pub fn run(line: &[u8]) -> bool {
+    if calls(line, b"plan") {
+        plan(line);
+        return true;
+    }
+    if calls(line, b"report") {
+        report(line);
+        return true;
+    }
+    false
 }

@@ -1,6 +1,7 @@
 // Profiles: extending one by an order, the better of two, and looking one up, as numbers and as records.
 use crate::MARK;
 use crate::WORK_MARK;
+use crate::calls;
 use better::Joined;
 use careful::at;
 use careful::front;
@@ -34,7 +35,7 @@ fn put_extended(answer: Extended) {
 }
 
 // `extend`: an order and a profile, with room for points and a work area lent.
-pub fn extend(line: &[u8]) {
+fn extend(line: &[u8]) {
     let mut bytes = [0; 400];
     let size = make_order(part(line, 1), &mut bytes);
     let mut profile = [0; 604];
@@ -59,7 +60,7 @@ fn put_joined(answer: Joined) {
 }
 
 // `better`: two profiles, with room for points lent.
-pub fn better(line: &[u8]) {
+fn better(line: &[u8]) {
     let mut first = [0; 604];
     let one = make_profile(part(line, 1), &mut first);
     let mut second = [0; 604];
@@ -80,7 +81,7 @@ fn put_finding(answer: Finding) {
 }
 
 // `lookup`: a profile, at a time.
-pub fn lookup(line: &[u8]) {
+fn lookup(line: &[u8]) {
     let mut profile = [0; 604];
     let many = make_profile(part(line, 1), &mut profile);
     put_finding(profiles::lookup(front(&profile, many), setting(line, b't')));
@@ -110,9 +111,30 @@ fn eight(numbers: &[i32]) -> [Point; 8] {
 }
 
 // `records`: so many of eight records, at a time.
-pub fn records(line: &[u8]) {
+fn records(line: &[u8]) {
     let mut numbers = [NO_POINT; 16];
     read_numbers(part(line, 1), &mut numbers);
     let count = place_setting(line, b'f');
     put_finding(point_records::lookup_among(eight(&numbers), count, setting(line, b't')));
+}
+
+// Runs a case that is for one of these calls; false for any other.
+pub fn run(line: &[u8]) -> bool {
+    if calls(line, b"extend") {
+        extend(line);
+        return true;
+    }
+    if calls(line, b"better") {
+        better(line);
+        return true;
+    }
+    if calls(line, b"lookup") {
+        lookup(line);
+        return true;
+    }
+    if calls(line, b"records") {
+        records(line);
+        return true;
+    }
+    false
 }
