@@ -36,6 +36,7 @@ slice-aggregate-write-2 c =
     omega
     (arith, length-take-le (told .result) (told .last .1 .1 .0) (omega (arith, told .ensures .within, told .kept .1 .1 .0)))
 
+-- The text's length is said of the bytes read too, so that a report of other bytes is refused by what differs.
 write-requires : tie.Need-write-requires
 write-requires c κs =
     let told = c .before .before .before .report-read in
