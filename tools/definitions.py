@@ -3,7 +3,9 @@
 comments and blank lines), from the project's root:  tools/definitions.py
 
 Ends with 1 if a file is missing, if its header does not say "Definitions only.", if it holds a law, or if it imports a file of
-the project's specs that is not listed: the list is all there is to believe, beside the types that the code declares."""
+the project's specs that is not listed: the list is all there is to believe, beside the types that the code declares. A file
+that the contract of an inner function names, listed or not, must say "Definitions only." too."""
+import glob
 import os
 import re
 import sys
@@ -19,12 +21,25 @@ PARTS = [
         cells Area, filling After, planner Calls, extending Calls, openings Choosing,
         packed_answers Numbers, plan_answers Numbers, text Decimal, report Report'''),
 ]
-IMPORT = re.compile(r'(?:unfoldable )?(?:pub )?use Rattle·(\w+?)(?:·specs\.specs|\.specs)\.(\w+)\.')
+IMPORT = re.compile(r'(?:unfoldable )?(?:pub |ghost )?use Rattle·(\w+?)(?:·specs\.specs|\.specs)\.(\w+)\.')
 LAW = re.compile(r'(pub )?\S+ : |.*\b(refl|omega|rw|cc|search|unfolding)\b')
 
 
 def names_of(listed):
     return [tuple(name.split()) for name in listed.replace('\n', ' ').split(',')]
+
+
+def only_definitions(text):
+    return 'Definitions only.' in re.match(r'(--.*\n)*', text).group().replace('\n-- ', ' ')
+
+
+def named_by_contracts(root):
+    """The files of specs that a contract of any function names."""
+    for path in glob.glob(os.path.join(root, 'crates/*/src/*.rt')):
+        with open(path, encoding='utf-8') as f:
+            for found in filter(None, map(IMPORT.match, f)):
+                if found.group(2) != 'declared':
+                    yield 'crates/%s/specs/%s.antt' % found.groups()
 
 
 def read(root, crate, module, known, faults):
@@ -35,7 +50,7 @@ def read(root, crate, module, known, faults):
         return path, 0
     with open(os.path.join(root, path), encoding='utf-8') as f:
         text = f.read()
-    if 'Definitions only.' not in re.match(r'(--.*\n)*', text).group().replace('\n-- ', ' '):
+    if not only_definitions(text):
         faults.append(path + ': its header does not say "Definitions only."')
     lines = [line for line in text.split('\n') if line.strip() and not line.lstrip().startswith('--')]
     for found in filter(None, map(IMPORT.match, lines)):
@@ -53,5 +68,9 @@ for title, listed in PARTS:
     total += sum(count for _, count in counted)
     for path, count in [(title, '')] + counted + [('together', sum(count for _, count in counted))]:
         print('%5s  %s' % (count, path))
+for path in sorted(set(named_by_contracts(root))):
+    with open(os.path.join(root, path), encoding='utf-8') as f:
+        if not only_definitions(f.read()):
+            faults.append(path + ': a contract names it, and its header does not say "Definitions only."')
 print('%5d  all' % total)
 sys.exit('\n'.join(faults) if faults else 0)

@@ -14,7 +14,8 @@ use Rattle.order.specs.Job.{Point}
 use Rattle.profile.specs.Profile.{betterOf}
 use Rattle.profile.specs.Closure.{valid-betterOf}
 use Rattle.profiles.specs.Numbers.{mostNumbers, alternating, profileIn, holdsProfile, writtenOver}
-use Rattle.profiles.specs.NumbersLaws.{alternating-length, profile-back, profile-holds, pointsOf, profile-there, profile-not}
+use Rattle.profiles.specs.Places.{pointsOf}
+use Rattle.profiles.specs.NumbersLaws.{alternating-length, profile-back, profile-holds, profile-there, profile-not}
 use Rattle.better.specs.Answer.{betterIn, joinedIn, outIn, joinedOf, outAfter, pointsWritten}
 use Rattle.better.specs.Merging.{Joinable, Merged}
 use Rattle.better.specs.declared.Joined.{Joined}

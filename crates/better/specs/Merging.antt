@@ -12,9 +12,8 @@ use Rattle.seconds.specs.Signed.{up, dn}
 use Rattle.order.specs.Job.{Point}
 use Rattle.profile.specs.Profile.{betterOf}
 use Rattle.profiles.specs.Numbers.{mostNumbers, alternating, holdsProfile, writtenOver}
-use Rattle.profiles.specs.NumbersLaws.{pointsOf}
+use Rattle.profiles.specs.Places.{pointsOf, AtPoint, point}
 use Rattle.profiles.specs.OnePass.{belowAll}
-use Rattle.profiles.specs.Places.{AtPoint, point}
 use Rattle.profiles.specs.Writing.{Writing}
 use Rattle.better.specs.InTurn.{inTurn, firstGoes}
 use Rattle.better.specs.Heavier.{heavier, merge}

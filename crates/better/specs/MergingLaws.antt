@@ -14,9 +14,10 @@ use Rattle.order.specs.Job.{Point}
 use Rattle.profile.specs.Profile.{betterOf}
 use Rattle.profile.specs.Closure.{valid-holds}
 use Rattle.profiles.specs.Numbers.{mostNumbers, alternating, holdsProfile}
-use Rattle.profiles.specs.NumbersLaws.{alternating-length, timeAt, weightAt, pointsOf, held}
+use Rattle.profiles.specs.Places.{timeAt, weightAt, pointsOf, AtPoint, NextPoint}
+use Rattle.profiles.specs.NumbersLaws.{alternating-length, held}
 use Rattle.profiles.specs.OnePass.{belowAll}
-use Rattle.profiles.specs.Places.{AtPoint, NextPoint, at-start, next-point, no-point}
+use Rattle.profiles.specs.PlacesLaws.{at-start, next-point, no-point}
 use Rattle.profiles.specs.Writing.{writing-none, writing-two, writing-all}
 use Rattle.better.specs.InTurn.{inTurn, firstGoes, turn-first, turn-second}
 use Rattle.better.specs.Heavier.{heavier, merge-better}

@@ -10,7 +10,8 @@ use Rattle.packed.specs.Judge.{Check, fine, refused, judge}
 use Rattle.packed.specs.Packed.{numbersOf}
 use Rattle.packed.specs.Refusals.{headerChecks, jobChecks, weightChecks, roomChecks}
 use Rattle.profiles.specs.Numbers.{mostNumbers, holdsProfile}
-use Rattle.profiles.specs.NumbersLaws.{pointsOf, profile-there}
+use Rattle.profiles.specs.Places.{pointsOf}
+use Rattle.profiles.specs.NumbersLaws.{profile-there}
 use Rattle.cells.specs.Work.{area, cleared}
 use Rattle.cells.specs.Keeping.{cleared-same}
 use Rattle.judge.specs.Verdicts.{verdictOf}

@@ -19,7 +19,7 @@ use Rattle.packed.specs.Refusals.{headerChecks, jobChecks}
 use Rattle.packed.specs.RefusalLaws.{HeaderFine, header-fine, JobsFine, jobs-fine, weight-fine}
 use Rattle.packed.specs.Accepted.{OrderFine}
 use Rattle.profiles.specs.Numbers.{alternating, holdsProfile, writtenOver}
-use Rattle.profiles.specs.NumbersLaws.{pointsOf}
+use Rattle.profiles.specs.Places.{pointsOf}
 use Rattle.cells.specs.Work.{rowAt}
 use Rattle.cells.specs.Keeping.{area-kept}
 use Rattle.filling.specs.Rows.{CanFill, Filled}

@@ -12,7 +12,7 @@ use Rattle.profile.specs.Profile.{lastWeight}
 use Rattle.profile.specs.Rising.{Rising}
 use Rattle.rows.specs.Row.{Row, earlier, earliestOf}
 use Rattle.profiles.specs.Numbers.{holdsProfile}
-use Rattle.profiles.specs.NumbersLaws.{pointsOf}
+use Rattle.profiles.specs.Places.{pointsOf}
 use Rattle.cells.specs.Work.{never, rowSize, rowAt, RowWritten}
 
 -- The numbers hold a profile, and there is room for its row.

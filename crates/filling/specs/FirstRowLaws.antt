@@ -25,8 +25,9 @@ use Rattle.profile.specs.Closure.{ValidProfile, valid-holds}
 use Rattle.rows.specs.Row.{Row, earlier, earliestOf}
 use Rattle.rows.specs.RowLaws.{earlier-none}
 use Rattle.profiles.specs.Numbers.{alternating, holdsProfile}
-use Rattle.profiles.specs.NumbersLaws.{alternating-length, timeAt, weightAt, pointsOf, held}
-use Rattle.profiles.specs.Places.{AtPoint, next-point, no-point}
+use Rattle.profiles.specs.Places.{timeAt, weightAt, pointsOf, AtPoint}
+use Rattle.profiles.specs.NumbersLaws.{alternating-length, held}
+use Rattle.profiles.specs.PlacesLaws.{next-point, no-point}
 use Rattle.cells.specs.Work.{rowSize, rowAt, Wrote}
 use Rattle.cells.specs.CellLaws.{seen-there}
 use Rattle.cells.specs.Writing.{wrote-back, row-set}

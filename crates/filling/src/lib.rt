@@ -9,7 +9,7 @@ ghost use mathlib.Core.Path.{_≡_};
 ghost use mathlib.Core.Bool.{true};
 ghost use Rattle.profile.specs.Profile.{lastWeight};
 ghost use Rattle.profiles.specs.Numbers.{holdsProfile};
-ghost use Rattle.profiles.specs.NumbersLaws.{pointsOf};
+ghost use Rattle.profiles.specs.Places.{pointsOf};
 ghost use Rattle.filling.specs.Rows.{CanFillOne, FilledOne, CanFill, Filled};
 ghost use Rattle.filling.specs.FirstRow.{CanStartProfile, CanSetPoints, ProfileSet, ProfileStarted};
 

@@ -10,7 +10,8 @@ use Rattle.order.specs.Job.{Point}
 use Rattle.profile.specs.Profile.{lookup}
 use Rattle.profile.specs.Closure.{valid-holds}
 use Rattle.profiles.specs.Numbers.{holdsProfile}
-use Rattle.profiles.specs.NumbersLaws.{pointsOf, held, profile-there, profile-not}
+use Rattle.profiles.specs.Places.{pointsOf}
+use Rattle.profiles.specs.NumbersLaws.{held, profile-there, profile-not}
 use Rattle.profiles.specs.ByTime.{countBy, numberBefore, weightNumber}
 use Rattle.profiles.specs.ByTimeLaws.{lookup-by}
 use Rattle.profiles.specs.Answer.{findingOf, findingIn, lookupOf}

@@ -14,7 +14,8 @@ use Rattle.order.specs.Job.{Point}
 use Rattle.profile.specs.Profile.{lookup, orElse}
 use Rattle.profile.specs.Rising.{BelowAll, below-none, below-more, Rising, rising-none, rising-more}
 use Rattle.profiles.specs.Numbers.{alternating}
-use Rattle.profiles.specs.NumbersLaws.{timeAt, next-two}
+use Rattle.profiles.specs.Places.{timeAt}
+use Rattle.profiles.specs.NumbersLaws.{next-two}
 use Rattle.profiles.specs.ByTime.{countBy, numberBefore, weightNumber}
 
 -- No point of a list is by a time that is before them all.

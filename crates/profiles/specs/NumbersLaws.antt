@@ -9,27 +9,21 @@ use native.Mathlib.Omega.{arith}
 use lib.Dec.{T}
 use lib.Ieee.Bits.{is-true}
 use lib.Ieee.Fits.{and-l, and-r}
-use lib.IntN.{ℤ, pos, negsuc, natAbs}
-use lib.ListN.{length, getD, drop}
+use lib.IntN.{ℤ, pos, negsuc}
+use lib.ListN.{length, drop}
 use lib.Seq.{drop-cons}
 use Rattle.seconds.specs.Signed.{true-T}
 use Rattle.order.specs.Job.{Point}
 use Rattle.profile.specs.Profile.{pointsWithin, validProfile}
 use Rattle.profiles.specs.Numbers.{alternating, withPoint, pointsIn, ifValid, profileIn, isThere, holdsProfile}
+use Rattle.profiles.specs.Places.{timeAt, weightAt, pointsOf}
 
 -- Two numbers a point.
 pub alternating-length : (ps : List Point) → length (alternating ps) ≡ 2 * length ps
 alternating-length [] = refl
 alternating-length (p ∷ ps) = omega (arith, alternating-length ps)
 
--- The numbers of a point that begins at a place.
-abbrev pub timeAt : List ℤ → ℕ → ℤ
-timeAt ns i = getD ns i (pos 0)
-
-abbrev pub weightAt : List ℤ → ℕ → ℤ
-weightAt ns i = getD ns (i + 1) (pos 0)
-
--- From there on they come first.
+-- From a point's place on its numbers come first.
 pub next-two : (ns : List ℤ) (i : ℕ) → i + 1 < length ns
     → drop i ns ≡ timeAt ns i ∷ weightAt ns i ∷ drop (i + 2) ns
 next-two ns i h =
@@ -85,12 +79,6 @@ pub valid-within : (ps : List Point) → T (validProfile ps) → T (pointsWithin
 valid-within ps t = search (and-l, and-r)
 
 -- ---- the points of any numbers, read without judging: code that has judged them goes by these
-
--- Two numbers a point; a last one that is left over is passed by.
-abbrev pub pointsOf : List ℤ → List Point
-pointsOf [] = []
-pointsOf (t ∷ []) = []
-pointsOf (t ∷ w ∷ ns) = record { time = t; weight = natAbs w } ∷ pointsOf ns
 
 -- The numbers of points give those points.
 points-of : (ps : List Point) → pointsOf (alternating ps) ≡ ps

@@ -17,7 +17,8 @@ use Rattle.seconds.specs.Signed.{signed}
 use Rattle.order.specs.Job.{Point}
 use Rattle.profile.specs.Profile.{risesTo, rising, pointsWithin}
 use Rattle.profiles.specs.Numbers.{mostNumbers, alternating, withPoint, pointsIn, profileIn, isThere, holdsProfile}
-use Rattle.profiles.specs.NumbersLaws.{timeAt, weightAt, next-two, alternating-length, points-numbers, profile-holds}
+use Rattle.profiles.specs.Places.{timeAt, weightAt}
+use Rattle.profiles.specs.NumbersLaws.{next-two, alternating-length, points-numbers, profile-holds}
 use Rattle.profiles.specs.NumbersLaws.{valid-within}
 
 -- ---- the pass

@@ -1,21 +1,29 @@
--- A place in the numbers of a profile: a point begins there, or the numbers end. Code that walks a profile from the front
--- goes by these.
+-- Points by their places in numbers: a point begins at a place, or the numbers end. Code that walks a profile from the front goes
+-- by these. Definitions only.
 use Prim.Native.Nat.{ℕ, _+_, _≤_, _<_}
-use mathlib.Core.Path.{_≡_, ap, subst}
-use mathlib.Core.Bool.{true}
+use mathlib.Core.Path.{_≡_}
 use mathlib.Core.List.{List, [], _∷_}
-use native.Mathlib.Omega.{arith}
-use lib.Dec.{T, leb}
-use lib.Ieee.Fits.{and-l, and-r}
+use lib.Dec.{T}
 use lib.IntN.{ℤ, pos, natAbs}
-use lib.ListN.{length, drop, length-drop, drop-of-length-le}
+use lib.ListN.{length, getD, drop}
 use lib.Signed.{_≤ℤ_}
 use Rattle.seconds.specs.Limits.{mostWeight}
-use Rattle.seconds.specs.Signed.{signed}
 use Rattle.order.specs.Job.{Point}
 use Rattle.profile.specs.Profile.{pointsWithin}
-use Rattle.profiles.specs.Numbers.{alternating, holdsProfile}
-use Rattle.profiles.specs.NumbersLaws.{alternating-length, timeAt, weightAt, next-two, valid-within, pointsOf, held}
+use Rattle.profiles.specs.Numbers.{alternating}
+
+-- The numbers of a point that begins at a place.
+abbrev pub timeAt : List ℤ → ℕ → ℤ
+timeAt ns i = getD ns i (pos 0)
+
+abbrev pub weightAt : List ℤ → ℕ → ℤ
+weightAt ns i = getD ns (i + 1) (pos 0)
+
+-- Two numbers a point; a last one that is left over is passed by.
+abbrev pub pointsOf : List ℤ → List Point
+pointsOf [] = []
+pointsOf (t ∷ []) = []
+pointsOf (t ∷ w ∷ ns) = record { time = t; weight = natAbs w } ∷ pointsOf ns
 
 -- From the place on, the numbers are those of points within the ranges.
 pub record AtPoint (ns : List ℤ) (i : ℕ) : Type 0 where
@@ -34,38 +42,3 @@ pub record NextPoint (ns : List ℤ) (i : ℕ) : Type 0 where
   pub weight : pos (natAbs (weightAt ns i)) ≡ weightAt ns i
   pub light : weightAt ns i ≤ℤ pos mostWeight
   pub further : AtPoint ns (i + 2)
-
--- The numbers of a profile begin so.
-pub at-start : (ns : List ℤ) → holdsProfile ns ≡ true → AtPoint ns 0
-at-start ns e =
-    let h = held ns e in
-    record { inside = omega arith; numbers = h .numbers; within = valid-within (pointsOf ns) (h .valid) }
-
--- The second of such numbers is a weight, and the others are such numbers.
-alternating-next : (x y : ℤ) (ns : List ℤ) → alternating (pointsOf (x ∷ y ∷ ns)) ≡ x ∷ y ∷ ns
-    → (pos (natAbs y) ≡ y) × (alternating (pointsOf ns) ≡ ns)
-alternating-next x y ns e = (cc, cc)
-
--- Before the end a point begins.
-pub next-point : (ns : List ℤ) (i : ℕ) → AtPoint ns i → i < length ns → NextPoint ns i
-next-point ns i a h =
-    let count = alternating-length (pointsOf (drop i ns)) in
-    let more : i + 1 < length ns = omega (arith, ap length (a .numbers), length-drop i ns) in
-    let x : ℤ = timeAt ns i in
-    let y : ℤ = weightAt ns i in
-    let after : List ℤ = drop (i + 2) ns in
-    let e : drop i ns ≡ x ∷ y ∷ after = next-two ns i more in
-    let numbers = alternating-next x y after (subst (λ (l : List ℤ). alternating (pointsOf l) ≡ l) e (a .numbers)) in
-    let within = subst (λ (l : List ℤ). T (pointsWithin (pointsOf l))) e (a .within) in
-    let light : T (leb (natAbs y) mostWeight) = search (and-l, and-r) in
-    record {
-      more = more;
-      points = ap pointsOf e;
-      weight = numbers .0;
-      light = subst (λ (z : ℤ). z ≤ℤ pos mostWeight) (numbers .0) (omega signed);
-      further = record { inside = omega arith; numbers = numbers .1; within = search (and-l, and-r) };
-    }
-
--- At the end none does.
-pub no-point : (ns : List ℤ) (i : ℕ) → length ns ≤ i → pointsOf (drop i ns) ≡ []
-no-point ns i h = ap pointsOf (drop-of-length-le ns h)

@@ -3,7 +3,7 @@ use cells::rested;
 use fields::Job;
 use fields::job_at;
 ghost use mathlib.Core.Path.{_≡_};
-ghost use Rattle.seconds.specs.Signed.{maxZ};
+ghost use Rattle.seconds.specs.Ranges.{maxZ};
 ghost use Rattle.order.specs.Choice.{numberKept};
 ghost use Rattle.fields.specs.Fields.{asJob};
 ghost use Rattle.starting.specs.Picks.{picksOf, TakesTurn, turnOf, WritesStarts, startsWritten};

@@ -11,7 +11,7 @@ ghost use Prim.Native.Nat.{_+_, _-_, _^_, _<_};
 ghost use lib.IntN.{natAbs};
 ghost use lib.ListN.{length};
 ghost use Rattle.seconds.specs.Limits.{mostJobs};
-ghost use Rattle.seconds.specs.Signed.{minZ};
+ghost use Rattle.seconds.specs.Ranges.{minZ};
 ghost use Rattle.packed.specs.Packed.{t0Of, jobsIn};
 ghost use Rattle.fields.specs.Fields.{asJob};
 ghost use Rattle.cells.specs.Work.{seen, rowAt, leaves};

@@ -11,8 +11,8 @@ use mir.Syntax.{w32}
 use mir.Val.{toZ, ofZ}
 use mir.Facts.{toZ-ofZ}
 use borrow.Author.Needs.{needs}
-use Rattle.profiles.specs.NumbersLaws.{timeAt, weightAt}
-use Rattle.profiles.specs.Places.{NextPoint, next-point}
+use Rattle.profiles.specs.Places.{timeAt, weightAt, NextPoint}
+use Rattle.profiles.specs.PlacesLaws.{next-point}
 use Rattle.better.specs.Merging.{firstGoesAt}
 use Rattle.better.specs.MergingLaws.{first-ended, second-ended, both-left}
 use Rattle.better.proofs.first_goes.Statement.{statement}

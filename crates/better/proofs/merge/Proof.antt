@@ -13,7 +13,8 @@ use mir.Val.{SFits, toZ, ofZ}
 use mir.Facts.{toZ-ofZ}
 use borrow.Author.Tests.{ltb-true, ltb-false}
 use Rattle.seconds.specs.Signed.{signed}
-use Rattle.profiles.specs.Places.{NextPoint, next-point}
+use Rattle.profiles.specs.Places.{NextPoint}
+use Rattle.profiles.specs.PlacesLaws.{next-point}
 use Rattle.better.specs.Merging.{Taken}
 use Rattle.better.specs.MergingLaws.{first-left, second-left, taken-first, taken-second}
 use Rattle.better.specs.Merging.{Merging}

@@ -9,7 +9,8 @@ use mir.Syntax.{w32}
 use mir.Val.{toZ, ofZ}
 use borrow.Author.Needs.{needs}
 use Rattle.profile.specs.Profile.{lastWeight}
-use Rattle.profiles.specs.NumbersLaws.{pointsOf, held}
+use Rattle.profiles.specs.Places.{pointsOf}
+use Rattle.profiles.specs.NumbersLaws.{held}
 use Rattle.filling.specs.FirstRowLaws.{last-light, last-number, last-empty, weight-read}
 use Rattle.filling.proofs.last_weight.Statement.{statement}
 use Rattle.filling.proofs.last_weight.Tie as tie

@@ -3,7 +3,8 @@
 use Prim.Native.Nat.{_-_}
 use native.Mathlib.Omega.{arith}
 use lib.ListN.{length}
-use Rattle.profiles.specs.Places.{AtPoint, at-start}
+use Rattle.profiles.specs.Places.{AtPoint}
+use Rattle.profiles.specs.PlacesLaws.{at-start}
 use Rattle.cells.specs.CellLaws.{read-back}
 use Rattle.filling.specs.FirstRow.{SettingAt}
 use Rattle.filling.specs.FirstRowLaws.{NextSet, setting-none, next-set, setting-all}

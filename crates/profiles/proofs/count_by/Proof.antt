@@ -11,7 +11,7 @@ use mir.Syntax.{w32}
 use mir.Val.{SFits, toZ}
 use mir.Facts.{toZ-ofZ}
 use Rattle.seconds.specs.Signed.{signed}
-use Rattle.profiles.specs.NumbersLaws.{timeAt}
+use Rattle.profiles.specs.Places.{timeAt}
 use Rattle.profiles.specs.ByTime.{countBy}
 use Rattle.profiles.specs.ByTimeLaws.{count-on, count-stops, count-ends}
 use Rattle.profiles.proofs.count_by.Statement.{statement}

@@ -16,7 +16,7 @@ use borrow.Author.Tests.{eqb-true, eqb-false, not-true, not-false}
 use Rattle.seconds.specs.Limits.{rest, latestFree, mostWeight}
 use Rattle.seconds.specs.Signed.{signed}
 use Rattle.profiles.specs.Numbers.{holdsProfile}
-use Rattle.profiles.specs.NumbersLaws.{timeAt, weightAt}
+use Rattle.profiles.specs.Places.{timeAt, weightAt}
 use Rattle.profiles.specs.OnePass.{passes, holds-long, holds-odd, holds-few, passes-on, passes-not, passes-end}
 use Rattle.profiles.proofs.valid.Statement.{statement}
 use Rattle.profiles.proofs.valid.Tie as tie
