@@ -18,21 +18,25 @@ const LENGTH: usize = 4;
 
 const DEADLINE: usize = 5;
 
+// The seconds that the contactor rests after every job.
+const REST: i32 = 15;
+
 // What stands for the start of a job that is left out.
 const LEFT_OUT: i32 = 200_000;
 
-// What running a choice comes to: whether it may be run at all, when it ends, and the weight kept.
+// What running a choice comes to: whether it may be run at all, when the bus is free after it, and the
+// weight kept.
 pub struct Outcome {
     pub feasible: bool,
-    pub finish: i32,
+    pub free: i32,
     pub weight: i32,
 }
 
-// The best choice so far, if there is one, and whether another has the same weight and finish.
+// The best choice so far, if there is one, and whether another has the same weight and bus-free time.
 pub struct Best {
     pub found: bool,
     pub choice: u32,
-    pub finish: i32,
+    pub free: i32,
     pub weight: i32,
     pub tied: bool,
 }
@@ -77,16 +81,17 @@ fn leave(numbers: &[i32], place: usize, so_far: Outcome) -> Outcome {
     if field(numbers, place, CRITICAL) == 1 {
         return Outcome {
             feasible: false,
-            finish: so_far.finish,
+            free: so_far.free,
             weight: so_far.weight,
         };
     }
     so_far
 }
 
-// The job at a place kept: it ends by its deadline, or the choice may not be run.
+// The job at a place kept: it finishes by its deadline, or the choice may not be run; then the contactor
+// rests.
 fn keep(numbers: &[i32], place: usize, so_far: Outcome) -> Outcome {
-    let start = start_of(numbers, place, so_far.finish);
+    let start = start_of(numbers, place, so_far.free);
     let finish = plus(start, field(numbers, place, LENGTH));
     let weight = plus(so_far.weight, field(numbers, place, WEIGHT));
     let mut feasible = so_far.feasible;
@@ -95,7 +100,7 @@ fn keep(numbers: &[i32], place: usize, so_far: Outcome) -> Outcome {
     }
     Outcome {
         feasible: feasible,
-        finish: finish,
+        free: plus(finish, REST),
         weight: weight,
     }
 }
@@ -104,7 +109,7 @@ fn keep(numbers: &[i32], place: usize, so_far: Outcome) -> Outcome {
 pub fn run(numbers: &[i32], jobs: usize, from: i32, choice: u32) -> Outcome {
     let mut outcome = Outcome {
         feasible: true,
-        finish: from,
+        free: from,
         weight: 0,
     };
     let mut left = choice;
@@ -128,23 +133,23 @@ fn better(best: Best, choice: u32, outcome: Outcome) -> Best {
     if !outcome.feasible {
         return best;
     }
-    let finish = outcome.finish;
+    let free = outcome.free;
     let weight = outcome.weight;
     let heavier = !best.found || best.weight < weight;
-    if heavier || (best.weight == weight && finish < best.finish) {
+    if heavier || (best.weight == weight && free < best.free) {
         return Best {
             found: true,
             choice: choice,
-            finish: finish,
+            free: free,
             weight: weight,
             tied: false,
         };
     }
-    if best.weight == weight && best.finish == finish {
+    if best.weight == weight && best.free == free {
         return Best {
             found: true,
             choice: best.choice,
-            finish: finish,
+            free: free,
             weight: weight,
             tied: true,
         };
@@ -158,7 +163,7 @@ pub fn best_choice(numbers: &[i32], t0: i32) -> Best {
     let mut best = Best {
         found: false,
         choice: 0,
-        finish: 0,
+        free: 0,
         weight: 0,
         tied: false,
     };
@@ -179,7 +184,7 @@ fn put_start(numbers: &[i32], place: usize, kept: bool, free: i32, starts: &mut 
     }
     let start = start_of(numbers, place, free);
     put(starts, place, start);
-    plus(start, field(numbers, place, LENGTH))
+    plus(plus(start, field(numbers, place, LENGTH)), REST)
 }
 
 // The starts of a choice, in place order.

@@ -21,7 +21,7 @@ const NUMBERS: usize = 602;
 
 const TOO_EARLY: i32 = -100_001;
 
-const LATEST: i32 = 100_000;
+const LATEST: i32 = 100_015;
 
 const HEAVIEST: i32 = 300;
 
@@ -54,7 +54,7 @@ fn put_pair(pairs: &mut [i32], many: usize, time: i32, weight: i32) -> usize {
 // Puts a feasible outcome, with the weight of the point it was run from, behind those gathered.
 fn put_outcome(pairs: &mut [i32], many: usize, outcome: Outcome, before: i32) -> usize {
     if outcome.feasible {
-        return put_pair(pairs, many, outcome.finish, plus(before, outcome.weight));
+        return put_pair(pairs, many, outcome.free, plus(before, outcome.weight));
     }
     many
 }
@@ -204,7 +204,7 @@ pub fn look_up(profile: &[i32], t: i32) -> i32 {
     weight_by(profile, profile.len() / 2, t)
 }
 
-// The greatest weight that an order can keep by a time, -1 where it has no plan that ends by then.
+// The greatest weight that an order can keep by a time, -1 where none leaves the bus free by then.
 pub fn worth(numbers: &[i32], t0: i32, t: i32) -> i32 {
     let mut pairs = [0; 2048];
     let many = gather(numbers, numbers.len() / 6, t0, 0, &mut pairs, 0);

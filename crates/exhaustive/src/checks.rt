@@ -51,7 +51,7 @@ fn figures_agree(figures: Figures, numbers: &[i32], t0: i32, best: Best) -> bool
         && figures.kept as u64 == tally.kept
         && is_count(figures.kept_weight as u64, best.weight)
         && is_count(figures.lost_weight as u64, tally.lost)
-        && figures.finish == best.finish
+        && figures.finish == best.free
         && figures.points as u64 == by_hand::point_total(numbers, t0)
 }
 

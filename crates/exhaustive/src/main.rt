@@ -24,8 +24,8 @@ const ROUNDS: u64 = 1_200;
 
 const SEED: u64 = 20_261_115;
 
-// Two orders planned, and chosen between at a time, at the end of the first one's plan and the second
-// before.
+// Two orders planned, and chosen between at a time, at the bus-free time of the first one's plan and the
+// second before.
 fn compare_orders(
     one: &[i32],
     one_t0: i32,
@@ -35,12 +35,12 @@ fn compare_orders(
     counts: &mut [u64],
 ) {
     let best = by_hand::best_choice(one, one_t0);
-    let end = best.finish;
+    let free = best.free;
     check_plan(one, one_t0, counts);
     check_plan(other, other_t0, counts);
     check_choice(one, one_t0, other, other_t0, t, counts);
-    check_choice(one, one_t0, other, other_t0, end, counts);
-    check_choice(one, one_t0, other, other_t0, plus(end, -1), counts);
+    check_choice(one, one_t0, other, other_t0, free, counts);
+    check_choice(one, one_t0, other, other_t0, plus(free, -1), counts);
 }
 
 // Two orders of a kind drawn and compared.

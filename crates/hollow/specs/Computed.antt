@@ -76,10 +76,10 @@ front-cleared work = refl
 
 -- ---- the text
 
--- P4's text: 0 0 1 0 0 10 1, then 0 0.
+-- P4's text: 0 0 1 0 0 25 1, then 0 0.
 abbrev pub oneJobText : List ℕ
 oneJobText =
-    48 ∷ 32 ∷ 48 ∷ 32 ∷ 49 ∷ 32 ∷ 48 ∷ 32 ∷ 48 ∷ 32 ∷ 49 ∷ 48 ∷ 32 ∷ 49 ∷ 10
+    48 ∷ 32 ∷ 48 ∷ 32 ∷ 49 ∷ 32 ∷ 48 ∷ 32 ∷ 48 ∷ 32 ∷ 50 ∷ 53 ∷ 32 ∷ 49 ∷ 10
     ∷ 48 ∷ 32 ∷ 48 ∷ 10 ∷ []
 
 one-job-printed : reportOf oneJobBytes ≡ oneJobText

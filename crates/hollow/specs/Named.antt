@@ -74,10 +74,10 @@ joinOne = ([], pos 5 ∷ pos 7 ∷ [], room)
 
 -- Lookups in P2's profile, as numbers and as records.
 abbrev pub lookupAt : ℤ → List ℤ × ℤ
-lookupAt t = (pos 200 ∷ pos 0 ∷ pos 295 ∷ pos 20 ∷ pos 395 ∷ pos 35 ∷ [], t)
+lookupAt t = (pos 215 ∷ pos 0 ∷ pos 330 ∷ pos 15 ∷ pos 340 ∷ pos 20 ∷ pos 445 ∷ pos 30 ∷ pos 455 ∷ pos 35 ∷ [], t)
 
 abbrev pub lookupRecordsAt : ℤ → List Point × ℤ
-lookupRecordsAt t = (point 200 0 ∷ point 295 20 ∷ point 395 35 ∷ [], t)
+lookupRecordsAt t = (point 215 0 ∷ point 330 15 ∷ point 340 20 ∷ point 445 30 ∷ point 455 35 ∷ [], t)
 
 -- Unpacking P1, and P4; and packing them again.
 abbrev pub unpackMorning : List ℕ × List ℤ

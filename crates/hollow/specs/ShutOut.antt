@@ -77,11 +77,11 @@ better-of-not-hollow =
     not-hollow-in joiningProfiles (rw (length-ones mostNumbers)) pointsJoined (rw (length-ones mostNumbers) (omega arith))
     (λ b. b) front (rw (length-ones mostNumbers, front-ones 601) (omega signed))
 
-pub lookup-not-hollow : NotHollow lookingUp (lookupAt (pos 200)) (lookupAt (pos 199))
+pub lookup-not-hollow : NotHollow lookingUp (lookupAt (pos 215)) (lookupAt (pos 214))
 unfolding rest
 lookup-not-hollow = not-hollow lookingUp refl foundOf (omega arith)
 
-pub lookup-records-not-hollow : NotHollow lookingUpRecords (lookupRecordsAt (pos 200)) (lookupRecordsAt (pos 199))
+pub lookup-records-not-hollow : NotHollow lookingUpRecords (lookupRecordsAt (pos 215)) (lookupRecordsAt (pos 214))
 unfolding rest
 lookup-records-not-hollow = not-hollow lookingUpRecords refl foundOf (omega arith)
 

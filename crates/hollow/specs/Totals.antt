@@ -1,4 +1,4 @@
--- An invented point total is shut out: at every order that has a plan any total but the definition's, at P1 any but 10.
+-- An invented point total is shut out: at every order that has a plan any total but the definition's, at P1 any but 14.
 use Prim.Native.Nat.{ℕ}
 use mathlib.Core.Path.{_≡_, ap}
 use mathlib.Core.Bool.{false}
@@ -38,7 +38,7 @@ invented-total total x planned d =
     said (refused n p) o a e = let z : _≡_ {A = ℕ} 0 1 = cc in absurd (omega arith)
 
 -- Of P1.
-pub morning-total : (total : PlanInput → ℕ) → total planMorning ≢ 10
+pub morning-total : (total : PlanInput → ℕ) → total planMorning ≢ 14
     → ShutOut planning (planningWith total) planMorning
 unfolding rest
 morning-total total d =

@@ -1,4 +1,4 @@
--- Choices: when one is feasible, its finish, weights, starts and mask, and all that the choices of some jobs give.
+-- Choices: when one is feasible, when it leaves the bus free, its weights, starts and mask, and all that the choices of some jobs give.
 -- Definitions only.
 use Prim.Native.Nat.{ℕ, zero, suc, _+_, _*_, _^_}
 use mathlib.Core.Bool.{Bool, true, false, cond, _&&_}

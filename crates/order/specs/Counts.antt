@@ -61,7 +61,7 @@ ones-of (suc n) (x ∷ c) h =
 pub kept-is-ones : (c : Choice) → length c ≤ 64 → ones (mask c) ≡ numberKept c
 kept-is-ones c h = ones-of 64 c h
 
--- ---- finish and starts
+-- ---- bus-free time and starts
 
 -- A choice that keeps nothing leaves the bus free when it was.
 pub finish-empty : (js : List Job) (c : Choice) (t : ℤ) → numberKept c ≡ 0 → finish js c t ≡ t

@@ -105,7 +105,7 @@ abbrev pub gainAt : Option Rate → ℕ
 gainAt none = 0
 gainAt (some r) = r .gain
 
--- Whether a pick is allowed with the bus free at a time: a critical job is kept, a kept job ends by its deadline.
+-- Whether a pick is allowed with the bus free at a time: a critical job is kept, a kept job finishes by its deadline.
 abbrev pub allowed : Job → ℕ → ℤ → Bool
 allowed j zero free = not (j .critical)
 allowed j (suc k) free = allowedAt j (rateOf j k) free

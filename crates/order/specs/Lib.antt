@@ -9,5 +9,6 @@ pub mod Runs
 pub mod Outcomes
 pub mod GivenLaws
 pub mod Counts
+pub mod Rested
 pub mod OneRate
 pub mod Late

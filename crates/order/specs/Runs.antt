@@ -158,7 +158,7 @@ run-monotone (j ∷ js) (x ∷ c) p r h e =
     let o = run-monotone js c (n .0) (m .0) (n .2) (m .2) in
     (o .0, run-cons j js x c p (n .1) ∙ o .1, o .2)
 
--- A choice runs from p to q: it is feasible, and q has its finish, and its kept weight on top of p's.
+-- A choice runs from p to q: it is feasible, and q has its bus-free time, and its kept weight on top of p's.
 pub record Ran (js : List Job) (c : Choice) (p q : Point) : Type 0 where
   pub can : feasible js c (p .time) ≡ true
   pub free : q .time ≡ finish js c (p .time)

@@ -1,5 +1,6 @@
--- The paper (Hwang, Chen and Agrawala), sections 2 and 3.2, in whole signed seconds and with the bus free at t0 where it starts
--- at 0: feasible and optimal schedules of some jobs, and when a set of scheduling points is complete and minimum. Definitions only.
+-- The paper (Hwang, Chen and Agrawala), sections 2 and 3.2, in whole signed seconds, with the bus free at t0 where it starts at 0
+-- and with the bus-free time, a rest after the last finish, where it has the finish: feasible and optimal schedules of some
+-- jobs, and when a set of scheduling points is complete and minimum. Definitions only.
 use Prim.Native.Nat.{_≤_, _<_}
 use mathlib.Core.Path.{_≡_}
 use mathlib.Core.Bool.{true}
@@ -10,7 +11,7 @@ use Rattle.order.specs.Job.{Job, Point}
 use Rattle.order.specs.Choice.{Choice, feasible, finish, keptWeight}
 
 -- Feasible at t: a choice of the jobs that keeps every critical one and meets the deadlines, which is `feasible`, and
--- finishes at or before t. The source's prefix of k jobs is a list of jobs here.
+-- leaves the bus free at or before t. The source's prefix of k jobs is a list of jobs here.
 pub record FeasibleAt (t0 : ℤ) (js : List Job) (t : ℤ) (c : Choice) : Type 0 where
   pub can : feasible js c t0 ≡ true
   pub ends : finish js c t0 ≤ℤ t

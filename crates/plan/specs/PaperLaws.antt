@@ -28,7 +28,7 @@ use Rattle.plan.specs.PlanProfile.{reached, reached-by, reaches}
 use Rattle.plan.specs.Paper.{FeasibleAt, OptimalAt, SchedulingPoint, pointOf, EachFeasible}
 use Rattle.plan.specs.Paper.{BeforeFirst, OptimalBetween, Complete, InOrder, Minimum, CompleteMinimum}
 
--- From its finish on, the plan is an optimal schedule of the whole order.
+-- From its bus-free time on, the plan is an optimal schedule of the whole order.
 pub plan-optimal : (t0 : ℤ) (js : List Job) (e : Ended) → plan t0 js ≡ some e → (t : ℤ) → e .end .time ≤ℤ t
     → OptimalAt t0 js t (e .choice)
 plan-optimal t0 js e h t late =

@@ -29,12 +29,12 @@ byLastPlace [] (y ∷ d) = Ordering·lt
 byLastPlace (x ∷ c) [] = Ordering·gt
 byLastPlace (x ∷ c) (y ∷ d) = orThen (byLastPlace c d) (compare x y)
 
--- A feasible choice with the point that it ends in.
+-- A feasible choice with the point that it ends in: when it leaves the bus free, and the weight kept.
 pub record Ended : Type 0 where
   pub choice : Choice
   pub end : Point
 
--- Greatest kept weight, then least finish, then the last differing place.
+-- Greatest kept weight, then the bus free first, then the last differing place.
 abbrev pub ranking : Ended → Ended → Ordering
 ranking a b =
     orThen (compare (b .end .weight) (a .end .weight))

@@ -130,7 +130,7 @@ plan-some t js c h = go (plan t js) refl
 -- ---- in the words of R7
 
 module _ (t : ℤ) (js : List Job) (e : Ended) (p : IsPlan t js e) where
-  -- The plan's choice is feasible, and the plan ends at that choice's finish with its kept weight.
+  -- The plan's choice is feasible, and the plan ends at that choice's bus-free time with its kept weight.
   pub plan-ran : Ran js (e .choice) (startPoint t) (e .end)
   plan-ran = ran js (e .choice) (startPoint t) (p .feasible)
 
@@ -144,11 +144,11 @@ module _ (t : ℤ) (js : List Job) (e : Ended) (p : IsPlan t js e) where
         let n : ¬ (e .end .weight < keptWeight js d) = λ k. none-better (heavier k) in
         omega arith
 
-    -- of those that keep as much, none finishes earlier;
+    -- of those that keep as much, none leaves the bus free earlier;
     pub plan-soonest : keptWeight js d ≡ e .end .weight → e .end .time ≤ℤ finish js d t
     plan-soonest w = not-lt (λ k. none-better (sooner w k))
 
-    -- of those that also finish then, any other has the greater pick at the last place where the two differ;
+    -- of those that also leave it free then, any other has the greater pick at the last place where the two differ;
     pub plan-last-place : keptWeight js d ≡ e .end .weight → finish js d t ≡ e .end .time
         → (d ≡ e .choice) ⊎ SmallerAtLast (e .choice) d
     plan-last-place w f = go (byLastPlace d (e .choice)) refl
@@ -166,7 +166,7 @@ module _ (t : ℤ) (js : List Job) (e : Ended) (p : IsPlan t js e) where
     plan-leaves-out one w f =
         ⊎-elim inl (λ s. inr (left-out-of s (mark-at d (one-rate-marks js d t one h) (s .place)))) (plan-last-place w f)
 
--- All of it: feasible, of greatest kept weight, among those of least finish, and among those with the smaller pick at
+-- All of it: feasible, of greatest kept weight, among those the first to leave the bus free, and among those with the smaller pick at
 -- the last place where it differs from another.
 pub record BestChoice (t : ℤ) (js : List Job) (c : Choice) : Type 0 where
   pub possible : feasible js c t ≡ true

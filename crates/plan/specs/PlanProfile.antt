@@ -60,7 +60,7 @@ plan-end-last t js = go (plan t js) refl
     go none h = sym (last-of-none (reached t js) .1 (nothing-reached t js (plan-none t js .0 h)))
     go (some e) h = sym (last-best (reached t js) (e .end) .1 (plan-best t js e (plan-is t js e .0 h)))
 
--- So the plan's finish and kept weight are the last point's time and weight,
+-- So the plan's bus-free time and kept weight are the last point's time and weight,
 pub plan-last : (o : Order) (e : Ended) → plan (o .t0) (o .jobs) ≡ some e → lastPoint (orderProfile o) ≡ some (e .end)
 plan-last o e h = sym (plan-end-last (o .t0) (o .jobs)) ∙ ap (Option·map (λ (e : Ended). e .end)) h
 

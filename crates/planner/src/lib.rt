@@ -21,7 +21,7 @@ ghost use Rattle.planner.specs.Calls.{PlanCall};
 ghost use Rattle.planner.specs.Planning.{CanPlan, PlannedIn, CanMake, MadeIn};
 
 // A plan's numbers: the mask of the jobs kept, how many they are, the weight kept and the weight lost,
-// when the plan ends, and the points of the profiles on the way.
+// when the bus is free after it, and the points of the profiles on the way.
 pub struct Figures {
     pub mask: u64,
     pub kept: u32,

@@ -12,11 +12,13 @@ use Rattle.point_records.specs.declared.Point.{Point}
 abbrev point : ℤ → ℤ → Point
 point t w = record { time = t; weight = w }
 
--- P2: 199 finds nothing, 200 gives 0, 394 gives 20, 395 gives 35.
+-- P2: 214 finds nothing, 215 gives 0, 454 gives 30, 455 gives 35.
 pub over-records :
-    map (lookupOf (flattened (point (pos 200) (pos 0) ∷ point (pos 295) (pos 20) ∷ point (pos 395) (pos 35) ∷ [])))
-    (pos 199 ∷ pos 200 ∷ pos 394 ∷ pos 395 ∷ [])
-    ≡ NotFound ∷ Found 0 ∷ Found 20 ∷ Found 35 ∷ []
+    map (lookupOf (flattened
+    (point (pos 215) (pos 0) ∷ point (pos 330) (pos 15) ∷ point (pos 340) (pos 20) ∷ point (pos 445) (pos 30)
+    ∷ point (pos 455) (pos 35) ∷ [])))
+    (pos 214 ∷ pos 215 ∷ pos 454 ∷ pos 455 ∷ [])
+    ≡ NotFound ∷ Found 0 ∷ Found 30 ∷ Found 35 ∷ []
 unfolding rest
 over-records = refl
 

@@ -1,5 +1,5 @@
 -- Extending, in the words of R12: at each time the greatest sum of a point's weight and the kept weight of a choice that
--- is feasible from that point and finishes by then; and the shortest profile that gives it.
+-- is feasible from that point and leaves the bus free by then; and the shortest profile that gives it.
 use Prim.Native.Nat.{ℕ, _+_}
 use mathlib.Core.Path.{_≡_, refl, sym, _∙_}
 use mathlib.Core.Bool.{true}
@@ -18,7 +18,7 @@ use Rattle.profile.specs.Last.{lastPoint, Best, last-best}
 use Rattle.profile.specs.Greatest.{Greatest, greatest-one, greatest-same}
 use Rattle.profile.specs.Worth.{WeightBy, worth-greatest, ShortestProfile, profileOf-is}
 
--- A point of P and a choice that is feasible from its time and finishes by t; w is the sum of both weights.
+-- A point of P and a choice that is feasible from its time and leaves the bus free by t; w is the sum of both weights.
 pub record SumBy (P : List Point) (js : List Job) (t : ℤ) (w : ℕ) : Type 0 where
   pub point : Point
   pub member : List·Memᴰ point P

@@ -14,7 +14,7 @@ pub enum Finding {
 }
 
 // The seconds that the bus rests after every job.
-pub const REST: i32 = 0;
+pub const REST: i32 = 15;
 
 // The second before the first that a point may have, and the weight below all.
 const BEFORE_ALL: i32 = -100001;

@@ -23,7 +23,7 @@ use Rattle.text.specs.Decimal.{minus, digits, figure, words, line}
 unfoldable pub refusalLine : ℕ → ℕ → List ℕ
 refusalLine number place = line (pos number ∷ pos place ∷ [])
 
--- Of a plan: no refusal and no place, jobs kept, kept weight, lost weight, finish, point total.
+-- Of a plan: no refusal and no place, jobs kept, kept weight, lost weight, bus-free time, point total.
 unfoldable pub planLine : Figures → List ℕ
 planLine f =
     line

@@ -43,7 +43,7 @@ pub refusal-line : (n p : ℕ) → refusalLine n p ≡ digits n ++ (space ∷ (d
 unfolding refusalLine figure
 refusal-line n p = refl
 
--- Of a plan: no refusal, the first words, the finish, and the point total.
+-- Of a plan: no refusal, the first words, the bus-free time, and the point total.
 pub plan-line : (f : Figures) → planLine f
     ≡ (((digits 0 ++ (space ∷ (digits 0 ++ (space ∷ [])))) ++ keptWords f) ++ figure (f .finish)) ++ (space ∷ [])
     ++ (digits (f .points) ++ (newline ∷ []))

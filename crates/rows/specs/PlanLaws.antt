@@ -1,4 +1,4 @@
--- The plan is read off the rows: its weight and finish are the heaviest cell of the last row, its choice is the walk back
+-- The plan is read off the rows: its weight and bus-free time are the heaviest cell of the last row, its choice is the walk back
 -- from there, and there is none where the row has no cell.
 use Prim.Native.Nat.{ℕ, suc, _≤_, _<_}
 use mathlib.Core.Path.{_≡_, refl, sym, ap, _∙_}
@@ -106,7 +106,7 @@ module _ (t : ℤ) (js : List Job) where
     pub plan-up-to : planUpTo top t js ≡ plan t js
     plan-up-to = from-heaviest (heaviest last top) (heaviest-is last (suc top)) .0
 
-    -- The plan's kept weight is the greatest that has a cell in the last row, and its finish is that cell.
+    -- The plan's kept weight is the greatest that has a cell in the last row, and its bus-free time is that cell.
     pub plan-end-heaviest : Option·map (λ (e : Ended). e .end) (plan t js) ≡ heaviest last top
     plan-end-heaviest = from-heaviest (heaviest last top) (heaviest-is last (suc top)) .1
 

@@ -4,7 +4,7 @@ use lib.IntN.{ℤ, pos, negsuc}
 
 -- The seconds that the bus rests after every job. Shut on purpose: no law depends on its value.
 unfoldable pub rest : ℕ
-rest = 0
+rest = 15
 
 -- Ready times, deadlines and an order's own bus-free time lie from earliest to latest.
 abbrev pub earliest : ℤ

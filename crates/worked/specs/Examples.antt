@@ -24,18 +24,18 @@ use Rattle.heat.specs.Answer.{heatingOf, refusalOf as heatRefusal, lengthOf}
 -- ---- the orders
 
 -- A job's six numbers: its number, whether it is critical, weight, ready time, length and deadline.
-abbrev job : ℕ → ℕ → ℕ → ℤ → ℕ → ℤ → List ℤ
+abbrev pub job : ℕ → ℕ → ℕ → ℤ → ℕ → ℤ → List ℤ
 job number critical weight ready long deadline =
     pos number ∷ pos critical ∷ pos weight ∷ ready ∷ pos long ∷ deadline ∷ []
 
 -- Single jobs and pairs are numbered by their place, ready at 0, with the bus free at 0.
-abbrev critical : ℕ → ℕ → ℤ → List ℤ
+abbrev pub critical : ℕ → ℕ → ℤ → List ℤ
 critical number long deadline = job number 1 0 (pos 0) long deadline
 
-abbrev worth10 : ℕ → ℕ → ℤ → List ℤ
+abbrev pub worth10 : ℕ → ℕ → ℤ → List ℤ
 worth10 number long deadline = job number 0 10 (pos 0) long deadline
 
-abbrev from0 : List ℤ → List ℕ
+abbrev pub from0 : List ℤ → List ℕ
 from0 jobs = packOrder (pos 0) jobs
 
 -- The order of P1: five jobs, the bus free at -600.
@@ -67,14 +67,14 @@ morning-packed = refl
 
 -- ---- the answers as figures
 
--- Of a plan: refusal, place, jobs kept, kept weight, lost weight, finish, point total.
+-- Of a plan: refusal, place, jobs kept, kept weight, lost weight, bus-free time, point total.
 abbrev figures : PlanNumbers → List ℤ
 figures n =
     pos (n .refusal) ∷ pos (n .place) ∷ pos (n .kept) ∷ pos (n .keptWeight) ∷ pos (n .lostWeight) ∷ n .finish ∷ pos (n .points)
     ∷ []
 
 -- Of a lookup: refusal, found, weight.
-abbrev found : List ℤ → ℤ → List ℤ
+abbrev pub found : List ℤ → ℤ → List ℤ
 found profile t =
     let r = lookupOf profile t in
     pos (lookupRefusal r) ∷ pos (foundOf r) ∷ pos (weightFound r) ∷ []
@@ -87,7 +87,7 @@ heated byte = pos (heatRefusal (heatingOf byte)) ∷ pos (lengthOf (heatingOf by
 
 -- The numbers of P1's profile, as P2 tells them.
 abbrev morningProfile : List ℤ
-morningProfile = pos 200 ∷ pos 0 ∷ pos 295 ∷ pos 20 ∷ pos 395 ∷ pos 35 ∷ []
+morningProfile = pos 215 ∷ pos 0 ∷ pos 330 ∷ pos 15 ∷ pos 340 ∷ pos 20 ∷ pos 445 ∷ pos 30 ∷ pos 455 ∷ pos 35 ∷ []
 
 pub record Example : Type 0 where
   pub asked : List ℤ
@@ -96,17 +96,17 @@ pub record Example : Type 0 where
 -- Beside an example's own numbers a call is lent room for a profile and a work area: 602 and 14,749 numbers, of any values.
 module _ (out work : List ℤ) where
   -- A plan's figures, then the starts, which were 1 for each job.
-  abbrev planned : List ℕ → ℕ → List ℤ
+  abbrev pub planned : List ℕ → ℕ → List ℤ
   planned order jobs =
       figures (planNumbers (plannedOf order (replicate jobs (pos 1)) work)) ++ startsAfter order (replicate jobs (pos 1)) work
 
   -- Of extending and of better-of: refusal, points written, and the numbers written.
-  abbrev extended : List ℤ → List ℕ → List ℤ
+  abbrev pub extended : List ℤ → List ℕ → List ℤ
   extended profile order =
       let points = pointsWritten (extendedOf profile order out work) in
       pos (extendRefusal (extendedOf profile order out work)) ∷ pos points ∷ take (2 * points) (outAfter profile order out work)
 
-  abbrev joined : List ℤ → List ℤ → List ℤ
+  abbrev pub joined : List ℤ → List ℤ → List ℤ
   joined p q =
       let points = pointsJoined (joinedOf p q out) in
       pos (joinRefusal (joinedOf p q out)) ∷ pos points ∷ take (2 * points) (joinedAfter p q out)
@@ -124,23 +124,25 @@ module _ (out work : List ℤ) where
       ∷ record {
         asked = planned packedMorning 5;
         told =
-            pos 0 ∷ pos 0 ∷ pos 4 ∷ pos 35 ∷ pos 15 ∷ pos 395 ∷ pos 10
-            ∷ negsuc 599 ∷ negsuc 104 ∷ pos 200000 ∷ pos 195 ∷ pos 295 ∷ [];
+            pos 0 ∷ pos 0 ∷ pos 4 ∷ pos 35 ∷ pos 15 ∷ pos 455 ∷ pos 14
+            ∷ negsuc 599 ∷ negsuc 89 ∷ pos 200000 ∷ pos 225 ∷ pos 340 ∷ [];
       }
-      -- P2: its profile, from the point (-600, 0): three points
+      -- P2: its profile, from the point (-600, 0): five points
       ∷ record {
         asked = extended (negsuc 599 ∷ pos 0 ∷ []) packedMorning;
-        told = pos 0 ∷ pos 3 ∷ pos 200 ∷ pos 0 ∷ pos 295 ∷ pos 20 ∷ pos 395 ∷ pos 35 ∷ [];
+        told =
+            pos 0 ∷ pos 5
+            ∷ pos 215 ∷ pos 0 ∷ pos 330 ∷ pos 15 ∷ pos 340 ∷ pos 20 ∷ pos 445 ∷ pos 30 ∷ pos 455 ∷ pos 35 ∷ [];
       }
-      -- P3: lookups in it at 199, 200, 394 and 395
-      ∷ record { asked = found morningProfile (pos 199); told = pos 0 ∷ pos 0 ∷ pos 0 ∷ [] }
-      ∷ record { asked = found morningProfile (pos 200); told = pos 0 ∷ pos 1 ∷ pos 0 ∷ [] }
-      ∷ record { asked = found morningProfile (pos 394); told = pos 0 ∷ pos 1 ∷ pos 20 ∷ [] }
-      ∷ record { asked = found morningProfile (pos 395); told = pos 0 ∷ pos 1 ∷ pos 35 ∷ [] }
+      -- P3: lookups in it at 214, 215, 454 and 455
+      ∷ record { asked = found morningProfile (pos 214); told = pos 0 ∷ pos 0 ∷ pos 0 ∷ [] }
+      ∷ record { asked = found morningProfile (pos 215); told = pos 0 ∷ pos 1 ∷ pos 0 ∷ [] }
+      ∷ record { asked = found morningProfile (pos 454); told = pos 0 ∷ pos 1 ∷ pos 30 ∷ [] }
+      ∷ record { asked = found morningProfile (pos 455); told = pos 0 ∷ pos 1 ∷ pos 35 ∷ [] }
       -- P4: a critical job that just meets its deadline
       ∷ record {
         asked = planned (from0 (critical 0 10 (pos 10))) 1;
-        told = pos 0 ∷ pos 0 ∷ pos 1 ∷ pos 0 ∷ pos 0 ∷ pos 10 ∷ pos 1 ∷ pos 0 ∷ [];
+        told = pos 0 ∷ pos 0 ∷ pos 1 ∷ pos 0 ∷ pos 0 ∷ pos 25 ∷ pos 1 ∷ pos 0 ∷ [];
       }
       -- P5: one that does not is refused, and the start stays; a non-critical one is left out
       ∷ record {
@@ -154,19 +156,19 @@ module _ (out work : List ℤ) where
       -- P6: of two alike the first is kept
       ∷ record {
         asked = planned (from0 (worth10 0 10 (pos 10) ++ worth10 1 10 (pos 10))) 2;
-        told = pos 0 ∷ pos 0 ∷ pos 1 ∷ pos 10 ∷ pos 10 ∷ pos 10 ∷ pos 4 ∷ pos 0 ∷ pos 200000 ∷ [];
+        told = pos 0 ∷ pos 0 ∷ pos 1 ∷ pos 10 ∷ pos 10 ∷ pos 25 ∷ pos 4 ∷ pos 0 ∷ pos 200000 ∷ [];
       }
       -- P7: the second is shorter, and is kept
       ∷ record {
         asked = planned (from0 (worth10 0 10 (pos 10) ++ worth10 1 5 (pos 10))) 2;
-        told = pos 0 ∷ pos 0 ∷ pos 1 ∷ pos 10 ∷ pos 10 ∷ pos 5 ∷ pos 4 ∷ pos 200000 ∷ pos 0 ∷ [];
+        told = pos 0 ∷ pos 0 ∷ pos 1 ∷ pos 10 ∷ pos 10 ∷ pos 20 ∷ pos 4 ∷ pos 200000 ∷ pos 0 ∷ [];
       }
-      -- P8: A and C, though B alone would end before A
+      -- P8: A and C, though after B alone the bus would be free before A's
       ∷ record {
-        asked = planned (from0 (worth10 0 4 (pos 4) ++ (worth10 1 2 (pos 4) ++ job 2 1 0 (pos 10) 1 (pos 11)))) 3;
-        told = pos 0 ∷ pos 0 ∷ pos 2 ∷ pos 10 ∷ pos 10 ∷ pos 11 ∷ pos 5 ∷ pos 0 ∷ pos 200000 ∷ pos 10 ∷ [];
+        asked = planned (from0 (worth10 0 4 (pos 4) ++ (worth10 1 2 (pos 4) ++ job 2 1 0 (pos 40) 1 (pos 41)))) 3;
+        told = pos 0 ∷ pos 0 ∷ pos 2 ∷ pos 10 ∷ pos 10 ∷ pos 56 ∷ pos 5 ∷ pos 0 ∷ pos 200000 ∷ pos 40 ∷ [];
       }
-      -- no jobs: the finish is the bus-free time, and all counts are 0 (R24)
+      -- no jobs: the bus stays free at t0, and all counts are 0 (R24)
       ∷ record {
         asked = planned (packOrder (pos 5) []) 0;
         told = pos 0 ∷ pos 0 ∷ pos 0 ∷ pos 0 ∷ pos 0 ∷ pos 5 ∷ pos 0 ∷ [];

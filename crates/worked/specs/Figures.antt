@@ -37,9 +37,9 @@ figures =
     -- R3: jobs of an order, and their weights together
     ∷ is (pos mostJobs) (pos 48)
     ∷ is (pos mostWeight) (pos 300)
-    -- R5: the bus rests no seconds after a job, so it is free by the latest deadline
-    ∷ is (pos rest) (pos 0)
-    ∷ is latestFree (pos 100000)
+    -- R5, R11: the rest after a job, and the latest bus-free time: a rest after the latest deadline
+    ∷ is (pos rest) (pos 15)
+    ∷ is latestFree (pos 100015)
     -- R8: place 0 has the highest of 64 bits
     ∷ is (pos (mask (1 ∷ []))) (pos 9223372036854775808)
     -- R10: the start of a job left out

@@ -1,3 +1,4 @@
 -- The worked examples and the figures of the rules, computed on the definitions.
 pub mod Figures
 pub mod Examples
+pub mod Rest
