@@ -24,7 +24,7 @@ use point_records::Point;
 use profiles::Finding;
 
 // What stands behind the records that a case tells, in time and weight: no point has it.
-const NO_POINT: i32 = 100_001;
+const NO_POINT: i32 = 100_016;
 
 // What extending answered.
 fn put_extended(answer: Extended) {
