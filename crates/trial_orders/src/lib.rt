@@ -25,7 +25,7 @@ const LAST_POINT: usize = 6;
 // How the orders of a kind are drawn: how many counts of jobs there are from 0 up, how many jobs in ten
 // are critical, how many weights there are from 1 up and how many lengths from `shortest` up. The first
 // job is ready within `spread` seconds from `base` on, each later one within as many from `pace` seconds
-// later on; it is due within `slack` seconds from `least` seconds after its earliest end on.
+// later on; it is due within `slack` seconds from `least` seconds after its earliest finish on.
 pub struct Kind {
     pub counts: u64,
     pub critical: u64,
@@ -71,14 +71,14 @@ fn new_kind(
 // and heavy; none or one job.
 pub fn kind_of(number: u64) -> Kind {
     match number {
-        0 => new_kind(11, 1, 30, 1, 20, 0, 4, 30, -3, 80),
-        1 => new_kind(11, 0, 1, 5, 1, 0, 2, 5, 0, 18),
-        2 => new_kind(11, 1, 2, 1, 2, -6, 1, 2, 0, 7),
-        3 => new_kind(11, 0, 3, 2, 3, 0, 2, 5, -1, 5),
-        4 => new_kind(11, 10, 1, 1, 6, -20, 3, 10, 2, 30),
-        5 => new_kind(11, 3, 4, 1, 4, 0, 2, 6, -1, 14),
-        6 => new_kind(11, 1, 30, 1, 60, -100_000, 10, 120, -10, 300),
-        7 => new_kind(11, 1, 20, 1, 200, 99_000, 60, 400, 0, 900),
+        0 => new_kind(11, 1, 30, 1, 20, 0, 12, 30, -3, 160),
+        1 => new_kind(11, 0, 1, 5, 1, 0, 8, 5, 0, 60),
+        2 => new_kind(11, 1, 2, 1, 2, -6, 9, 2, 0, 24),
+        3 => new_kind(11, 0, 3, 2, 3, 0, 9, 5, -1, 20),
+        4 => new_kind(11, 10, 1, 1, 6, -20, 18, 10, 2, 30),
+        5 => new_kind(11, 3, 4, 1, 4, 0, 14, 6, -1, 34),
+        6 => new_kind(11, 1, 30, 1, 60, -100_000, 25, 120, -10, 300),
+        7 => new_kind(11, 1, 20, 1, 30, 99_950, 6, 40, 0, 60),
         8 => new_kind(7, 1, 50, 9_000, 1_001, -50_000, 5_000, 20_000, 0, 30_000),
         _ => new_kind(2, 3, 2, 1, 3, -2, 0, 4, -2, 5),
     }
