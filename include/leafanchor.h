@@ -3,6 +3,9 @@
  * libleafanchor.a, every answer and every size. Times are whole signed seconds. The rules, R1 and on, are in
  * docs/RULES.md.
  *
+ * A job's finish is its start plus its length. The contactor rests 15 seconds after every job: the bus is free 15
+ * seconds after the finish, and the next job kept starts then at the earliest. A deadline binds the finish alone.
+ *
  * What the caller owes, and no call checks: a pointer is never null, also where its length is 0; it points to
  * as many elements as the length beside it says; a buffer that a call writes overlaps no other buffer of that
  * call. Beyond that a call takes any numbers and any bytes and ends with an answer.
@@ -141,9 +144,9 @@ typedef struct leafanchor_step_answer {
     size_t next;      /**< the place where the reader then stands, refused or not */
 } leafanchor_step_answer;
 
-/** One point of a profile: from this time on, this weight can have been kept. */
+/** One point of a profile: from this time on, the bus can be free with this weight kept. */
 typedef struct leafanchor_point {
-    int32_t time;   /**< the second from which the bus is free */
+    int32_t time;   /**< a bus-free time, -100,000 to 100,015: 15 seconds after a job's finish where one is kept */
     int32_t weight; /**< the weight kept */
 } leafanchor_point;
 
@@ -175,7 +178,8 @@ typedef struct leafanchor_plan_answer {
     uint32_t kept;        /**< how many are kept */
     uint32_t kept_weight; /**< of the jobs kept */
     uint32_t lost_weight; /**< of the jobs left out */
-    int32_t finish;       /**< when the bus is free again */
+    int32_t finish;       /**< when the bus is free after the plan: 15 seconds after the last kept job's finish, t0
+                           * where none is kept */
     uint32_t points;      /**< in the profiles of the order's prefixes, together */
 } leafanchor_plan_answer;
 
@@ -210,7 +214,8 @@ leafanchor_unpack_answer leafanchor_unpack(const uint8_t *order, size_t order_le
                                            size_t numbers_len);
 
 /** Packs an order (R21). Refusals 3 to 7, 9 and 10 write nothing.
- * @param t0 the bus-free time
+ * @param t0 the bus-free time, -100,000 to 100,000: a plan's finish of 100,001 to 100,015 is no t0 of a next order,
+ * though a valid time of a point
  * @param numbers six numbers a job, as unpacking writes them
  * @param numbers_len how many numbers
  * @param order written: the packed order
@@ -287,7 +292,7 @@ leafanchor_extend_answer leafanchor_extend(const int32_t *profile, size_t profil
  * @param starts_len room for one start a job
  * @param work the work area
  * @param work_len room for LEAFANCHOR_WORK_AREA numbers
- * @return the jobs kept, the weights, the finish and the point total */
+ * @return the jobs kept, the weights, when the bus is free and the point total */
 LEAFANCHOR_MUST_USE
 leafanchor_plan_answer leafanchor_plan(const uint8_t *order, size_t order_len, int32_t *starts, size_t starts_len,
                                        int32_t *work, size_t work_len);
@@ -328,14 +333,14 @@ typedef struct leafanchor_job {
     int32_t weight;   /**< 0 where it is critical, else 1 to 50 */
     int32_t ready;    /**< the second from which it may run */
     int32_t length;   /**< in seconds, 1 to 10,000 */
-    int32_t deadline; /**< the second by which it must have ended */
+    int32_t deadline; /**< the second by which it must have ended; the rest after it does not count */
 } leafanchor_job;
 
 /** A profile (R11) with its length: one call writes both, and the next reads just what was written. It takes 2,416
  * bytes, on a stack too. {0, {0}} is the profile of no points. */
 typedef struct leafanchor_profile {
     size_t numbers_len;                       /**< how many of the numbers are the profile: twice the points */
-    int32_t numbers[LEAFANCHOR_PROFILE_ROOM]; /**< alternating times and weights; the rest means nothing */
+    int32_t numbers[LEAFANCHOR_PROFILE_ROOM]; /**< alternating times and weights; what stands behind means nothing */
 } leafanchor_profile;
 
 /** leafanchor_unpack into jobs. It takes no stack of its own.
