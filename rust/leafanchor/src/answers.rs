@@ -109,7 +109,8 @@ answers! {
         kept_weight: u32,
         /// The weight of the jobs left out.
         lost_weight: u32,
-        /// When the bus is free again.
+        /// When the bus is free after the plan: 15 seconds after the last kept job's finish, t0 where none is
+        /// kept.
         finish: i32,
         /// The points in the profiles of the order's prefixes, together.
         points: u32,
@@ -165,13 +166,13 @@ impl LookupAnswer {
     }
 }
 
-/// One point of a profile: from this time on, this weight can have been kept.
+/// One point of a profile: from this time on, the bus can be free with this weight kept.
 #[repr(C)]
 #[derive(Clone, Copy, Debug, Default, PartialEq, Eq, PartialOrd, Ord, Hash)]
 pub struct Point {
-    /// The time.
+    /// A bus-free time, -100,000 to 100,015: 15 seconds after a job's finish where one is kept.
     pub time: i32,
-    /// The weight.
+    /// The weight kept.
     pub weight: i32,
 }
 

@@ -29,7 +29,7 @@ pub struct Job {
     pub ready: i32,
     /// Seconds on the bus, 1 to 10,000.
     pub length: i32,
-    /// The latest finish, -100,000 to 100,000.
+    /// The latest finish, -100,000 to 100,000; the rest after it does not count.
     pub deadline: i32,
 }
 

@@ -6,6 +6,10 @@
 //! not in order is a [`Refusal`]. Nothing here allocates but [`WorkArea::boxed`]; planning works in the
 //! caller's [`WorkArea`]. Times are whole signed seconds.
 //!
+//! A job's finish is its start plus its length. The contactor rests 15 seconds after every job: the bus is
+//! free 15 seconds after the finish, and the next job kept starts then at the earliest. A deadline binds the
+//! finish alone.
+//!
 //! ```
 //! use leafanchor::{Job, Order, WorkArea, ORDER_BYTES};
 //!
@@ -21,8 +25,9 @@
 //!         None => println!("left out: {job}"),
 //!     }
 //! }
-//! assert_eq!(plan.finish, 195);
-//! assert_eq!(order.profile(&mut work).to_string(), "(-105, 0), (195, 20)");
+//! assert!(plan.starts().eq([Some(-600), Some(-90)])); // the first ends at -105, and the contactor rests
+//! assert_eq!(plan.finish, 225); // the second ends at 210
+//! assert_eq!(order.profile(&mut work).to_string(), "(-90, 0), (225, 20)");
 //! # Ok::<(), leafanchor::Refusal>(())
 //! ```
 //!
@@ -73,7 +78,7 @@ pub use work::WorkArea;
 /// let (mut starts, mut work) = ([0; MOST_JOBS], [0; WORK_AREA]);
 /// # let bytes = [0x07, 0xFD, 0xA8, 0, 0x1E, 0x03, 0xFD, 0xA8, 0x07, 0xBC, 0, 0];
 /// let answer = calls::plan(&bytes, &mut starts, &mut work).accepted()?;
-/// assert_eq!((answer.kept, answer.finish, starts[0]), (1, -105, -600));
+/// assert_eq!((answer.kept, answer.finish, starts[0]), (1, -90, -600));
 /// # Ok::<(), leafanchor::Refusal>(())
 /// ```
 pub mod calls {

@@ -59,7 +59,8 @@ pub fn question(
 /// let slow = Order::pack(0, &[Job::optional(1, 10, 0, 10, 10)], &mut slow)?;
 /// let quick = Order::pack(0, &[Job::optional(1, 10, 0, 5, 10)], &mut quick)?;
 ///
-/// let winner = choose(slow, quick, 9, &mut WorkArea::new())?;
+/// // The bus is free at 25 after the slow one, at 20 after the quick one.
+/// let winner = choose(slow, quick, 24, &mut WorkArea::new())?;
 /// assert_eq!((winner.opening, winner.order), (Opening::Second, quick));
 /// # Ok::<(), leafanchor::Refusal>(())
 /// ```

@@ -43,7 +43,7 @@ impl<'a> TryFrom<&'a [u8]> for Order<'a> {
 }
 
 impl<'a> Order<'a> {
-    /// Packs a bus-free time and jobs into the front of `room`;
+    /// Packs a bus-free time, -100,000 to 100,000, and jobs into the front of `room`;
     /// [`ORDER_BYTES`](crate::ORDER_BYTES) are enough for any order.
     ///
     /// # Errors
@@ -97,8 +97,8 @@ impl<'a> Order<'a> {
         (0..self.count).map(move |place| calls::step(self.bytes, place).fields())
     }
 
-    /// The order's profile: at each time the greatest weight that can have been kept by then. It is empty if
-    /// no choice is feasible.
+    /// The order's profile: at each time the greatest weight that can have been kept with the bus free by
+    /// then. It is empty if no choice is feasible.
     pub fn profile(self, work: &mut WorkArea) -> Profile {
         Profile::of(self, work)
     }

@@ -16,7 +16,7 @@ use core::iter::FusedIterator;
 /// let jobs = [Job::optional(4, 10, 0, 10, 10), Job::optional(9, 10, 0, 10, 10)];
 /// let mut room = [0; ORDER_BYTES];
 /// let plan = Order::pack(0, &jobs, &mut room)?.plan(&mut WorkArea::new())?;
-/// assert_eq!((plan.kept_weight, plan.lost_weight, plan.finish), (10, 10, 10));
+/// assert_eq!((plan.kept_weight, plan.lost_weight, plan.finish), (10, 10, 25));
 /// assert!(plan.starts().eq([Some(0), None]));
 /// assert!(plan.kept_places().eq([0]));
 /// # Ok::<(), leafanchor::Refusal>(())
@@ -32,7 +32,8 @@ pub struct Plan {
     pub kept_weight: u32,
     /// The weight of the jobs left out.
     pub lost_weight: u32,
-    /// When the bus is free again.
+    /// When the bus is free after the plan: 15 seconds after the last kept job's finish, t0 where none is
+    /// kept. From 100,001 to 100,015 it is no t0 of a next order, though a valid time of a point.
     pub finish: i32,
     /// The points in the profiles of the order's prefixes, together.
     pub points: u32,

@@ -1,4 +1,4 @@
-//! Profiles: the greatest weight that can have been kept by each time (R11 to R15).
+//! Profiles: the greatest weight that can have been kept with the bus free by each time (R11 to R15).
 
 use crate::calls::{self, Point};
 use crate::order::Order;
@@ -7,7 +7,7 @@ use crate::work::WorkArea;
 use crate::PROFILE_ROOM;
 use core::fmt;
 
-/// A valid profile: up to 301 points, times and weights both strictly rising.
+/// A valid profile: up to 301 points, times and weights both strictly rising, times from -100,000 to 100,015.
 ///
 /// It owns its points, in some 2,400 bytes, and allocates nothing. It comes from an order
 /// ([`Order::profile`]), from another profile, or from points or alternating numbers that are checked.

@@ -87,7 +87,7 @@ fn openings_are_weighed_at_a_time() {
     let first = Order::pack(0, &[Job::optional(1, 10, 0, 10, 10)], &mut first).unwrap();
     let second = Order::pack(0, &[Job::optional(1, 10, 0, 5, 10)], &mut second).unwrap();
     let mut work = WorkArea::new();
-    for (t, opening, order) in [(9, Opening::Second, second), (10, Opening::First, first)] {
+    for (t, opening, order) in [(24, Opening::Second, second), (25, Opening::First, first)] {
         assert_eq!(question(first, second, t, &mut work), Ok(opening));
         let winner = choose(first, second, t, &mut work).unwrap();
         assert_eq!((winner.opening, winner.order, winner.records), (opening, order, order.records()));
@@ -98,7 +98,7 @@ fn openings_are_weighed_at_a_time() {
 
 #[test]
 fn profiles_are_checked() {
-    for numbers in [&[1][..], &[0, 0, 0, 1], &[0, 1, 1, 1], &[100_001, 0], &[0, 301], &[0; 604]] {
+    for numbers in [&[1][..], &[0, 0, 0, 1], &[0, 1, 1, 1], &[100_016, 0], &[0, 301], &[0; 604]] {
         assert_eq!(Profile::try_from(numbers), Err(Refusal::ProfileNotValid));
     }
     let points = |count: i32| (0..count).map(|at| Point { time: at, weight: at }).collect::<Vec<_>>();
@@ -115,7 +115,7 @@ fn profiles_are_checked() {
 fn a_boxed_work_area_never_stands_on_the_stack() {
     let small = std::thread::Builder::new().stack_size(32 * 1024);
     let plan = || Order::try_from(&P1_PACKED[..])?.plan(&mut WorkArea::boxed());
-    assert_eq!(small.spawn(plan).unwrap().join().unwrap().unwrap().finish, 395);
+    assert_eq!(small.spawn(plan).unwrap().join().unwrap().unwrap().finish, 455);
 }
 
 #[test]
@@ -126,5 +126,5 @@ fn plain_calls_take_anything() {
     let answer = calls::plan(&P1_PACKED, &mut starts, &mut work[1..]);
     assert_eq!(answer.accepted(), Err(Refusal::BufferTooShort));
     assert!(starts == [7; MOST_JOBS] && work.iter().all(|&number| number == 7));
-    assert_eq!(calls::plan(&P1_PACKED, &mut starts, &mut work).accepted().unwrap().finish, 395);
+    assert_eq!(calls::plan(&P1_PACKED, &mut starts, &mut work).accepted().unwrap().finish, 455);
 }

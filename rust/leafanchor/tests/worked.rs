@@ -17,9 +17,10 @@ fn planned(jobs: &[Job]) -> Result<Plan, Refusal> {
     Order::pack(0, jobs, &mut [0; ORDER_BYTES])?.plan(&mut WorkArea::new())
 }
 
-/// The starts of jobs, bus free at 0.
-fn starts(jobs: &[Job]) -> Vec<Option<i32>> {
-    planned(jobs).unwrap().starts().collect()
+/// The starts of jobs, bus free at 0, and when it is free after the plan.
+fn starts(jobs: &[Job]) -> (Vec<Option<i32>>, i32) {
+    let plan = planned(jobs).unwrap();
+    (plan.starts().collect(), plan.finish)
 }
 
 #[test]
@@ -41,9 +42,9 @@ fn p1_is_packed_and_read_back() {
 fn p1_is_planned() {
     let plan = Order::try_from(P1_PACKED).unwrap().plan(&mut WorkArea::boxed()).unwrap();
     assert_eq!((plan.kept, plan.kept_weight, plan.lost_weight), (4, 35, 15));
-    assert_eq!((plan.finish, plan.points), (395, 10));
+    assert_eq!((plan.finish, plan.points), (455, 14));
     assert_eq!(plan.mask, 0b11011 << 59);
-    let starts = [Some(-600), Some(-105), None, Some(195), Some(295)];
+    let starts = [Some(-600), Some(-90), None, Some(225), Some(340)];
     assert!(plan.starts().eq(starts));
     assert_eq!([0, 1, 2, 3, 4].map(|place| plan.start(place)), starts);
     assert_eq!((plan.start(5), plan.keeps(4), plan.keeps(2), plan.keeps(64)), (None, true, false, false));
@@ -55,13 +56,13 @@ fn p1_is_planned() {
 fn p2_and_p3_are_the_profile_of_p1() {
     let order = Order::try_from(P1_PACKED).unwrap();
     let profile = order.profile(&mut WorkArea::new());
-    assert_eq!(profile.to_string(), "(200, 0), (295, 20), (395, 35)");
-    assert_eq!(profile.numbers(), [200, 0, 295, 20, 395, 35]);
+    assert_eq!(profile.to_string(), "(215, 0), (330, 15), (340, 20), (445, 30), (455, 35)");
+    assert_eq!(profile.numbers(), [215, 0, 330, 15, 340, 20, 445, 30, 455, 35]);
     let points: Vec<Point> = profile.points().collect();
-    assert_eq!((profile.points().len(), points[2]), (3, Point { time: 395, weight: 35 }));
+    assert_eq!((profile.points().len(), points[4]), (5, Point { time: 455, weight: 35 }));
     assert_eq!(Profile::try_from(&points[..]).as_ref(), Ok(&profile));
     assert_eq!(Profile::try_from(profile.numbers()).as_ref(), Ok(&profile));
-    for (t, weight) in [(199, None), (200, Some(0)), (394, Some(20)), (395, Some(35))] {
+    for (t, weight) in [(214, None), (215, Some(0)), (454, Some(30)), (455, Some(35))] {
         assert_eq!(profile.lookup(t), weight);
     }
     let bus_free = Profile::try_from(&[-600, 0][..]).unwrap();
@@ -70,19 +71,19 @@ fn p2_and_p3_are_the_profile_of_p1() {
 
 #[test]
 fn p4_and_p5_are_both_sides_of_a_deadline() {
-    assert_eq!(starts(&[Job::critical(1, 0, 10, 10)]), [Some(0)]);
+    assert_eq!(starts(&[Job::critical(1, 0, 10, 10)]), (vec![Some(0)], 25));
     assert_eq!(planned(&[Job::critical(1, 0, 10, 9)]), Err(Refusal::NoFeasibleChoice));
-    let plan = planned(&[Job::optional(1, 5, 0, 10, 9)]).unwrap();
-    assert_eq!((plan.finish, plan.start(0)), (0, None));
+    assert_eq!(starts(&[Job::optional(1, 10, 0, 10, 9)]), (vec![None], 0));
 }
 
 #[test]
 fn p6_to_p8_are_ties() {
-    assert_eq!(starts(&[Job::optional(1, 10, 0, 10, 10), Job::optional(2, 10, 0, 10, 10)]), [Some(0), None]);
-    let plan = planned(&[Job::optional(1, 10, 0, 10, 10), Job::optional(2, 10, 0, 5, 10)]).unwrap();
-    assert_eq!((plan.start(0), plan.start(1), plan.finish), (None, Some(0), 5));
-    let p8 = [Job::optional(1, 10, 0, 4, 4), Job::optional(2, 10, 0, 2, 4), Job::critical(3, 10, 1, 11)];
-    assert_eq!(starts(&p8), [Some(0), None, Some(10)]);
+    let p6 = [Job::optional(1, 10, 0, 10, 10), Job::optional(2, 10, 0, 10, 10)];
+    assert_eq!(starts(&p6), (vec![Some(0), None], 25));
+    let p7 = [Job::optional(1, 10, 0, 10, 10), Job::optional(2, 10, 0, 5, 10)];
+    assert_eq!(starts(&p7), (vec![None, Some(0)], 20));
+    let p8 = [Job::optional(1, 10, 0, 4, 4), Job::optional(2, 10, 0, 2, 4), Job::critical(3, 40, 1, 41)];
+    assert_eq!(starts(&p8), (vec![Some(0), None, Some(40)], 56));
 }
 
 #[test]
