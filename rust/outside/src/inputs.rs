@@ -4,7 +4,7 @@ use leafanchor::calls::Point;
 use trials::{order_of, packed, profile_of, Order, Random, Style};
 
 /// Numbers at and past the ends of ranges.
-const STRANGE: [i32; 16] = [
+const STRANGE: [i32; 18] = [
     i32::MIN,
     -131_072,
     -100_001,
@@ -20,6 +20,8 @@ const STRANGE: [i32; 16] = [
     10_001,
     100_000,
     100_001,
+    100_015,
+    100_016,
     i32::MAX,
 ];
 
@@ -163,7 +165,7 @@ fn damage_profile(random: &mut Random, numbers: &mut Vec<i32>) {
             numbers.pop();
         }
         1 => numbers.push(random.one_of(&STRANGE)),
-        2 => numbers.extend([100_000, 300]),
+        2 => numbers.extend([random.one_of(&[100_000, 100_015, 100_016]), 300]),
         3 if numbers.len() > 2 => {
             let at = random.below(numbers.len() - 2);
             numbers[at + 2] = numbers[at] - random.within(0, 1);
@@ -171,7 +173,7 @@ fn damage_profile(random: &mut Random, numbers: &mut Vec<i32>) {
         _ if numbers.is_empty() => {}
         _ => {
             let at = random.below(numbers.len());
-            numbers[at] = random.one_of(&[-100_001, -100_000, -1, 0, 300, 301, 100_000, 100_001, i32::MAX]);
+            numbers[at] = random.one_of(&[-100_001, -100_000, -1, 0, 300, 301, 100_015, 100_016, i32::MAX]);
         }
     }
 }

@@ -36,7 +36,7 @@ impl<T: Copy + PartialEq> Lent<T> {
 /// What the work area must hold after a call.
 #[derive(Clone, Copy, Debug, PartialEq, Eq)]
 pub enum After {
-    /// The call passed refusal 10: the first 14,749 numbers are 0, the rest is as it was.
+    /// The call passed refusal 10: the first 14,749 numbers are 0, what is past them is as it was.
     Cleared,
     /// It did not: all is as it was.
     Untouched,

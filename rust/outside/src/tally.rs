@@ -34,14 +34,29 @@ pub struct Tally {
     /// Orders planned: with a feasible choice, and with none.
     pub feasible: usize,
     pub infeasible: usize,
-    /// Orders with two choices of the plan's weight and finish, among those where all choices were tried.
+    /// Orders with two choices of the plan's weight and bus-free time, among those where all choices were tried.
     pub tried: usize,
     pub tied: usize,
-    /// Orders where keeping the earliest finishes alone gives another choice.
+    /// Orders where keeping the earliest bus-free times alone gives another choice.
     pub slips: usize,
     /// Orders of 48 jobs, and those of them with a feasible choice.
     pub longest: usize,
     pub longest_feasible: usize,
+    /// Edges of the contactor's rest.
+    pub rest: RestEdges,
+}
+
+/// How often the inputs came to an edge of the contactor's rest.
+#[derive(Default)]
+pub struct RestEdges {
+    /// Jobs of plans that start when the rest before them ends, and end at their deadline.
+    pub met: usize,
+    /// Jobs left out that would end one second past it.
+    pub missed: usize,
+    /// Plans whose bus-free time is past 100,000.
+    pub late_plans: usize,
+    /// Profiles with a point past 100,000 that were extended.
+    pub late_profiles: usize,
 }
 
 impl Tally {
@@ -76,7 +91,8 @@ impl Tally {
         }
     }
 
-    /// Prints the counts; true if nothing differed and every refusal 1 to 12 was seen over the C boundary.
+    /// Prints the counts; true if nothing differed, every refusal 1 to 12 was seen over the C boundary, and so
+    /// was every edge of the rest.
     pub fn report(&self) -> bool {
         print!("{:>18}", "refusal");
         (0..13).for_each(|number| print!("{number:>8}"));
@@ -91,8 +107,13 @@ impl Tally {
         }
         println!("orders planned: {} feasible, {} infeasible", self.feasible, self.infeasible);
         println!("needed the tie rule: {} of {} over all choices", self.tied, self.tried);
-        println!("another plan by earliest finishes alone: {}", self.slips);
+        println!("another plan by earliest bus-free times alone: {}", self.slips);
         println!("of 48 jobs: {}, feasible {}", self.longest, self.longest_feasible);
+        let RestEdges { met, missed, late_plans, late_profiles } = self.rest;
+        println!(
+            "straight after a rest: {met} jobs end at their deadline, {missed} would end a second past it"
+        );
+        println!("bus free past 100,000: {late_plans} plans, {late_profiles} profiles extended");
         let unseen: Vec<usize> = (0..13).filter(|&number| of_calls[number] == 0).collect();
         if !unseen.is_empty() {
             println!("never seen: refusals {unseen:?}");
@@ -100,6 +121,8 @@ impl Tally {
         println!("inputs {}", of_calls.iter().sum::<usize>());
         println!("inputs of the wrapper's types {}", of_types.iter().sum::<usize>());
         println!("mismatches {}", self.mismatches);
-        self.mismatches == 0 && unseen.is_empty()
+        self.mismatches == 0
+            && unseen.is_empty()
+            && [met, missed, late_plans, late_profiles].iter().all(|&seen| seen > 0)
     }
 }

@@ -2,15 +2,21 @@
 
 use crate::{Job, Order, Random};
 
-/// The greatest time, and less it the least.
+/// The latest t0, ready time and deadline; less it the earliest.
 const LATEST: i32 = 100_000;
+
+/// The seconds that the contactor rests after every job. A point's time reaches that far past LATEST.
+const REST: i32 = 15;
+
+/// Two jobs of a second that start here and straight after the first's rest end at LATEST.
+const LAST_TWO: i32 = LATEST - REST - 2;
 
 /// What an order is like.
 #[derive(Clone, Copy, Debug, PartialEq, Eq)]
 pub enum Style {
     /// Few different times, lengths and weights: ties and tight windows.
     Tight,
-    /// Groups of rivals for one window with a gap behind it, so that an earlier finish wins nothing.
+    /// Groups of rivals for one window with a gap behind it, so that an earlier bus-free time wins nothing.
     Gaps,
     /// The whole range of times, lengths and weights.
     Wide,
@@ -68,7 +74,12 @@ pub fn full_order(random: &mut Random, n: usize) -> Order {
 pub fn profile_of(random: &mut Random, style: Style, points: usize, heaviest: i32) -> Vec<i32> {
     let weights = rising(random, points, 0, heaviest);
     let times = match style {
-        Style::Wide | Style::Ends => rising(random, points, -LATEST, LATEST),
+        Style::Wide => rising(random, points, -LATEST, LATEST + REST),
+        Style::Ends => {
+            let span = 40.max(2 * points as i32);
+            let low = random.one_of(&[-LATEST, LATEST + REST - span]);
+            rising(random, points, low, low + span)
+        }
         _ => rising(random, points, -20, 40.max(2 * points as i32)),
     };
     times.into_iter().zip(weights).flat_map(|(time, weight)| [time, weight]).collect()
@@ -99,7 +110,7 @@ fn bus_free(random: &mut Random, style: Style) -> i32 {
     match style {
         Style::Tight | Style::Gaps => random.within(-3, 3),
         Style::Wide => random.within(-LATEST, LATEST),
-        Style::Ends => random.one_of(&[-LATEST, -1, 0, LATEST - 1, LATEST]),
+        Style::Ends => random.one_of(&[-LATEST, -1, 0, LAST_TWO, LAST_TWO + 1, LATEST - 1, LATEST]),
         Style::Morning => random.within(-600, 0),
     }
 }
@@ -119,11 +130,20 @@ fn weight_of(random: &mut Random, style: Style) -> i32 {
 fn timed(random: &mut Random, style: Style, place: usize) -> Job {
     let place = place as i32;
     let (ready, length, window) = match style {
-        Style::Tight => (random.within(-4, 12), random.within(1, 4), random.within(0, 12)),
-        Style::Gaps => (place / 3 * 8, random.within(1, 4), random.within(3, 5)),
+        Style::Tight => {
+            // Room for up to three rests.
+            let window = random.within(0, 12) + REST * random.within(0, 3);
+            (random.within(-4, 12), random.within(1, 4), window)
+        }
+        Style::Gaps => {
+            // One or two of the rivals fit, and the rest after them ends before the next group.
+            let window = random.within(3, 5) + REST * random.within(0, 1);
+            (place / 3 * (8 + 2 * REST), random.within(1, 4), window)
+        }
         Style::Wide => (random.within(-LATEST, LATEST), random.within(1, 10_000), random.within(0, LATEST)),
         Style::Ends => {
-            let ready = random.one_of(&[-LATEST, -LATEST, 1 - LATEST, -1, 0, LATEST - 1, LATEST]);
+            let ends = [-LATEST, -LATEST, 1 - LATEST, -1, 0, LAST_TWO, LAST_TWO + 1, LATEST - 1, LATEST];
+            let ready = random.one_of(&ends);
             (ready, random.one_of(&[1, 1, 2, 9_999, 10_000]), random.one_of(&[0, 1, 2, 2 * LATEST]))
         }
         Style::Morning => {

@@ -3,7 +3,7 @@
 use super::{jobs_by_length, unless, Trial};
 use crate::inputs;
 use crate::lent::{After, Lent};
-use crate::reference::{self, Best, Keep, Refused, MOST_JOBS_OF_ALL_CHOICES};
+use crate::reference::{self, Best, Keep, Refused, MOST_JOBS_OF_ALL_CHOICES, REST};
 use leafanchor::calls::{self, PlanAnswer};
 use leafanchor::LEFT_OUT;
 use trials::{packed, Order, Style};
@@ -38,7 +38,10 @@ impl Trial {
             .and_then(|order| unless(rooms, 10).map(|()| order))
             .and_then(|order| self.best(&order).map(|best| (best, order)).ok_or(Refused::new(11)));
         let (wanted, written, after) = match planned {
-            Ok((best, order)) => (wanted_plan(&order, best), starts_of(&order, best), After::Cleared),
+            Ok((best, order)) => {
+                self.count_rest_edges(&order, best);
+                (wanted_plan(&order, best), starts_of(&order, best), After::Cleared)
+            }
             Err(Refused { number, place }) => {
                 let after = if number == 11 { After::Cleared } else { After::Untouched };
                 (PlanAnswer { refusal: number, place, ..Default::default() }, vec![], after)
@@ -69,6 +72,23 @@ impl Trial {
         }
         best
     }
+
+    /// Counts where the plan comes to an edge of the contactor's rest.
+    fn count_rest_edges(&mut self, order: &Order, best: Best) {
+        let edges = &mut self.tally.rest;
+        let mut bus_free = None; // until a job is kept
+        for (place, (job, start)) in order.jobs.iter().zip(starts_of(order, best)).enumerate() {
+            let after_rest = bus_free.filter(|&bus_free| bus_free >= job.ready);
+            let past_deadline = after_rest.map(|start| start + job.length - job.deadline);
+            if keeps(best, place) {
+                edges.met += usize::from(past_deadline == Some(0));
+                bus_free = Some(start + job.length + REST);
+            } else {
+                edges.missed += usize::from(past_deadline == Some(1));
+            }
+        }
+        edges.late_plans += usize::from(best.bus_free > 100_000);
+    }
 }
 
 fn keeps(best: Best, place: usize) -> bool {
@@ -85,7 +105,7 @@ fn wanted_plan(order: &Order, best: Best) -> PlanAnswer {
         kept: (0..order.jobs.len()).filter(|&place| keeps(best, place)).count() as u32,
         kept_weight: best.weight as u32,
         lost_weight: left_out.map(|(_, job)| job.weight as u32).sum(),
-        finish: best.finish,
+        finish: best.bus_free,
         points: reference::point_total(order) as u32,
     }
 }
@@ -98,7 +118,7 @@ fn starts_of(order: &Order, best: Best) -> Vec<i32> {
             return LEFT_OUT;
         }
         let start = bus_free.max(order.jobs[place].ready);
-        bus_free = start + order.jobs[place].length;
+        bus_free = start + order.jobs[place].length + REST;
         start
     };
     (0..order.jobs.len()).map(&mut start).collect()

@@ -60,6 +60,8 @@ impl Trial {
         let rooms = lent.lend().len() >= PROFILE_ROOM && self.work.is_enough();
         let (wanted, written, after) = match wanted_extension(&profile, &bytes, rooms) {
             Ok(points) => {
+                let late = profile.iter().step_by(2).any(|&time| time > 100_000);
+                self.tally.rest.late_profiles += usize::from(late);
                 let answer = ExtendAnswer { refusal: 0, place: 0, points: points.len() };
                 (answer, numbers_of(&points), After::Cleared)
             }

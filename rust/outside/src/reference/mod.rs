@@ -8,6 +8,9 @@ pub use packing::{header, judged, judged_numbers, reader_job};
 pub use plans::{best_by_all_choices, best_forward, point_total, Best, Keep, MOST_JOBS_OF_ALL_CHOICES};
 pub use profiles::{better_of, extended, is_valid, lookup, Point};
 
+/// The seconds that the contactor rests after every job: the bus is free that long after its finish.
+pub const REST: i32 = 15;
+
 /// A refusal number and its place.
 #[derive(Clone, Copy, Debug, PartialEq, Eq)]
 pub struct Refused {

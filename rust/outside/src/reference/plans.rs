@@ -5,6 +5,7 @@
 //! smaller number comes first.
 
 use super::profiles::{extended, extended_by_all_choices};
+use super::REST;
 use trials::Order;
 
 /// Up to this many jobs everything is found over all choices.
@@ -14,42 +15,43 @@ pub const MOST_JOBS_OF_ALL_CHOICES: usize = 11;
 #[derive(Clone, Copy, Debug, PartialEq, Eq)]
 pub struct Best {
     pub weight: i32,
-    pub finish: i32,
+    pub bus_free: i32,
     pub choice: u64,
 }
 
 impl Best {
-    /// Greatest weight, then least finish, then the tie rule: the least key comes first.
+    /// Greatest weight, then earliest bus-free time, then the tie rule: the least key comes first.
     fn key(&self) -> (i32, i32, u64) {
-        (-self.weight, self.finish, self.choice)
+        (-self.weight, self.bus_free, self.choice)
     }
 }
 
-/// The finish and kept weight of a choice run from a time; none if it is not feasible.
-pub fn finish_of(jobs: &[trials::Job], bus_free: i32, choice: u64) -> Option<(i32, i32)> {
-    let (mut finish, mut weight) = (bus_free, 0);
+/// The bus-free time and kept weight of a choice run from a time; none if it is not feasible.
+pub fn run(jobs: &[trials::Job], from: i32, choice: u64) -> Option<(i32, i32)> {
+    let (mut bus_free, mut weight) = (from, 0);
     for (place, job) in jobs.iter().enumerate() {
         if choice >> place & 1 == 1 {
-            finish = finish.max(job.ready) + job.length;
-            weight += job.weight;
+            let finish = bus_free.max(job.ready) + job.length;
             if finish > job.deadline {
                 return None;
             }
+            bus_free = finish + REST;
+            weight += job.weight;
         } else if job.critical == 1 {
             return None;
         }
     }
-    Some((finish, weight))
+    Some((bus_free, weight))
 }
 
-/// The first of all feasible choices, and how many share its weight and finish.
+/// The first of all feasible choices, and how many share its weight and bus-free time.
 pub fn best_by_all_choices(order: &Order) -> Option<(Best, usize)> {
     let feasible = |choice| {
-        finish_of(&order.jobs, order.t0, choice).map(|(finish, weight)| Best { weight, finish, choice })
+        run(&order.jobs, order.t0, choice).map(|(bus_free, weight)| Best { weight, bus_free, choice })
     };
     let all: Vec<Best> = (0..1 << order.jobs.len()).filter_map(feasible).collect();
     let best = *all.iter().min_by_key(|choice| choice.key())?;
-    let rivals = all.iter().filter(|choice| (choice.weight, choice.finish) == (best.weight, best.finish));
+    let rivals = all.iter().filter(|choice| (choice.weight, choice.bus_free) == (best.weight, best.bus_free));
     Some((best, rivals.count()))
 }
 
@@ -65,17 +67,17 @@ pub enum Keep {
 
 /// The first feasible choice, found job by job.
 pub fn best_forward(order: &Order, keep: Keep) -> Option<Best> {
-    let mut choices = vec![Best { weight: 0, finish: order.t0, choice: 0 }];
+    let mut choices = vec![Best { weight: 0, bus_free: order.t0, choice: 0 }];
     for (place, job) in order.jobs.iter().enumerate() {
         let mut next = Vec::with_capacity(2 * choices.len());
         for earlier in &choices {
             if job.critical == 0 {
                 next.push(*earlier);
             }
-            let finish = earlier.finish.max(job.ready) + job.length;
+            let finish = earlier.bus_free.max(job.ready) + job.length;
             if finish <= job.deadline {
-                let weight = earlier.weight + job.weight;
-                next.push(Best { weight, finish, choice: earlier.choice | 1 << place });
+                let (weight, choice) = (earlier.weight + job.weight, earlier.choice | 1 << place);
+                next.push(Best { weight, bus_free: finish + REST, choice });
             }
         }
         choices = needed(next, keep);
@@ -83,21 +85,21 @@ pub fn best_forward(order: &Order, keep: Keep) -> Option<Best> {
     choices.into_iter().min_by_key(Best::key)
 }
 
-/// Drops each choice that another one beats whatever follows. Whatever jobs follow, an earlier finish allows
-/// all that a later one allows and ends no later. So a choice is beaten by one that is heavier and finishes
-/// no later, and by one of the same weight that finishes no later and comes first by the tie rule (later
-/// picks are higher bits, equal in both).
+/// Drops each choice that another one beats whatever follows. Whatever jobs follow, an earlier bus-free time
+/// allows all that a later one allows and leads to no later one. So a choice is beaten by one that is heavier
+/// and has the bus free no later, and by one of the same weight that has it free no later and comes first by
+/// the tie rule (later picks are higher bits, equal in both).
 fn needed(mut choices: Vec<Best>, keep: Keep) -> Vec<Best> {
     choices.sort_unstable_by_key(Best::key);
     let mut earliest_heavier = i32::MAX;
-    let mut now = Best { weight: -1, finish: i32::MAX, choice: 0 };
+    let mut now = Best { weight: -1, bus_free: i32::MAX, choice: 0 };
     choices.retain(|choice| {
         if choice.weight != now.weight {
-            earliest_heavier = earliest_heavier.min(now.finish);
+            earliest_heavier = earliest_heavier.min(now.bus_free);
             now = *choice;
-            return choice.finish < earliest_heavier;
+            return choice.bus_free < earliest_heavier;
         }
-        let stays = keep == Keep::Needed && choice.choice < now.choice && choice.finish < earliest_heavier;
+        let stays = keep == Keep::Needed && choice.choice < now.choice && choice.bus_free < earliest_heavier;
         now.choice = now.choice.min(choice.choice);
         stays
     });

@@ -1,9 +1,11 @@
-//! Profiles from their definition: at each time the greatest weight that can have been kept by then.
+//! Profiles from their definition: at each time the greatest weight that can have been kept with the bus free
+//! by then.
 
-use super::plans::{finish_of, MOST_JOBS_OF_ALL_CHOICES};
+use super::plans::{run, MOST_JOBS_OF_ALL_CHOICES};
+use super::REST;
 use trials::Job;
 
-/// A time and a weight.
+/// A bus-free time and a weight.
 pub type Point = (i32, i32);
 
 /// Above this many runs a profile is extended job by job and no longer over all choices.
@@ -14,7 +16,7 @@ pub fn is_valid(numbers: &[i32]) -> bool {
     let rises = |at: usize| numbers.iter().skip(at).step_by(2).zip(numbers.iter().skip(at + 2).step_by(2));
     numbers.len() % 2 == 0
         && numbers.len() <= 602
-        && numbers.iter().step_by(2).all(|time| (-100_000..=100_000).contains(time))
+        && numbers.iter().step_by(2).all(|time| (-100_000..=100_015).contains(time))
         && numbers.iter().skip(1).step_by(2).all(|weight| (0..=300).contains(weight))
         && rises(0).all(|(a, b)| a < b)
         && rises(1).all(|(a, b)| a < b)
@@ -57,7 +59,7 @@ pub(super) fn extended_by_all_choices(profile: &[Point], jobs: &[Job]) -> Vec<Po
     let mut points = Vec::new();
     for &(time, weight) in profile {
         for choice in 0..1 << jobs.len() {
-            points.extend(finish_of(jobs, time, choice).map(|(finish, kept)| (finish, weight + kept)));
+            points.extend(run(jobs, time, choice).map(|(bus_free, kept)| (bus_free, weight + kept)));
         }
     }
     shortest(points)
@@ -75,7 +77,7 @@ fn extended_forward(profile: &[Point], jobs: &[Job]) -> Vec<Point> {
             }
             let finish = time.max(job.ready) + job.length;
             if finish <= job.deadline {
-                next.push((finish, weight + job.weight));
+                next.push((finish + REST, weight + job.weight));
             }
         }
         points = shortest(next);
