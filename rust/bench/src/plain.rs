@@ -1,4 +1,5 @@
-//! A plain Rust planner with weight rows: for each prefix of the order and each weight the earliest finish.
+//! A plain Rust planner with weight rows: for each prefix of the order and each weight the earliest time at
+//! which the bus is free.
 //! It takes the same buffers as the library's planner, judges as it does and gives the same answers; it
 //! allocates nothing.
 
@@ -7,9 +8,12 @@ use leafanchor::{LEFT_OUT, MOST_JOBS, WORK_AREA};
 
 /// Cells of a row.
 const ROW: usize = 301;
-/// The cell of a weight that no feasible choice has; later than every deadline.
+/// The cell of a weight that no feasible choice has; later than every deadline and every bus-free time.
 const NONE: i32 = 200_000;
+/// The latest t0, ready time and deadline; less it the earliest.
 const LATEST: i32 = 100_000;
+/// The seconds that the contactor rests after every job.
+const REST: i32 = 15;
 
 #[derive(Clone, Copy, Default)]
 struct Job {
@@ -41,18 +45,18 @@ pub fn plan(bytes: &[u8], starts: &mut [i32], work: &mut [i32]) -> PlanAnswer {
     let jobs = &order.jobs[..order.count];
     let (top, points) = fill_rows(order.t0, jobs, work);
     let last = &work[ROW * jobs.len()..][..=top];
-    let answer = match last.iter().rposition(|&finish| finish < NONE) {
+    let answer = match last.iter().rposition(|&bus_free| bus_free < NONE) {
         None => refused(11, 0),
         Some(weight) => {
-            let finish = last[weight];
-            let mask = walk_back(jobs, work, weight, finish);
+            let bus_free = last[weight];
+            let mask = walk_back(jobs, work, weight, bus_free);
             write_starts(order.t0, jobs, mask, starts);
             PlanAnswer {
                 mask,
                 kept: mask.count_ones(),
                 kept_weight: weight as u32,
                 lost_weight: (top - weight) as u32,
-                finish,
+                finish: bus_free,
                 points,
                 ..Default::default()
             }
@@ -129,10 +133,10 @@ fn fill_rows(t0: i32, jobs: &[Job], work: &mut [i32]) -> (usize, u32) {
     let (mut top, mut points) = (0, 0);
     work[0] = t0;
     for (k, job) in jobs.iter().enumerate() {
-        let (rows, rest) = work.split_at_mut(ROW * (k + 1));
+        let (rows, behind) = work.split_at_mut(ROW * (k + 1));
         let old = &rows[ROW * k..][..=top];
         top += job.weight;
-        let new = &mut rest[..=top];
+        let new = &mut behind[..=top];
         next_row(job, old, new);
         points += count_points(new);
     }
@@ -153,18 +157,18 @@ fn next_row(job: &Job, old: &[i32], new: &mut [i32]) {
         return;
     }
     for (cell, &bus_free) in new[job.weight..].iter_mut().zip(old) {
-        let finish = bus_free.max(job.ready) + job.length;
-        let finish = if bus_free <= latest { finish } else { NONE };
-        *cell = finish.min(*cell);
+        let rested = bus_free.max(job.ready) + job.length + REST;
+        let rested = if bus_free <= latest { rested } else { NONE };
+        *cell = rested.min(*cell);
     }
 }
 
 /// The points of a row's profile: the cells earlier than every heavier one.
 fn count_points(row: &[i32]) -> u32 {
     let (mut points, mut earliest) = (0, NONE);
-    for &finish in row.iter().rev() {
-        points += u32::from(finish < earliest);
-        earliest = earliest.min(finish);
+    for &bus_free in row.iter().rev() {
+        points += u32::from(bus_free < earliest);
+        earliest = earliest.min(bus_free);
     }
     points
 }
@@ -178,7 +182,7 @@ fn walk_back(jobs: &[Job], work: &[i32], mut weight: usize, mut by: i32) -> u64 
         if job.critical || weight > top || work[ROW * k + weight] > by {
             mask |= 1 << (63 - k);
             weight -= job.weight;
-            by = by.min(job.deadline) - job.length;
+            by = (by - REST).min(job.deadline) - job.length;
         }
     }
     mask
@@ -191,7 +195,7 @@ fn write_starts(t0: i32, jobs: &[Job], mask: u64, starts: &mut [i32]) {
         *start = LEFT_OUT;
         if mask << k >> 63 == 1 {
             *start = bus_free.max(job.ready);
-            bus_free = *start + job.length;
+            bus_free = *start + job.length + REST;
         }
     }
 }
