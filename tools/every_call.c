@@ -1,6 +1,6 @@
-/* Calls every function of the header, on the worked figures P1 to P11, and says which answer differs. That the
- * header declares what the library defines, and that its own calls over jobs and profiles give what the plain
- * ones give, is seen here from C. Compiles as C11 and as C++17. */
+/* Calls every function of the header, on the worked figures P1 to P11 and at the edges of the rest, and says which
+ * answer differs. That the header declares what the library defines, and that its own calls over jobs and profiles
+ * give what the plain ones give, is seen here from C. Compiles as C11 and as C++17. */
 #include "leafanchor.h"
 
 #include <stdio.h>
@@ -78,12 +78,12 @@ static void jobs(void)
 /* The plan of P1, with its starts. */
 static void plans(void)
 {
-    static const int32_t wanted[] = {-600, -105, LEAFANCHOR_LEFT_OUT, 195, 295};
+    static const int32_t wanted[] = {-600, -90, LEAFANCHOR_LEFT_OUT, 225, 340};
     leafanchor_plan_answer plan =
         leafanchor_plan(order, 44, starts, LEAFANCHOR_STARTS, work, LEAFANCHOR_WORK_AREA);
     CHECK(plan.refusal == 0 && plan.place == 0 && plan.mask == UINT64_C(0xD800000000000000));
     CHECK(plan.kept == 4 && plan.kept_weight == 35 && plan.lost_weight == 15);
-    CHECK(plan.finish == 395 && plan.points == 10);
+    CHECK(plan.finish == 455 && plan.points == 14);
     CHECK(memcmp(starts, wanted, sizeof wanted) == 0);
     plan = leafanchor_plan(order, 44, starts, 4, work, LEAFANCHOR_WORK_AREA);
     CHECK(plan.refusal == LEAFANCHOR_BUFFER_TOO_SHORT && plan.mask == 0);
@@ -93,18 +93,18 @@ static void plans(void)
 static void profiles(void)
 {
     static const int32_t bus_free[] = {-600, 0};
-    static const int32_t p2[] = {200, 0, 295, 20, 395, 35};
-    static const leafanchor_point points[] = {{200, 0}, {295, 20}, {395, 35}};
+    static const int32_t p2[] = {215, 0, 330, 15, 340, 20, 445, 30, 455, 35};
+    static const leafanchor_point points[] = {{215, 0}, {330, 15}, {340, 20}, {445, 30}, {455, 35}};
     static const int32_t p[] = {0, 0, 20, 7}, q[] = {5, 7}, p9[] = {0, 0, 5, 7};
     leafanchor_extend_answer extended = leafanchor_extend(bus_free, 2, order, 44, profile,
                                                           LEAFANCHOR_PROFILE_ROOM, work, LEAFANCHOR_WORK_AREA);
-    CHECK(extended.refusal == 0 && extended.place == 0 && extended.points == 3);
+    CHECK(extended.refusal == 0 && extended.place == 0 && extended.points == 5);
     CHECK(memcmp(profile, p2, sizeof p2) == 0);
-    CHECK(leafanchor_lookup(profile, 6, 199).found == 0);
-    CHECK(leafanchor_lookup(profile, 6, 394).weight == 20);
-    CHECK(leafanchor_lookup(profile, 5, 0).refusal == LEAFANCHOR_PROFILE_NOT_VALID);
-    CHECK(leafanchor_lookup_records(points, 3, 199).found == 0);
-    CHECK(leafanchor_lookup_records(points, 3, 395).weight == 35);
+    CHECK(leafanchor_lookup(profile, 10, 214).found == 0);
+    CHECK(leafanchor_lookup(profile, 10, 454).weight == 30);
+    CHECK(leafanchor_lookup(profile, 9, 0).refusal == LEAFANCHOR_PROFILE_NOT_VALID);
+    CHECK(leafanchor_lookup_records(points, 5, 214).found == 0);
+    CHECK(leafanchor_lookup_records(points, 5, 455).weight == 35);
     leafanchor_better_answer better = leafanchor_better_of(p, 4, q, 2, profile, LEAFANCHOR_PROFILE_ROOM);
     CHECK(better.refusal == 0 && better.points == 2);
     CHECK(memcmp(profile, p9, sizeof p9) == 0);
@@ -120,21 +120,21 @@ static int is(const leafanchor_profile *got, const int32_t *wanted, size_t wante
  * leaves. */
 static void held_profiles(void)
 {
-    static const int32_t p2[] = {200, 0, 295, 20, 395, 35}, p9[] = {0, 0, 5, 7};
+    static const int32_t p2[] = {215, 0, 330, 15, 340, 20, 445, 30, 455, 35}, p9[] = {0, 0, 5, 7};
     static const leafanchor_profile p = {4, {0, 0, 20, 7}}, q = {2, {5, 7}}, odd = {3, {0, 0, 5}};
     static leafanchor_profile made, front, whole;
     static uint8_t part[LEAFANCHOR_ORDER_BYTES];
     leafanchor_extend_answer answer =
         leafanchor_profile_of_order(order, 44, &made, work, LEAFANCHOR_WORK_AREA);
-    CHECK(answer.refusal == 0 && answer.place == 0 && answer.points == 3 && is(&made, p2, 6));
-    CHECK(leafanchor_profile_lookup(&made, 199).found == 0 && leafanchor_profile_lookup(&made, 200).found == 1);
-    CHECK(leafanchor_profile_lookup(&made, 394).weight == 20 && leafanchor_profile_lookup(&made, 395).weight == 35);
+    CHECK(answer.refusal == 0 && answer.place == 0 && answer.points == 5 && is(&made, p2, 10));
+    CHECK(leafanchor_profile_lookup(&made, 214).found == 0 && leafanchor_profile_lookup(&made, 215).found == 1);
+    CHECK(leafanchor_profile_lookup(&made, 454).weight == 30 && leafanchor_profile_lookup(&made, 455).weight == 35);
 
     size_t bytes = leafanchor_pack(-600, p1, 12, part, LEAFANCHOR_ORDER_BYTES).bytes;
     CHECK(leafanchor_profile_of_order(part, bytes, &front, work, LEAFANCHOR_WORK_AREA).refusal == 0);
     bytes = leafanchor_pack(0, p1 + 12, 18, part, LEAFANCHOR_ORDER_BYTES).bytes;
     answer = leafanchor_profile_extended(&front, part, bytes, &whole, work, LEAFANCHOR_WORK_AREA);
-    CHECK(answer.refusal == 0 && answer.points == 3 && is(&whole, p2, 6));
+    CHECK(answer.refusal == 0 && answer.points == 5 && is(&whole, p2, 10));
 
     leafanchor_better_answer better = leafanchor_profile_better(&p, &q, &made);
     CHECK(better.refusal == 0 && better.points == 2 && is(&made, p9, 4));
@@ -151,14 +151,52 @@ static void held_profiles(void)
     CHECK(answer.refusal == LEAFANCHOR_BUFFER_TOO_SHORT && whole.numbers_len == 0);
 }
 
+/* The rest: a job starts 15 seconds after the finish of the one before it and meets its deadline, which a second
+ * less does not. */
+static void rest(void)
+{
+    static leafanchor_job pair[] = {{1, 1, 0, 0, 10, 10}, {2, 1, 0, 0, 10, 35}};
+    static uint8_t bytes[LEAFANCHOR_ORDER_BYTES];
+    size_t length = leafanchor_pack_jobs(0, pair, 2, bytes, LEAFANCHOR_ORDER_BYTES).bytes;
+    leafanchor_plan_answer plan =
+        leafanchor_plan(bytes, length, starts, LEAFANCHOR_STARTS, work, LEAFANCHOR_WORK_AREA);
+    CHECK(plan.refusal == 0 && plan.finish == 50 && starts[0] == 0 && starts[1] == 25);
+    pair[1].deadline = 34;
+    length = leafanchor_pack_jobs(0, pair, 2, bytes, LEAFANCHOR_ORDER_BYTES).bytes;
+    plan = leafanchor_plan(bytes, length, starts, LEAFANCHOR_STARTS, work, LEAFANCHOR_WORK_AREA);
+    CHECK(plan.refusal == LEAFANCHOR_NO_FEASIBLE_CHOICE);
+}
+
+/* The latest bus-free time, after a job that ends at 100,000: a profile has it and is extended, and no order has it
+ * for its t0. */
+static void latest(void)
+{
+    static const leafanchor_job last = {1, 1, 0, 90000, 10000, 100000};
+    static const leafanchor_profile past = {2, {100016, 0}};
+    static const int32_t wanted[] = {100015, 0};
+    static const uint8_t empty[] = {0, 0, 0, 0};
+    static leafanchor_profile made, again;
+    static uint8_t bytes[LEAFANCHOR_ORDER_BYTES];
+    size_t length = leafanchor_pack_jobs(0, &last, 1, bytes, LEAFANCHOR_ORDER_BYTES).bytes;
+    leafanchor_plan_answer plan =
+        leafanchor_plan(bytes, length, starts, LEAFANCHOR_STARTS, work, LEAFANCHOR_WORK_AREA);
+    CHECK(plan.refusal == 0 && plan.finish == 100015 && starts[0] == 90000);
+    CHECK(leafanchor_profile_of_order(bytes, length, &made, work, LEAFANCHOR_WORK_AREA).refusal == 0);
+    CHECK(is(&made, wanted, 2));
+    CHECK(leafanchor_profile_extended(&made, empty, 4, &again, work, LEAFANCHOR_WORK_AREA).refusal == 0);
+    CHECK(is(&again, wanted, 2) && leafanchor_profile_lookup(&again, 100015).found == 1);
+    CHECK(leafanchor_profile_lookup(&past, 0).refusal == LEAFANCHOR_PROFILE_NOT_VALID);
+    CHECK(leafanchor_pack(plan.finish, p1, 0, bytes, 4).refusal == LEAFANCHOR_BUS_FREE_OUT_OF_RANGE);
+}
+
 /* P1 as the first opening against an order of no jobs, and the other way round. */
 static void openings(void)
 {
     static const uint8_t empty[] = {0, 0, 0, 0};
     leafanchor_question_answer asked =
-        leafanchor_question(order, 44, empty, 4, 394, work, LEAFANCHOR_WORK_AREA);
+        leafanchor_question(order, 44, empty, 4, 454, work, LEAFANCHOR_WORK_AREA);
     CHECK(asked.refusal == 0 && asked.winner == 1);
-    leafanchor_choose_answer chosen = leafanchor_choose(empty, 4, order, 44, 394, work, LEAFANCHOR_WORK_AREA);
+    leafanchor_choose_answer chosen = leafanchor_choose(empty, 4, order, 44, 454, work, LEAFANCHOR_WORK_AREA);
     CHECK(chosen.refusal == 0 && chosen.winner == 2 && chosen.offset == 4 && chosen.length == 40);
     chosen = leafanchor_choose(empty, 4, order, 44, -1, work, LEAFANCHOR_WORK_AREA);
     CHECK(chosen.refusal == LEAFANCHOR_NO_FEASIBLE_CHOICE && chosen.winner == 0 && chosen.length == 0);
@@ -192,6 +230,8 @@ int main(void)
     plans();
     profiles();
     held_profiles();
+    rest();
+    latest();
     openings();
     heat_up();
     version();

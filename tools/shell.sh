@@ -237,6 +237,20 @@ refused "a critical job with no time" '11 0' 'no choice of jobs keeps every crit
 try "$leafanchor" plan order
 gives "not refused: the same job, not critical" 0 '0 0 0 0 10 0 1
 0 -' ''
+{ header 2 0 && job 1 0 10 10 10 && job 2 0 5 10 35; } >order
+try "$leafanchor" plan order
+gives "a job starts 15 seconds after the one before it ends, and ends at its deadline" 0 '0 0 2 15 0 50 5
+1 0
+2 25' ''
+{ header 2 0 && job 1 0 10 10 10 && job 2 0 5 10 34; } >order
+try "$leafanchor" plan order
+gives "the same with a deadline a second earlier: it is left out" 0 '0 0 1 10 5 25 4
+1 0
+2 -' ''
+{ header 1 90000 && job 1 1 0 10000 100000; } >order
+try "$leafanchor" plan order
+gives "a job that ends at 100,000: the bus is free at 100,015" 0 '0 0 1 0 0 100015 1
+1 90000' ''
 header 0 -100000 >order
 try "$leafanchor" plan order
 gives "not refused: no jobs" 0 '0 0 0 0 0 -100000 0' ''

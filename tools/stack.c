@@ -143,7 +143,7 @@ static size_t deepest(call *run)
     return most;
 }
 
-/* 48 jobs that all fit; packed with 48, 24, 1 and no jobs, and one order that is refused. */
+/* 48 jobs with windows that overlap; packed with 48, 24, 1 and no jobs, and one order that is refused. */
 static void make_inputs(void)
 {
     static const size_t counts[INPUTS] = {48, 24, 1, 0, 48};
