@@ -29,10 +29,11 @@
 extern "C" {
 #endif
 
-/** The version's first figure: it rises when a call or an answer changes for its callers. */
+/** The version's first figure: it rises when a call or an answer changes for its callers; while it is 0, the second
+ * one rises then. */
 #define LEAFANCHOR_VERSION_MAJOR 0
 /** The version's second figure: it rises when something is added. */
-#define LEAFANCHOR_VERSION_MINOR 1
+#define LEAFANCHOR_VERSION_MINOR 2
 /** The version's third figure: it rises when something is mended. */
 #define LEAFANCHOR_VERSION_PATCH 0
 /** The version as text, "MAJOR.MINOR.PATCH". */
@@ -61,6 +62,7 @@ extern "C" {
 #define LEAFANCHOR_PROFILE_ROOM 602  /**< numbers that extend and better-of ask room for: 301 points */
 #define LEAFANCHOR_WORK_AREA 14749   /**< numbers of the work area that planning is lent */
 #define LEAFANCHOR_LEFT_OUT 200000   /**< the start of a job that is left out */
+#define LEAFANCHOR_REST 15           /**< seconds from a job's finish until the bus is free */
 
 /** Why a call refused (R24); 0 where it did not. */
 enum leafanchor_refusal {

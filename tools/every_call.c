@@ -161,6 +161,7 @@ static void rest(void)
     leafanchor_plan_answer plan =
         leafanchor_plan(bytes, length, starts, LEAFANCHOR_STARTS, work, LEAFANCHOR_WORK_AREA);
     CHECK(plan.refusal == 0 && plan.finish == 50 && starts[0] == 0 && starts[1] == 25);
+    CHECK(starts[1] == starts[0] + pair[0].length + LEAFANCHOR_REST);
     pair[1].deadline = 34;
     length = leafanchor_pack_jobs(0, pair, 2, bytes, LEAFANCHOR_ORDER_BYTES).bytes;
     plan = leafanchor_plan(bytes, length, starts, LEAFANCHOR_STARTS, work, LEAFANCHOR_WORK_AREA);

@@ -109,6 +109,8 @@ pub const PROFILE_ROOM: usize = 2 * MOST_POINTS;
 pub const WORK_AREA: usize = (MOST_JOBS + 1) * MOST_POINTS;
 /// What stands among the starts for a job that is left out.
 pub const LEFT_OUT: i32 = 200_000;
+/// Seconds from a job's finish until the bus is free.
+pub const REST: i32 = 15;
 
 /// The seconds of heating for the sampler's byte, which is a signed number of degrees (R19, R20).
 ///

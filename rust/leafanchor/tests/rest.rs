@@ -1,6 +1,6 @@
 //! The contactor's rest of 15 seconds after every job, on both sides of its edges.
 
-use leafanchor::{Job, Order, Plan, Profile, Refusal, WorkArea, ORDER_BYTES};
+use leafanchor::{Job, Order, Plan, Profile, Refusal, WorkArea, ORDER_BYTES, REST};
 
 /// The plan of jobs.
 fn planned(t0: i32, jobs: &[Job]) -> Result<Plan, Refusal> {
@@ -48,6 +48,7 @@ fn there_is_no_rest_before_the_first_job_nor_where_none_is_kept() {
 fn the_bus_may_be_free_up_to_100_015() {
     let last = Job::critical(1, 90_000, 10_000, 100_000);
     assert_eq!(starts(90_000, &[last]), (vec![Some(90_000)], 100_015));
+    assert_eq!(100_000 + REST, 100_015);
     assert_eq!(points(90_000, &[last]), [100_015, 0]);
     assert!(points(90_001, &[last]).is_empty());
 
