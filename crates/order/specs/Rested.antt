@@ -1,16 +1,16 @@
 -- The rest after every kept job (R5), of the starts of any choice: the next kept job starts a rest after its finish or later, and
 -- after the last one the bus is free a rest after its finish.
 use Prim.Native.Nat.{ℕ, zero, suc, _<_}
-use mathlib.Core.Path.{_≡_, refl, sym, ap, _∙_}
+use mathlib.Core.Path.{_≡_, _∙_}
 use mathlib.Core.List.{List, [], _∷_}
-use mathlib.Core.Option.{Option, none, some, Option·none-ne-some, Option·some-injective}
+use mathlib.Core.Option.{some, Option·none-ne-some, Option·some-injective}
 use native.Mathlib.Omega.{arith}
 use lib.IntN.{ℤ, pos, _+ℤ_}
 use lib.ListN.{drop, getElem?}
 use lib.Signed.{_≤ℤ_}
 use Rattle.seconds.specs.Limits.{rest}
 use Rattle.seconds.specs.Signed.{signed, max-is}
-use Rattle.order.specs.Job.{Rate, Job, startAt, rateOf, freeAt, busFree}
+use Rattle.order.specs.Job.{Rate, Job, startAt, rateOf, busFree}
 use Rattle.order.specs.Choice.{Choice, finish, starts, numberKept}
 use Rattle.order.specs.Moves.{busFree-later}
 use Rattle.order.specs.Counts.{finish-empty}
