@@ -1,0 +1,334 @@
+"""The rules of docs/RULES.md as plain functions, written from the rules and apart from the library. An order is a list of
+bytes; a job its six numbers: number, critical, weight, ready, length, deadline; a profile alternating numbers. A call's
+answer is a tuple that begins with a word for its kind, as ('refused', number, place)."""
+from itertools import product
+
+EARLIEST, LATEST = -100_000, 100_000
+REST = 15
+LATEST_FREE = LATEST + REST
+WORK_AREA = 14_749
+PROFILE_ROOM = 602
+LEFT_OUT = 200_000
+MANY = 10  # up to so many jobs every choice is tried as well
+
+
+# ---- packed orders (R21, R22) and refusals 1 to 7 and 9 (R24)
+
+def bits(value, width):
+    return format(value % (1 << width), '0%db' % width)
+
+
+def signed(text):
+    return int(text, 2) - (int(text[0]) << len(text))
+
+
+def packed(t0, jobs):
+    text = bits(len(jobs), 6) + bits(t0, 18) + bits(0, 8)
+    for job in jobs:
+        text += ''.join(bits(value, width) for value, width in zip(job, (6, 1, 7, 18, 14, 18)))
+    return [int(text[i:i + 8], 2) for i in range(0, len(text), 8)]
+
+
+def header(data):
+    text = ''.join(bits(byte, 8) for byte in data[:4])
+    return int(text[:6], 2), signed(text[6:24]), int(text[24:], 2)
+
+
+def record(data, place):
+    text = ''.join(bits(byte, 8) for byte in data[4 + 8 * place:12 + 8 * place])
+    return (int(text[:6], 2), int(text[6:7], 2), int(text[7:14], 2), signed(text[14:32]), int(text[32:46], 2),
+            signed(text[46:]))
+
+
+def is_time(value):
+    return EARLIEST <= value <= LATEST
+
+
+def well_formed(job):
+    number, critical, weight, ready, length, deadline = job
+    weighs = weight == 0 if critical == 1 else 1 <= weight <= 50
+    return (0 <= number <= 63 and critical in (0, 1) and weighs and is_time(ready) and 1 <= length <= 10_000
+            and is_time(deadline))
+
+
+def judge_header(data):
+    """Refusals 1 to 5, 0 for none."""
+    if len(data) < 4:
+        return 1
+    count, t0, spare = header(data)
+    if spare != 0:
+        return 2
+    if count > 48:
+        return 3
+    if len(data) != 4 + 8 * count:
+        return 4
+    return 0 if is_time(t0) else 5
+
+
+def judge_jobs(jobs):
+    """Refusals 6 and 7 with their place, 0 and 0 for none."""
+    for place, job in enumerate(jobs):
+        if not well_formed(job):
+            return 6, place
+    numbers = [job[0] for job in jobs]
+    for place, number in enumerate(numbers):
+        if number in numbers[:place]:
+            return 7, place
+    return 0, 0
+
+
+def weigh(jobs):
+    return sum(job[2] for job in jobs)
+
+
+def read(data):
+    """A packed order judged up to 7: refusal, place, t0 and jobs."""
+    refusal = judge_header(data)
+    if refusal:
+        return refusal, 0, 0, []
+    count, t0, _ = header(data)
+    jobs = [record(data, place) for place in range(count)]
+    return judge_jobs(jobs) + (t0, jobs)
+
+
+def judge(data):
+    """The same, and 9."""
+    refusal, place, t0, jobs = read(data)
+    return (9 if refusal == 0 and weigh(jobs) > 300 else refusal), place, t0, jobs
+
+
+def unpack(data, room):
+    refusal, place, t0, jobs = judge(data)
+    if refusal == 0 and room < 6 * len(jobs):
+        refusal = 10
+    if refusal:
+        return ('refused', refusal, place), []
+    return ('jobs', len(jobs), t0), [number for job in jobs for number in job]
+
+
+def pack(t0, numbers, room):
+    jobs = [tuple(numbers[at:at + 6]) for at in range(0, len(numbers), 6)]
+    refusal, place = 0, 0
+    if len(numbers) > 288:
+        refusal = 3
+    elif len(numbers) % 6:
+        refusal = 4
+    elif not is_time(t0):
+        refusal = 5
+    else:
+        refusal, place = judge_jobs(jobs)
+    if refusal == 0 and weigh(jobs) > 300:
+        refusal = 9
+    if refusal == 0 and room < 4 + 8 * len(jobs):
+        refusal = 10
+    if refusal:
+        return ('refused', refusal, place), []
+    return ('bytes', 4 + 8 * len(jobs)), packed(t0, jobs)
+
+
+# ---- the reader (R23), heat-up (R19, R20)
+
+def step(data, place):
+    """The answer, and the place where the reader then stands."""
+    refusal = judge_header(data)
+    if refusal:
+        return ('refused', refusal, 0), place
+    if place >= header(data)[0]:
+        return ('end',), place
+    job = record(data, place)
+    return (('job',) + job, place + 1) if well_formed(job) else (('refused', 6, place), place)
+
+
+def heat(byte):
+    """The seconds, none where the cell is too cold."""
+    degrees = byte - 256 if byte > 127 else byte
+    if degrees >= -10:
+        return 45 * max(0, 10 - degrees)
+    return 900 + 120 * (-10 - degrees) if degrees >= -30 else None
+
+
+# ---- choices (R5, R6): a choice is a 1 or a 0 for each job
+
+def run(free, jobs, choice):
+    """The starts and the bus-free time of a choice; none if it is not feasible."""
+    starts = []
+    for (_, critical, _, ready, length, deadline), kept in zip(jobs, choice):
+        start = max(ready, free) if kept else LEFT_OUT
+        if critical and not kept or kept and start + length > deadline:
+            return None
+        starts.append(start)
+        free = start + length + REST if kept else free
+    return starts, free
+
+
+def kept_weight(jobs, choice):
+    return weigh(job for job, kept in zip(jobs, choice) if kept)
+
+
+def feasible(free, jobs):
+    """Every feasible choice: its weight, its bus-free time, itself."""
+    for choice in product((0, 1), repeat=len(jobs)):
+        ran = run(free, jobs, choice)
+        if ran:
+            yield kept_weight(jobs, choice), ran[1], choice
+
+
+def prefixes(free, jobs):
+    """For each prefix of the jobs, for each weight the ways to it that may lead to a plan: bus-free time and ties, a bit for
+    each job kept, the highest for the last. A way stays if none of the same weight is as early and comes first by ties."""
+    ways = {0: [(free, 0)]}
+    yield ways
+    for place, (_, critical, weight, ready, length, deadline) in enumerate(jobs):
+        after = {}
+        for before, times in ways.items():
+            for time, ties in times:
+                if not critical:
+                    after.setdefault(before, []).append((time, ties))
+                finish = max(ready, time) + length
+                if finish <= deadline:
+                    after.setdefault(before + weight, []).append((finish + REST, ties | 1 << place))
+        ways = {weight: unbeaten(times) for weight, times in after.items()}
+        yield ways
+
+
+def unbeaten(times):
+    stay = []
+    for time, ties in sorted(times):
+        if not stay or ties < stay[-1][1]:
+            stay.append((time, ties))
+    return stay
+
+
+# ---- plans and profiles (R7 to R15)
+
+def best(free, jobs):
+    """The plan's choice (R7); none if nothing is feasible."""
+    *_, ways = prefixes(free, jobs)
+    ties = ways[max(ways)][0][1] if ways else 0
+    choice = tuple(ties >> place & 1 for place in range(len(jobs))) if ways else None
+    if len(jobs) <= MANY:
+        ranked = [(-weight, time, tried[::-1]) for weight, time, tried in feasible(free, jobs)]
+        assert choice == (min(ranked)[2][::-1] if ranked else None), (free, jobs)
+    return choice
+
+
+def shortest(points):
+    """The shortest profile that gives at each time the greatest weight of the points by then."""
+    rising = []
+    for time, weight in sorted(points, key=lambda point: (point[0], -point[1])):
+        if not rising or weight > rising[-1][1]:
+            rising.append((time, weight))
+    return rising
+
+
+def profile_of(ways):
+    return shortest((times[0][0], weight) for weight, times in ways.items())
+
+
+def profile_from(free, jobs):
+    """The profile of jobs run from one time (R13)."""
+    *_, ways = prefixes(free, jobs)
+    profile = profile_of(ways)
+    if len(jobs) <= MANY:
+        assert profile == shortest((time, weight) for weight, time, _ in feasible(free, jobs)), (free, jobs)
+    return profile
+
+
+def point_total(free, jobs):
+    return sum(len(profile_of(ways)) for ways in list(prefixes(free, jobs))[1:])
+
+
+def points_in(numbers):
+    return list(zip(numbers[0::2], numbers[1::2]))
+
+
+def numbers_in(points):
+    return [number for point in points for number in point]
+
+
+def valid(numbers):
+    times, weights = numbers[0::2], numbers[1::2]
+    rising = all(a < b for these in (times, weights) for a, b in zip(these, these[1:]))
+    return (len(numbers) % 2 == 0 and len(numbers) <= PROFILE_ROOM and rising
+            and all(EARLIEST <= time <= LATEST_FREE for time in times) and all(0 <= weight <= 300 for weight in weights))
+
+
+def by(points, t):
+    """The greatest weight at or before t, none where there is no point."""
+    return max((weight for time, weight in points if time <= t), default=None)
+
+
+# ---- the calls on profiles and orders: the answer, what is written, and whether the work area is cleared (R25, R28, R29)
+
+def plan(data, room, work):
+    refusal, place, t0, jobs = judge(data)
+    if refusal == 0 and (room < len(jobs) or work < WORK_AREA):
+        refusal = 10
+    if refusal:
+        return ('refused', refusal, place), [], False
+    choice = best(t0, jobs)
+    if choice is None:
+        return ('refused', 11, 0), [], True
+    starts, free = run(t0, jobs, choice)
+    mask = sum(kept << 63 - place for place, kept in enumerate(choice))
+    kept = kept_weight(jobs, choice)
+    return ('made', mask, sum(choice), kept, weigh(jobs) - kept, free, point_total(t0, jobs)), starts, True
+
+
+def extend(numbers, data, room, work):
+    refusal, place, _, jobs = read(data)
+    if refusal == 0 and not valid(numbers):
+        refusal = 8
+    if refusal == 0 and weigh(jobs) + sum(numbers[-1:]) > 300:
+        refusal = 9
+    if refusal == 0 and (room < PROFILE_ROOM or work < WORK_AREA):
+        refusal = 10
+    if refusal:
+        return ('refused', refusal, place), [], False
+    points = shortest((free, weight + kept) for time, weight in points_in(numbers) for free, kept in profile_from(time, jobs))
+    assert valid(numbers_in(points)), points
+    return ('points', len(points)), numbers_in(points), True
+
+
+def better(one, other, room):
+    refusal = 10 if room < PROFILE_ROOM else 0
+    if not valid(one) or not valid(other):
+        refusal = 8
+    if refusal:
+        return ('refused', refusal), []
+    points = shortest(points_in(one) + points_in(other))
+    return ('points', len(points)), numbers_in(points)
+
+
+def lookup(numbers, t):
+    if not valid(numbers):
+        return ('refused', 8)
+    weight = by(points_in(numbers), t)
+    return ('none',) if weight is None else ('found', weight)
+
+
+def question(first, second, t, work):
+    """Refusal, winner (R17), and whether the work area is cleared."""
+    worth = []
+    for data in (first, second):
+        refusal, _, t0, jobs = judge(data)
+        if refusal:
+            return refusal, 0, False
+        weight = by(profile_from(t0, jobs), t)
+        worth.append(-1 if weight is None else weight)
+    if work < WORK_AREA:
+        return 10, 0, False
+    if worth == [-1, -1]:
+        return 11, 0, True
+    return 0, (2 if worth[1] > worth[0] else 1), True
+
+
+def report(data):
+    """The program's text (R31, R32)."""
+    answer, starts, _ = plan(data, 48, WORK_AREA)
+    if answer[0] == 'refused':
+        return '%d %d\n' % answer[1:]
+    lines = ['0 0 %d %d %d %d %d' % answer[2:]]
+    for job, start in zip(judge(data)[3], starts):
+        lines.append('%d %s' % (job[0], '-' if start == LEFT_OUT else start))
+    return '\n'.join(lines) + '\n'
