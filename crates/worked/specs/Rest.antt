@@ -24,10 +24,7 @@ followed second = from0 (critical 0 10 (pos 10) ++ second)
 abbrev last : List ℕ
 last = from0 (job 0 0 10 (pos 99990) 10 (pos 100000))
 
--- The profile of nothing kept at 0, and of one point.
-abbrev nothing : List ℤ
-nothing = pos 0 ∷ pos 0 ∷ []
-
+-- The profile of one point, of nothing kept at a time.
 abbrev at : ℤ → List ℤ
 at t = t ∷ pos 0 ∷ []
 
@@ -40,7 +37,7 @@ module _ (out work : List ℤ) where
         told = pos 0 ∷ pos 0 ∷ pos 2 ∷ pos 10 ∷ pos 0 ∷ pos 45 ∷ pos 3 ∷ pos 0 ∷ pos 25 ∷ [];
       }
       ∷ record {
-        asked = extended out work nothing (followed (worth10 1 5 (pos 30)));
+        asked = extended out work (at (pos 0)) (followed (worth10 1 5 (pos 30)));
         told = pos 0 ∷ pos 2 ∷ pos 25 ∷ pos 0 ∷ pos 45 ∷ pos 10 ∷ [];
       }
       -- its window ends a second too early: left out, and where it is critical nothing is feasible
@@ -49,24 +46,28 @@ module _ (out work : List ℤ) where
         told = pos 0 ∷ pos 0 ∷ pos 1 ∷ pos 0 ∷ pos 10 ∷ pos 25 ∷ pos 2 ∷ pos 0 ∷ pos 200000 ∷ [];
       }
       ∷ record {
-        asked = extended out work nothing (followed (worth10 1 5 (pos 29)));
+        asked = extended out work (at (pos 0)) (followed (worth10 1 5 (pos 29)));
         told = pos 0 ∷ pos 1 ∷ pos 25 ∷ pos 0 ∷ [];
       }
       ∷ record {
         asked = planned out work (followed (critical 1 5 (pos 29))) 2;
         told = pos 11 ∷ pos 0 ∷ pos 0 ∷ pos 0 ∷ pos 0 ∷ pos 0 ∷ pos 0 ∷ pos 1 ∷ pos 1 ∷ [];
       }
-      ∷ record { asked = extended out work nothing (followed (critical 1 5 (pos 29))); told = pos 0 ∷ pos 0 ∷ [] }
-      -- a deadline binds the finish at 10, and not the bus-free time at 25: kept, from t0 on, with no rest before it
+      ∷ record { asked = extended out work (at (pos 0)) (followed (critical 1 5 (pos 29))); told = pos 0 ∷ pos 0 ∷ [] }
+      -- a deadline binds the finish at 10, and not the bus-free time at 25: kept, at 24 as at 10 (P4)
       ∷ record {
-        asked = planned out work (from0 (critical 0 10 (pos 10))) 1;
+        asked = planned out work (from0 (critical 0 10 (pos 24))) 1;
         told = pos 0 ∷ pos 0 ∷ pos 1 ∷ pos 0 ∷ pos 0 ∷ pos 25 ∷ pos 1 ∷ pos 0 ∷ [];
       }
       ∷ record {
-        asked = extended out work (at (pos 0)) (from0 (critical 0 10 (pos 10)));
+        asked = extended out work (at (pos 0)) (from0 (critical 0 10 (pos 24)));
         told = pos 0 ∷ pos 1 ∷ pos 25 ∷ pos 0 ∷ [];
       }
-      -- from 1 on it is late: where it may be left out the point keeps its own time
+      -- no rest before the first job: from 0 a job just meets its deadline; from 1 it is left out, and the point keeps its time
+      ∷ record {
+        asked = extended out work (at (pos 0)) (from0 (worth10 0 10 (pos 10)));
+        told = pos 0 ∷ pos 2 ∷ pos 0 ∷ pos 0 ∷ pos 25 ∷ pos 10 ∷ [];
+      }
       ∷ record {
         asked = extended out work (at (pos 1)) (from0 (worth10 0 10 (pos 10)));
         told = pos 0 ∷ pos 1 ∷ pos 1 ∷ pos 0 ∷ [];
@@ -77,7 +78,7 @@ module _ (out work : List ℤ) where
         told = pos 0 ∷ pos 0 ∷ pos 1 ∷ pos 10 ∷ pos 0 ∷ pos 100015 ∷ pos 2 ∷ pos 99990 ∷ [];
       }
       ∷ record {
-        asked = extended out work nothing last;
+        asked = extended out work (at (pos 0)) last;
         told = pos 0 ∷ pos 2 ∷ pos 0 ∷ pos 0 ∷ pos 100015 ∷ pos 10 ∷ [];
       }
       ∷ record {
