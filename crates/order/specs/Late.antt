@@ -5,14 +5,16 @@ use mathlib.Core.Path.{_≡_, refl, sym, ap}
 use mathlib.Core.Bool.{Bool, true, false, and-eq-true-iff, false≢true}
 use mathlib.Core.List.{List, [], _∷_}
 use mathlib.Core.Logic.{_≢_}
-use mathlib.Core.Option.{Option, none, some, Option·none-ne-some, Option·some-injective}
+use mathlib.Core.Option.{Option, some, Option·none-ne-some, Option·some-injective}
+use native.Mathlib.Omega.{arith}
 use lib.IntN.{ℤ, pos, _+ℤ_}
 use lib.ListN.{getElem?}
 use lib.Signed.{_<ℤ_}
 use borrow.Table.Steps.{cases}
-use Rattle.seconds.specs.Signed.{signed, add-is, max-is}
-use Rattle.order.specs.Job.{Rate, Job, oneRate, startAt, rateOf, allowedAt, allowed, busFree}
-use Rattle.order.specs.Choice.{Choice, feasible, starts}
+use Rattle.seconds.specs.Signed.{signed, add-is}
+use Rattle.order.specs.Job.{Rate, Job, oneRate, rateOf, allowed, busFree}
+use Rattle.order.specs.Choice.{Choice, feasible, startOf, starts}
+use Rattle.order.specs.Moves.{pick-holds, kept-rests}
 use Rattle.order.specs.Counts.{start-at, feasible-holds}
 
 -- Ready + length passes the deadline, at every rate that the job has.
@@ -29,22 +31,20 @@ late-one n c w ready takes deadline h (suc k) r e = absurd (Option·none-ne-some
 
 -- ---- one job
 
-at-no-rate : (j : Job) (o : Option Rate) (t : ℤ) → ((r : Rate) → o ≡ some r → j .deadline <ℤ (j .ready +ℤ pos (r .takes)))
-    → allowedAt j o t ≡ true → ⊥
-at-no-rate j none t late a = false≢true a
-at-no-rate j (some r) t late a =
-    omega (
-      signed,
-      late r refl,
-      max-is (j .ready) t,
-      add-is (j .ready) (pos (r .takes)),
-      add-is (startAt j t) (pos (r .takes)),
-    )
-
 -- However early the bus is free, the only pick that is allowed is to leave it out.
 pub late-pick : (j : Job) (x : ℕ) (t : ℤ) → Late j → allowed j x t ≡ true → x ≡ 0
 late-pick j zero t late a = refl
-late-pick j (suc k) t late a = absurd (at-no-rate j (rateOf j k) t (late k) a)
+late-pick j (suc k) t late a =
+    let kept = pick-holds j (suc k) t a .kept (omega arith) in
+    let takes = pos (kept .0 .takes) in
+    absurd (omega (
+      signed,
+      late k (kept .0) (kept .1),
+      kept .2,
+      kept-rests j k t (kept .1) .0,
+      add-is (j .ready) takes,
+      add-is (startOf j (suc k) t) takes,
+    ))
 
 -- ---- among other jobs
 

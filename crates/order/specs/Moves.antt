@@ -98,6 +98,12 @@ pub busFree-later : (j : Job) (x : ℕ) (t : ℤ) → t ≤ℤ busFree j x t
 busFree-later j zero t = omega signed
 busFree-later j (suc k) t = later-at j (rateOf j k) t
 
+-- A kept job starts when it is ready and the bus is free, or later; a rest after its finish the bus is free again.
+pub kept-rests : (j : Job) (k : ℕ) (t : ℤ) {r : Rate} → rateOf j k ≡ some r
+    → (j .ready ≤ℤ startOf j (suc k) t) × (t ≤ℤ startOf j (suc k) t)
+    × (busFree j (suc k) t ≡ (startOf j (suc k) t +ℤ pos (r .takes)) +ℤ pos rest)
+kept-rests j k t e = (omega (signed, max-is (j .ready) t), omega (signed, max-is (j .ready) t), rw e)
+
 -- ---- a move: when there is one, and where it leads
 
 -- A pick moves p to q: it is allowed, and q has the bus-free time and the weight after it.

@@ -9,10 +9,10 @@ use lib.IntN.{ℤ, pos, _+ℤ_}
 use lib.ListN.{drop, getElem?}
 use lib.Signed.{_≤ℤ_}
 use Rattle.seconds.specs.Limits.{rest}
-use Rattle.seconds.specs.Signed.{signed, max-is}
-use Rattle.order.specs.Job.{Rate, Job, startAt, rateOf, busFree}
-use Rattle.order.specs.Choice.{Choice, finish, starts, numberKept}
-use Rattle.order.specs.Moves.{busFree-later}
+use Rattle.seconds.specs.Signed.{signed}
+use Rattle.order.specs.Job.{Rate, Job, rateOf, busFree}
+use Rattle.order.specs.Choice.{Choice, finish, startOf, starts, numberKept}
+use Rattle.order.specs.Moves.{busFree-later, kept-rests}
 use Rattle.order.specs.Counts.{finish-empty}
 
 -- With the bus free at t, the job at a place is kept at a rate and starts at s.
@@ -35,11 +35,12 @@ first-kept : (j : Job) (js : List Job) (x : ℕ) (c : Choice) (t : ℤ) {r : Rat
     → (t ≤ℤ s) × (busFree j x t ≡ (s +ℤ pos (r .takes)) +ℤ pos rest)
 first-kept j js zero c t k = absurd (omega (arith, Option·some-injective 0 (suc (k .pick)) (k .kept)))
 first-kept j js (suc n) c t {r} {s} k =
-    let start : startAt j t ≡ s = Option·some-injective (startAt j t) s (k .starts) in
+    let start : startOf j (suc n) t ≡ s = Option·some-injective (startOf j (suc n) t) s (k .starts) in
     let same : j ≡ k .job = Option·some-injective j (k .job) (k .stands) in
     let pick : n ≡ k .pick = omega (arith, Option·some-injective (suc n) (suc (k .pick)) (k .kept)) in
     let rate : rateOf j n ≡ some r = rw (same, pick) (k .rate) in
-    (omega (signed, start, max-is (j .ready) t), rw (rate, ← start))
+    let rests = kept-rests j n t rate in
+    (omega (signed, start, rests .1), rw (← start) (rests .2))
 
 -- So does every other: no kept job starts before the bus is free.
 kept-after : (js : List Job) (c : Choice) (t : ℤ) (i : ℕ) {r : Rate} {s : ℤ} → KeptAt js c t i r s → t ≤ℤ s
