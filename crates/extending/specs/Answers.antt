@@ -63,9 +63,9 @@ module _ (ns : List ℤ) (bytes : List ℕ) (out work : List ℤ) where
       let zs = numbersOf bytes in
       let first : Placed zs (seven ns bytes) = λ n p e. placed-order bytes n p (stays (seven ns bytes) (weightChecks 0 zs) e) in
       let eighth = placed-behind zs (seven ns bytes) (profileChecks ns) first
-      (placed-check zs 8 (not (holdsProfile ns)) (omega arith) (omega arith)) in
+      (placed-check zs 8 (not (holdsProfile ns)) refl) in
       let ninth = placed-behind zs (eight ns bytes) (nine ns bytes) eighth
-      (placed-check zs 9 (ltb mostWeight (lastWeight (profileGiven ns) + weightOf (jobsOf zs))) (omega arith) (omega arith)) in
+      (placed-check zs 9 (ltb mostWeight (lastWeight (profileGiven ns) + weightOf (jobsOf zs))) refl) in
       placed-rooms zs (extendJudged ns bytes) mostNumbers (length out) area (length work) ninth
 
   -- and so is that of the answer.
@@ -74,7 +74,7 @@ module _ (ns : List ℤ) (bytes : List ℕ) (out work : List ℤ) where
     where
       go : (v : Verdict) → extendVerdict ns bytes out work ≡ v
           → let a = extendedBy v (extension ns bytes) in PlaceIs (numbersOf bytes) (extendRefusal a) (extendPlace a)
-      go fine d = nowhere {n = 0} (omega arith) (omega arith)
+      go fine d = nowhere {n = 0} refl
       go (refused n p) d = place-judged n p d
 
 -- ---- what extending does not look at

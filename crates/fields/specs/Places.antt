@@ -9,7 +9,7 @@ use native.Mathlib.Omega.{arith}
 use lib.IntN.{ℤ}
 use lib.ListN.{length, take, drop, getElem?}
 use Rattle.seconds.specs.Signed.{true-T}
-use Rattle.order.specs.Job.{Job, weightOf}
+use Rattle.order.specs.Job.{Rate, Job, rateOf, weightOf}
 use Rattle.order.specs.Within.{JobWithin, job-within, weightOf-append}
 use Rattle.order.specs.OneRate.{OneRate}
 use Rattle.packed.specs.Layout.{decode, numberOf, jobLayout}
@@ -33,7 +33,7 @@ module _ {j : Job} where
   place-below (i ∷ js) (suc k) e = let h = place-below js k e in omega arith
 
   -- The jobs up to it, and from it on.
-  take-more : (js : List Job) (k : ℕ) → getElem? js k ≡ some j → take (suc k) js ≡ take k js ++ (j ∷ [])
+  pub take-more : (js : List Job) (k : ℕ) → getElem? js k ≡ some j → take (suc k) js ≡ take k js ++ (j ∷ [])
   take-more [] k e = absurd (Option·none-ne-some j e)
   take-more (i ∷ js) zero e = ap (λ (x : Job). x ∷ []) (Option·some-injective i j e)
   take-more (i ∷ js) (suc k) e = ap (λ (l : List Job). i ∷ l) (take-more js k e)
@@ -75,6 +75,21 @@ unfolding jobOf
 rate-of-each zs at zero = tt
 rate-of-each zs at (suc m) = (refl, rate-of-each zs (suc at) m)
 
+-- At which it counts its whole weight.
+whole-of-each : (zs : ℕ → List ℤ) (at m k : ℕ) {j : Job} → getElem? (eachOf (λ k. jobOf (zs k)) at m) k ≡ some j
+    → (i : ℕ) (r : Rate) → rateOf j i ≡ some r → r .gain ≡ j .weight
+unfolding jobOf
+whole-of-each zs at zero k e i r g = absurd (Option·none-ne-some _ e)
+whole-of-each zs at (suc m) zero {j} e i r g = rw (← same) (one i (rw (← same) at g))
+  where
+    same : jobOf (zs at) ≡ j
+    same = Option·some-injective _ _ e
+
+    one : (i : ℕ) → rateOf (jobOf (zs at)) i ≡ some r → r .gain ≡ jobOf (zs at) .weight
+    one zero g = ap (λ (q : Rate). q .gain) (sym (Option·some-injective _ _ g))
+    one (suc i) g = absurd (Option·none-ne-some r g)
+whole-of-each zs at (suc m) (suc k) e i r g = whole-of-each zs (suc at) m k e i r g
+
 module _ (bytes : List ℕ) where
   -- Each from its own bytes.
   jobs-are : jobsIn bytes ≡ each (jobIn bytes) 0 (countOf bytes)
@@ -85,10 +100,16 @@ module _ (bytes : List ℕ) where
   pub jobs-count : length (jobsIn bytes) ≡ countOf bytes
   jobs-count = rw jobs-are (omega (arith, length-each (jobIn bytes) 0 (countOf bytes)))
 
-  -- Each has one rate.
+  -- Each has one rate,
   pub jobs-one-rate : OneRate (jobsIn bytes)
   unfolding each
   jobs-one-rate = rw jobs-are (rate-of-each (jobFields bytes) 0 (countOf bytes - 0))
+
+  -- and counts its whole weight at it.
+  pub jobs-whole : (k : ℕ) {j : Job} → getElem? (jobsIn bytes) k ≡ some j → (i : ℕ) (r : Rate) → rateOf j i ≡ some r
+      → r .gain ≡ j .weight
+  unfolding each
+  jobs-whole k e = whole-of-each (jobFields bytes) 0 (countOf bytes - 0) k (rw jobs-are at e)
 
   -- The numbers read at a place are those of the job there,
   module _ (k : ℕ) (below : k < countOf bytes) (numbers : Numbers)

@@ -2,8 +2,7 @@
 -- number and place a refusal by stages has.
 use Prim.Native.Nat.{ℕ, _+_, _*_, _/_, _≤_, _<_}
 use mathlib.Core.Path.{_≡_, refl, sym, ap, _∙_}
-use mathlib.Core.Bool.{Bool, true, not, cond, _&&_}
-use mathlib.Core.Logic.{_≢_}
+use mathlib.Core.Bool.{Bool, true, false, not, cond, _&&_}
 use mathlib.Core.List.{List, [], _∷_, _++_}
 use native.Mathlib.Omega.{arith}
 use lib.Dec.{T, leb, ltb, eqb}
@@ -21,7 +20,7 @@ use Rattle.order.specs.Job.{weightOf}
 use Rattle.packed.specs.Packed.{countOf, numbersOf, jobCount, jobsOf}
 use Rattle.packed.specs.Refusals.{headerChecks, listChecks, jobChecks, weightChecks, roomChecks, orderChecks, firstRepeat}
 use Rattle.packed.specs.RefusalLaws.{list-fine}
-use Rattle.packed.specs.RefusalPlaces.{PlaceIs, nowhere, unpack-place}
+use Rattle.packed.specs.RefusalPlaces.{hasPlace, PlaceIs, nowhere, unpack-place}
 use Rattle.packed.specs.Steps.{header-judge, jobs-judge}
 use Rattle.fields.specs.Facts.{HeaderRead}
 use Rattle.fields.specs.declared.Header.{Header}
@@ -159,7 +158,7 @@ ten-tells (c ∷ cs) t =
 
 -- ---- the place of a refusal
 
--- Every refusal of some checks has its place: that of 6 or 7, or else 0.
+-- Every refusal of some checks has its place: that of 6, 7 or 13, or else 0.
 abbrev pub Placed : List ℤ → List Check → Type 0
 Placed zs cs = (n p : ℕ) → judge cs ≡ refused n p → PlaceIs zs n p
 
@@ -172,15 +171,15 @@ placed-behind zs cs ds first second n p e = go (judge cs) refl (sym (judge-appen
     go (refused m q) d f = first n p (d ∙ f)
 
 -- A check with no place.
-pub placed-check : (zs : List ℤ) (m : ℕ) (b : Bool) → m ≢ 6 → m ≢ 7 → Placed zs (check m b ∷ [])
-placed-check zs m b six seven n p = judge-tells (PlaceIs zs) (check m b ∷ []) (λ e. nowhere six seven, tt)
+pub placed-check : (zs : List ℤ) (m : ℕ) (b : Bool) → hasPlace m ≡ false → Placed zs (check m b ∷ [])
+placed-check zs m b none n p = judge-tells (PlaceIs zs) (check m b ∷ []) (λ e. nowhere none, tt)
 
 pub placed-rooms : (zs : List ℤ) (cs : List Check) (need room more space : ℕ) → Placed zs cs
     → Placed zs (cs ++ roomChecks need room ++ roomChecks more space)
 placed-rooms zs cs need room more space first =
     placed-behind zs (cs ++ roomChecks need room) (roomChecks more space)
-    (placed-behind zs cs (roomChecks need room) first (placed-check zs 10 (ltb room need) (omega arith) (omega arith)))
-    (placed-check zs 10 (ltb space more) (omega arith) (omega arith))
+    (placed-behind zs cs (roomChecks need room) first (placed-check zs 10 (ltb room need) refl))
+    (placed-check zs 10 (ltb space more) refl)
 
 -- The order's own checks have the places of unpacking.
 pub placed-order : (bytes : List ℕ) → Placed (numbersOf bytes) (orderChecks bytes)

@@ -25,16 +25,18 @@ use Rattle.point_records.specs.Records.{flattened}
 use Rattle.better.specs.Answer.{joinedOf, outAfter as joinedAfter}
 use Rattle.extending.specs.Calls.{extendedOf, outAfter, extendWorkAfter}
 use Rattle.planner.specs.Calls.{plannedOf, startsAfter, planWorkAfter}
+use Rattle.halves.specs.Calls.{halvesOf, halvesStartsAfter, halvesWorkAfter}
 use Rattle.openings.specs.Choosing.{chosenOf, workAfter}
 use Rattle.packed_answers.specs.Numbers.{heatNumbers, unpackNumbers, packNumbers, openNumbers, stepNumbers}
 use Rattle.plan_answers.specs.Numbers.{lookupNumbers, betterNumbers, extendNumbers, planFigures}
-use Rattle.plan_answers.specs.Numbers.{questionNumbers, chooseNumbers}
+use Rattle.plan_answers.specs.Numbers.{halvesFigures, questionNumbers, chooseNumbers}
 use Rattle.packed_answers.specs.declared.UnpackAnswer.{UnpackAnswer}
 use Rattle.packed_answers.specs.declared.PackAnswer.{PackAnswer}
 use Rattle.plan_answers.specs.declared.LookupAnswer.{LookupAnswer}
 use Rattle.plan_answers.specs.declared.BetterAnswer.{BetterAnswer}
 use Rattle.plan_answers.specs.declared.ExtendAnswer.{ExtendAnswer}
 use Rattle.plan_answers.specs.declared.PlanAnswer.{PlanAnswer}
+use Rattle.plan_answers.specs.declared.HalvesAnswer.{HalvesAnswer}
 use Rattle.plan_answers.specs.declared.QuestionAnswer.{QuestionAnswer}
 use Rattle.plan_answers.specs.declared.ChooseAnswer.{ChooseAnswer}
 use Rattle.leafanchor.proofs.leafanchor_heat_up.Reads as heat-up
@@ -47,6 +49,7 @@ use Rattle.leafanchor.proofs.leafanchor_lookup_records as records
 use Rattle.leafanchor.proofs.leafanchor_better_of.Reads as better-of
 use Rattle.leafanchor.proofs.leafanchor_extend.Reads as extend
 use Rattle.leafanchor.proofs.leafanchor_plan.Reads as plan
+use Rattle.leafanchor.proofs.leafanchor_plan_halves.Reads as halves
 use Rattle.leafanchor.proofs.leafanchor_question.Reads as question
 use Rattle.leafanchor.proofs.leafanchor_choose.Reads as choose
 
@@ -128,6 +131,17 @@ plan-determined κs =
       planFigures (plannedOf (now (a .0)) (now (a .1 .0)) (now (a .1 .1 .0))),
       startsAfter (now (a .0)) (now (a .1 .0)) (now (a .1 .1 .0)),
       planWorkAfter (now (a .0)) (now (a .1 .0)) (now (a .1 .1 .0)),
+    ))
+    (λ a r x h. three (h .0) (h .1 .0) (h .1 .1))
+
+pub plan-halves-determined : (κs : Lfts 3)
+    → Determines {Z = HalvesAnswer × List ℤ × List ℤ} (halves.Post κs) (λ r x. (r, now (x .1 .0), now (x .1 .1 .0)))
+plan-halves-determined κs =
+    determined (halves.Post κs) (λ r x. (r, now (x .1 .0), now (x .1 .1 .0)))
+    (λ a. (
+      halvesFigures (halvesOf (now (a .0)) (now (a .1 .0)) (now (a .1 .1 .0))),
+      halvesStartsAfter (now (a .0)) (now (a .1 .0)) (now (a .1 .1 .0)),
+      halvesWorkAfter (now (a .0)) (now (a .1 .0)) (now (a .1 .1 .0)),
     ))
     (λ a r x h. three (h .0) (h .1 .0) (h .1 .1))
 

@@ -13,10 +13,11 @@ ghost use Rattle.point_records.specs.Records.{flattened};
 ghost use Rattle.better.specs.Answer.{joinedOf, outAfter as joinedAfter};
 ghost use Rattle.extending.specs.Calls.{extendedOf, outAfter, extendWorkAfter};
 ghost use Rattle.planner.specs.Calls.{plannedOf, startsAfter, planWorkAfter};
+ghost use Rattle.halves.specs.Calls.{halvesOf, halvesStartsAfter, halvesWorkAfter};
 ghost use Rattle.openings.specs.Choosing.{chosenOf, workAfter};
 ghost use Rattle.packed_answers.specs.Numbers.{heatNumbers, unpackNumbers, packNumbers, openNumbers, stepNumbers};
 ghost use Rattle.plan_answers.specs.Numbers.{lookupNumbers, betterNumbers, extendNumbers, planFigures};
-ghost use Rattle.plan_answers.specs.Numbers.{questionNumbers, chooseNumbers};
+ghost use Rattle.plan_answers.specs.Numbers.{halvesFigures, questionNumbers, chooseNumbers};
 use packed_answers::HeatAnswer;
 use packed_answers::OpenAnswer;
 use packed_answers::PackAnswer;
@@ -25,6 +26,7 @@ use packed_answers::UnpackAnswer;
 use plan_answers::BetterAnswer;
 use plan_answers::ChooseAnswer;
 use plan_answers::ExtendAnswer;
+use plan_answers::HalvesAnswer;
 use plan_answers::LookupAnswer;
 use plan_answers::PlanAnswer;
 use plan_answers::QuestionAnswer;
@@ -129,6 +131,23 @@ pub extern "C" fn leafanchor_plan(order: &[u8], starts: &mut [i32], work: &mut [
         now (work .exit) ≡ planWorkAfter (now (order .entry)) (now (starts .entry)) (now (work .entry)) ⌝ }
 {
     plan_answers::plan_answer(planner::plan(order, starts, work))
+}
+
+// The plan of a packed order of halves, and the optional seconds that it loses; else as planning.
+#[no_mangle]
+pub extern "C" fn leafanchor_plan_halves(
+    order: &[u8],
+    starts: &mut [i32],
+    work: &mut [i32],
+) -> HalvesAnswer
+    ensures answer { λ r. ⌜
+        r ≡ halvesFigures (halvesOf (now (order .entry)) (now (starts .entry)) (now (work .entry))) ⌝ }
+    ensures lent { λ r. ⌜
+        now (starts .exit) ≡ halvesStartsAfter (now (order .entry)) (now (starts .entry)) (now (work .entry)) ⌝ }
+    ensures area { λ r. ⌜
+        now (work .exit) ≡ halvesWorkAfter (now (order .entry)) (now (starts .entry)) (now (work .entry)) ⌝ }
+{
+    plan_answers::halves_answer(halves::plan_halves(order, starts, work))
 }
 
 // Which of two openings wins at a time.

@@ -2,6 +2,7 @@
 pub mod Job
 pub mod Given
 pub mod Choice
+pub mod Halves
 pub mod AsWritten
 pub mod Within
 pub mod Moves
@@ -11,4 +12,5 @@ pub mod GivenLaws
 pub mod Counts
 pub mod Rested
 pub mod OneRate
+pub mod HalvesLaws
 pub mod Late

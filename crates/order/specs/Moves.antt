@@ -1,6 +1,6 @@
 -- The facts about a job's moves, on which every other law rests: what a pick gives forwards, the latest start backwards,
 -- the weight that it adds, and that a move from an earlier and heavier point gives an earlier and heavier one.
-use Prim.Native.Nat.{ℕ, zero, suc, _+_, _≤_, _<_}
+use Prim.Native.Nat.{ℕ, zero, suc, _+_, _-_, _≤_, _<_}
 use mathlib.Core.Path.{_≡_, refl, sym, ap, _∙_}
 use mathlib.Core.Bool.{Bool, true, false, not, cond, false≢true}
 use mathlib.Core.List.{List, [], _∷_, List·Memᴰ, List·Memᴰ·head, List·Memᴰ·tail, Memᴰ·cast}
@@ -11,6 +11,7 @@ use native.Mathlib.Omega.{arith}
 use lib.IntN.{ℤ, pos, _+ℤ_, _-ℤ_}
 use lib.Signed.{leZ, _≤ℤ_}
 use lib.ListN.{length, getElem?}
+use borrow.Author.Tests.{not-true}
 use Rattle.seconds.specs.Limits.{rest}
 use Rattle.seconds.specs.Signed.{signed, add-is, sub-is, max-is, min-is}
 use Rattle.seconds.specs.Ranges.{minZ, InFree}
@@ -266,6 +267,19 @@ gain-critical j x w c = omega (arith, gain-light j x w, w .weightless c)
 -- what it does not count, it loses.
 pub gain-and-loss : (j : Job) (x : ℕ) → JobWithin j → gainOf j x + lossOf j x ≡ j .weight
 gain-and-loss j x w = omega (arith, gain-light j x w)
+
+-- Only a job that is not critical may be left out, and then it loses its weight; kept at a rate that counts its whole weight it
+-- loses none.
+pub left-out-loses : (j : Job) (t : ℤ) → allowed j 0 t ≡ true → (j .critical ≡ false) × (lossOf j 0 ≡ j .weight)
+left-out-loses j t a = (not-true (j .critical) a, omega arith)
+
+pub kept-loses-none : (j : Job) (k : ℕ) (t : ℤ) → ((r : Rate) → rateOf j k ≡ some r → r .gain ≡ j .weight)
+    → allowed j (suc k) t ≡ true → lossOf j (suc k) ≡ 0
+kept-loses-none j k t full a = go (rateOf j k) refl a
+  where
+    go : (o : Option Rate) → rateOf j k ≡ o → allowedAt j o t ≡ true → j .weight - gainAt (rateOf j k) ≡ 0
+    go none e a = absurd (false≢true a)
+    go (some r) e a = rw e (omega (arith, full r e))
 
 -- A bus-free time in range stays in range.
 pub busFree-in-range : (j : Job) (x : ℕ) (t : ℤ) → JobWithin j → allowed j x t ≡ true → InFree t → InFree (busFree j x t)

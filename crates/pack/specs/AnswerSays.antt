@@ -41,7 +41,7 @@ place-is t0 numbers room = go (judge (packChecks t0 numbers room)) refl
   where
     go : (v : Verdict) → judge (packChecks t0 numbers room) ≡ v
         → PlaceIs numbers (refusalOf (packedBy t0 numbers v)) (placeOf (packedBy t0 numbers v))
-    go fine f = nowhere {n = 0} (omega arith) (omega arith)
+    go fine f = nowhere {n = 0} refl
     go (refused n p) f = pack-place t0 numbers room f
 
 -- ---- the answer in numbers

@@ -5,12 +5,12 @@ use mathlib.Core.Bool.{Bool, true, false, not, and-eq-true-iff, true≢false}
 use mathlib.Core.Logic.{_↔_, _≢_}
 use mathlib.Core.List.{List, [], _∷_}
 use native.Mathlib.Omega.{arith}
-use lib.Dec.{T, leb}
+use lib.Dec.{T, leb, ltb}
 use lib.Ieee.Bits.{is-true}
 use lib.IntN.{ℤ, pos, negsuc, natAbs}
 use lib.ListN.{length, getD}
 use lib.Signed.{leZ}
-use borrow.Author.Tests.{ltb-false, le-ltb, eqb-true, eq-eqb, not-false}
+use borrow.Author.Tests.{ltb-true, ltb-false, le-ltb, eqb-true, eq-eqb, not-false}
 use borrow.Table.Steps.{cases}
 use Rattle.seconds.specs.Limits.{longest, heaviest, mostWeight, mostJobs}
 use Rattle.seconds.specs.Signed.{signed, abs-is}
@@ -18,17 +18,19 @@ use Rattle.seconds.specs.Ranges.{Between, isBetween, InTime}
 use Rattle.seconds.specs.RangesLaws.{between-true}
 use Rattle.seconds.specs.TwosLaws.{time-in}
 use Rattle.order.specs.Job.{weightOf, weightWithin, jobWithin}
+use Rattle.order.specs.Halves.{offendsAt}
+use Rattle.order.specs.HalvesLaws.{OfHalves, of-halves, offends-below}
 use Rattle.packed.specs.Layout.{plain, jobLayout}
 use Rattle.packed.specs.LayoutLaws.{HeldBy, Held, no-field, held}
 use Rattle.packed.specs.Places.{each}
-use Rattle.packed.specs.PlacesLaws.{IsFirst, first-is, first-none, ext-each}
-use Rattle.packed.specs.Packed.{countOf, t0Of, spareOf, jobCount, fieldsAt, jobOf, jobsOf}
+use Rattle.packed.specs.PlacesLaws.{IsFirst, first-is, first-none, length-each, ext-each}
+use Rattle.packed.specs.Packed.{countOf, t0Of, spareOf, jobCount, fieldsAt, jobOf, jobAt, jobsOf}
 use Rattle.packed.specs.Packed.{theNumber, theMark, theWeight, theReady, theLength, theDeadline, isCritical}
 use Rattle.packed.specs.Judge.{fine, judge}
 use Rattle.packed.specs.JudgeLaws.{judge-at}
 use Rattle.packed.specs.Refusals.{weightTest, fieldTests, allTrue, fieldsWithin, badAt, firstBad}
 use Rattle.packed.specs.Refusals.{numberAt, same, sameAt, firstLike, repeatedAt, firstRepeat}
-use Rattle.packed.specs.Refusals.{headerChecks, listChecks, jobChecks, weightChecks, roomChecks}
+use Rattle.packed.specs.Refusals.{firstOffending, headerChecks, listChecks, jobChecks, weightChecks, halvesChecks, roomChecks}
 
 -- ---- one job
 
@@ -134,6 +136,11 @@ bad-is-first zs = first-is (badAt zs) 0 (jobCount zs) (omega arith)
 pub repeat-is-first : (zs : List ℤ) → IsFirst (repeatedAt zs) 0 (jobCount zs) (firstRepeat zs)
 unfolding firstRepeat
 repeat-is-first zs = first-is (repeatedAt zs) 0 (jobCount zs) (omega arith)
+
+-- The place of 13 is the first whose job offends.
+pub offending-is-first : (zs : List ℤ) → IsFirst (offendsAt (jobsOf zs)) 0 (jobCount zs) (firstOffending zs)
+unfolding firstOffending
+offending-is-first zs = first-is (offendsAt (jobsOf zs)) 0 (jobCount zs) (omega arith)
 
 -- Two numbers are the same.
 pub same-yes : (x y : ℤ) → same x y ≡ true ↔ x ≡ y
@@ -268,6 +275,28 @@ weight-fine before zs = (
   λ e. ltb-false _ _ (judge-at (weightChecks before zs) e 0),
   λ h. rw (le-ltb mostWeight (before + weightOf (jobsOf zs)) h),
 )
+
+-- 13: the jobs are an order of halves.
+pub halves-fine : (zs : List ℤ) → judge (halvesChecks zs) ≡ fine ↔ OfHalves (jobsOf zs)
+unfolding halvesChecks firstOffending jobsOf
+halves-fine zs = (there, back)
+  where
+    n : ℕ
+    n = jobCount zs
+
+    there : judge (halvesChecks zs) ≡ fine → OfHalves (jobsOf zs)
+    there e =
+        let f = offending-is-first zs in
+        let all : n ≤ firstOffending zs = ltb-false _ _ (judge-at (halvesChecks zs) e 0) in
+        of-halves (jobsOf zs) .1 (λ k. cases (ltb k n)
+        (λ b. f .before k (omega arith) (omega (arith, ltb-true k n b)))
+        (λ b. offends-below (jobsOf zs) k (omega (arith, length-each (jobAt zs) 0 n, ltb-false k n b))))
+
+    back : OfHalves (jobsOf zs) → judge (halvesChecks zs) ≡ fine
+    back h =
+        let none : firstOffending zs ≡ n =
+        first-none (offendsAt (jobsOf zs)) 0 n (omega arith) (λ k a b. of-halves (jobsOf zs) .0 h k) in
+        rw (none, le-ltb n n (omega arith))
 
 -- 10: enough room.
 pub room-fine : (need room : ℕ) → judge (roomChecks need room) ≡ fine ↔ (need ≤ room)

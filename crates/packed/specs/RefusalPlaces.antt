@@ -1,40 +1,45 @@
 -- The place that each refusal gives.
 use Prim.Native.Nat.{ℕ, _+_, _*_, _<_}
 use mathlib.Core.Path.{_≡_}
-use mathlib.Core.Bool.{Bool, true, not, _&&_}
-use mathlib.Core.Logic.{_≢_}
+use mathlib.Core.Bool.{Bool, true, false, not, _&&_, _||_}
 use mathlib.Core.List.{List, [], _∷_, _++_}
 use lib.Dec.{T, eqb, eqb→eq}
+use lib.Ieee.Bits.{is-true}
 use lib.Ieee.Fits.{and-l, and-r}
 use lib.IntN.{ℤ}
-use borrow.Author.Tests.{ltb-true}
-use Rattle.seconds.specs.Signed.{signed}
+use borrow.Author.Tests.{ltb-true, not-true}
+use Rattle.order.specs.Halves.{offendsAt}
 use Rattle.packed.specs.PlacesLaws.{IsFirst}
-use Rattle.packed.specs.Packed.{countOf, numbersOf, jobCount}
+use Rattle.packed.specs.Packed.{countOf, numbersOf, jobCount, jobsOf}
 use Rattle.packed.specs.Judge.{Check, refused, judge}
 use Rattle.packed.specs.JudgeLaws.{Tells, tells-append, judge-tells}
 use Rattle.packed.specs.Refusals.{badAt, repeatedAt, headerChecks, listChecks, jobChecks}
 use Rattle.packed.specs.Refusals.{weightChecks, roomChecks, unpackChecks, packChecks}
 use Rattle.packed.specs.RefusalLaws.{bad-is-first, repeat-is-first}
 
--- With 6 it is the first job out of range, with 7 the first number that stood earlier, else 0.
+-- The refusals that have a place.
+abbrev pub hasPlace : ℕ → Bool
+hasPlace n = eqb n 6 || (eqb n 7 || eqb n 13)
+
+-- With 6 it is the first job out of range, with 7 the first number that stood earlier, with 13 the first job that offends in an
+-- order of halves, else 0.
 pub data PlaceIs (zs : List ℤ) : ℕ → ℕ → Type 0 where
   bad : {p : ℕ} → IsFirst (badAt zs) 0 (jobCount zs) p → p < jobCount zs → PlaceIs zs 6 p
   repeated : {p : ℕ} → IsFirst (repeatedAt zs) 0 (jobCount zs) p → p < jobCount zs → PlaceIs zs 7 p
-  nowhere : {n : ℕ} → n ≢ 6 → n ≢ 7 → PlaceIs zs n 0
+  offending : {p : ℕ} → IsFirst (offendsAt (jobsOf zs)) 0 (jobCount zs) p → p < jobCount zs → PlaceIs zs 13 p
+  nowhere : {n : ℕ} → hasPlace n ≡ false → PlaceIs zs n 0
 
--- Checks other than 6 and 7, with no place.
+-- Checks that have no place.
 abbrev unplaced : List Check → Bool
 unplaced [] = true
-unplaced (c ∷ cs) = eqb (c .place) 0 && (not (eqb (c .number) 6) && (not (eqb (c .number) 7) && unplaced cs))
+unplaced (c ∷ cs) = eqb (c .place) 0 && (not (hasPlace (c .number)) && unplaced cs)
 
 unplaced-tell : (zs : List ℤ) (cs : List Check) → T (unplaced cs) → Tells (PlaceIs zs) cs
 unplaced-tell zs [] t = tt
 unplaced-tell zs (c ∷ cs) t =
     let place : c .place ≡ 0 = eqb→eq (c .place) 0 (search and-l) in
-    let six : T (not (eqb (c .number) 6)) = search (and-l, and-r) in
-    let seven : T (not (eqb (c .number) 7)) = search (and-l, and-r) in
-    (λ e. rw place (nowhere {n = c .number} (omega signed) (omega signed)), unplaced-tell zs cs (search (and-l, and-r)))
+    let none : T (not (hasPlace (c .number))) = search (and-l, and-r) in
+    (λ e. rw place (nowhere {n = c .number} (not-true _ (is-true _ none))), unplaced-tell zs cs (search (and-l, and-r)))
 
 jobs-tell : (zs : List ℤ) → Tells (PlaceIs zs) (jobChecks zs)
 unfolding jobChecks

@@ -1,5 +1,5 @@
--- The refusals of orders. Checks 1 to 7, 9 and 10 stand here once each, in stages: a call's refusals are the stages that it
--- names, one behind the other. Checks 6, 7 and 9 are over the numbers of all jobs, for bytes and for numbers alike.
+-- The refusals of orders. Checks 1 to 7, 9, 10 and 13 stand here once each, in stages: a call's refusals are the stages that it
+-- names, one behind the other. Checks 6, 7, 9 and 13 are over the numbers of all jobs, for bytes and for numbers alike.
 -- Definitions only.
 use Prim.Native.Nat.{ℕ, _+_, _*_, _%_}
 use mathlib.Core.Bool.{Bool, true, not, cond, _&&_}
@@ -11,6 +11,7 @@ use lib.Signed.{leZ}
 use Rattle.seconds.specs.Limits.{highestNumber, longest, heaviest, mostWeight, mostJobs}
 use Rattle.seconds.specs.Ranges.{isBetween, isTime}
 use Rattle.order.specs.Job.{weightOf}
+use Rattle.order.specs.Halves.{offendsAt}
 use Rattle.packed.specs.Layout.{headerBytes, jobBytes, jobNumbers}
 use Rattle.packed.specs.Places.{first}
 use Rattle.packed.specs.Judge.{Check, check, checkAt}
@@ -77,6 +78,10 @@ repeatedAt zs k = ltb (firstLike zs k) k
 unfoldable pub firstRepeat : List ℤ → ℕ
 firstRepeat zs = first (repeatedAt zs) 0 (jobCount zs)
 
+-- The first place whose job offends, in an order of halves.
+unfoldable pub firstOffending : List ℤ → ℕ
+firstOffending zs = first (offendsAt (jobsOf zs)) 0 (jobCount zs)
+
 -- ---- the checks, in stages
 
 -- 1 to 5 on bytes.
@@ -104,6 +109,10 @@ jobChecks zs = checkAt 6 (firstBad zs) (jobCount zs) ∷ checkAt 7 (firstRepeat 
 -- 9, with the weight that is there before the jobs.
 unfoldable pub weightChecks : ℕ → List ℤ → List Check
 weightChecks before zs = check 9 (ltb mostWeight (before + weightOf (jobsOf zs))) ∷ []
+
+-- 13, on the numbers of all jobs: the order is not of halves.
+unfoldable pub halvesChecks : List ℤ → List Check
+halvesChecks zs = checkAt 13 (firstOffending zs) (jobCount zs) ∷ []
 
 -- 10: how much room is needed, and how much there is.
 abbrev pub roomChecks : ℕ → ℕ → List Check

@@ -1,2 +1,3 @@
 -- The answers on profiles, plans and openings as structs of numbers.
 pub mod Numbers
+pub mod Copied

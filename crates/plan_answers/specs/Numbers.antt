@@ -9,6 +9,8 @@ use Rattle.better.specs.declared.Joined.{Joined}
 use Rattle.extending.specs.Calls.{extendRefusal, extendPlace, pointsWritten}
 use Rattle.planner.specs.Calls.{planNumbers}
 use Rattle.planner.specs.declared.Planned.{Planned}
+use Rattle.halves.specs.Calls.{halvesNumbers}
+use Rattle.halves.specs.declared.HalvesPlanned.{HalvesPlanned}
 use Rattle.extending.specs.declared.Extended.{Extended}
 use Rattle.openings.specs.Choosing.{refusalOf as choiceRefusal, winnerOf}
 use Rattle.openings.specs.declared.Chosen.{Chosen}
@@ -17,6 +19,7 @@ use Rattle.plan_answers.specs.declared.LookupAnswer.{LookupAnswer}
 use Rattle.plan_answers.specs.declared.BetterAnswer.{BetterAnswer}
 use Rattle.plan_answers.specs.declared.ExtendAnswer.{ExtendAnswer}
 use Rattle.plan_answers.specs.declared.PlanAnswer.{PlanAnswer}
+use Rattle.plan_answers.specs.declared.HalvesAnswer.{HalvesAnswer}
 use Rattle.plan_answers.specs.declared.QuestionAnswer.{QuestionAnswer}
 use Rattle.plan_answers.specs.declared.ChooseAnswer.{ChooseAnswer}
 
@@ -45,6 +48,22 @@ planFigures p =
       «lost_weight» = n .lostWeight;
       finish = n .finish;
       points = n .points;
+    }
+
+-- Planning's numbers, and the optional seconds lost.
+abbrev pub halvesFigures : HalvesPlanned → HalvesAnswer
+halvesFigures h =
+    let n = halvesNumbers h .plan in
+    record {
+      refusal = n .refusal;
+      place = n .place;
+      mask = n .mask;
+      kept = n .kept;
+      «kept_weight» = n .keptWeight;
+      «lost_weight» = n .lostWeight;
+      finish = n .finish;
+      points = n .points;
+      «seconds_lost» = halvesNumbers h .secondsLost;
     }
 
 -- ---- openings

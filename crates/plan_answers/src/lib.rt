@@ -4,9 +4,10 @@ ghost use mathlib.Core.Path.{_≡_};
 ghost use Prim.Native.Nat.{_-_};
 ghost use Rattle.packed.specs.Layout.{headerBytes};
 ghost use Rattle.plan_answers.specs.Numbers.{lookupNumbers, betterNumbers, extendNumbers};
-ghost use Rattle.plan_answers.specs.Numbers.{planFigures, questionNumbers, chooseNumbers};
+ghost use Rattle.plan_answers.specs.Numbers.{planFigures, halvesFigures, questionNumbers, chooseNumbers};
 use better::Joined;
 use extending::Extended;
+use halves::HalvesPlanned;
 use openings::Chosen;
 use planner::Planned;
 use profiles::Finding;
@@ -53,6 +54,20 @@ pub struct PlanAnswer {
     pub lost_weight: u32,
     pub finish: i32,
     pub points: u32,
+}
+
+// Planning halves: the figures of the plan, and the optional seconds lost.
+#[repr(C)]
+pub struct HalvesAnswer {
+    pub refusal: u32,
+    pub place: usize,
+    pub mask: u64,
+    pub kept: u32,
+    pub kept_weight: u32,
+    pub lost_weight: u32,
+    pub finish: i32,
+    pub points: u32,
+    pub seconds_lost: u32,
 }
 
 // The question: the winner, 1 or 2 (0 if refused).
@@ -156,6 +171,36 @@ pub fn plan_answer(planned: Planned) -> PlanAnswer
             lost_weight: figures.lost_weight,
             finish: figures.finish,
             points: figures.points,
+        },
+    }
+}
+
+// The answer of planning halves.
+pub fn halves_answer(planned: HalvesPlanned) -> HalvesAnswer
+    ensures { λ r. ⌜ r ≡ halvesFigures planned ⌝ }
+{
+    match planned {
+        HalvesPlanned::Refused(number, place) => HalvesAnswer {
+            refusal: number,
+            place: place,
+            mask: 0,
+            kept: 0,
+            kept_weight: 0,
+            lost_weight: 0,
+            finish: 0,
+            points: 0,
+            seconds_lost: 0,
+        },
+        HalvesPlanned::Made(figures, seconds) => HalvesAnswer {
+            refusal: 0,
+            place: 0,
+            mask: figures.mask,
+            kept: figures.kept,
+            kept_weight: figures.kept_weight,
+            lost_weight: figures.lost_weight,
+            finish: figures.finish,
+            points: figures.points,
+            seconds_lost: seconds,
         },
     }
 }

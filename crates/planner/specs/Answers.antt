@@ -109,8 +109,8 @@ module _ (bytes : List ℕ) (starts work : List ℤ) where
     where
       go : (v : Verdict) → planVerdict bytes starts work ≡ v → (o : Option Answer)
           → let a = planNumbers (plannedBy v o) in PlaceIs (numbersOf bytes) (a .refusal) (a .place)
-      go fine d none = nowhere {n = 11} (omega arith) (omega arith)
-      go fine d (some a) = nowhere {n = 0} (omega arith) (omega arith)
+      go fine d none = nowhere {n = 11} refl
+      go fine d (some a) = nowhere {n = 0} refl
       go (refused n p) d o = plan-placed n p d
 
 -- ---- refusal 11

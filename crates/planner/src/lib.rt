@@ -79,7 +79,7 @@ fn plan_by_rows(bytes: &[u8], n: usize, t0: i32, starts: &mut [i32], work: &mut 
 }
 
 // Planning an order that has passed its checks: the room is judged, and the work area is cleared behind.
-fn plan_order(bytes: &[u8], starts: &mut [i32], work: &mut [i32]) -> Planned
+pub fn plan_order(bytes: &[u8], starts: &mut [i32], work: &mut [i32]) -> Planned
     requires { ⌜ judge (orderChecks (now bytes)) ≡ fine ⌝ }
     ensures { λ r. ⌜
         PlanCall (now (bytes .entry)) (now (starts .entry)) (now (work .entry)) r (now (starts .exit)) (now (work .exit)) ⌝ }

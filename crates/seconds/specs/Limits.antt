@@ -46,3 +46,14 @@ leftOut = pos 200000
 -- The coldest cell that is heated, in degrees.
 abbrev pub coldest : ℤ
 coldest = negsuc 29
+
+-- In an order of halves: the highest number of a critical half, how far above it its optional half's number lies, and the
+-- seconds that an optional half takes for each weight.
+abbrev pub highestHalf : ℕ
+highestHalf = 31
+
+abbrev pub halvesApart : ℕ
+halvesApart = 32
+
+abbrev pub secondsPerWeight : ℕ
+secondsPerWeight = 60

@@ -40,7 +40,7 @@ place-is bytes room = go (judge (unpackChecks bytes room)) refl
   where
     go : (v : Verdict) → judge (unpackChecks bytes room) ≡ v
         → PlaceIs (numbersOf bytes) (refusalOf (unpackedBy bytes v)) (placeOf (unpackedBy bytes v))
-    go fine f = nowhere {n = 0} (omega arith) (omega arith)
+    go fine f = nowhere {n = 0} refl
     go (refused n p) f = unpack-place bytes room f
 
 -- ---- the answer in numbers

@@ -1,0 +1,90 @@
+-- `halves::first_offending` meets its contract. The loop's invariant: no place before this one offends, and the numbers awaited
+-- are those of the jobs before it.
+-- Assumes nothing.
+use mathlib.Core.Path.{sym, _∙_}
+use Prim.Native.Nat.{_+_, _*_, _-_, _≤_, _<_}
+use native.Mathlib.Omega.{arith}
+use denote.Ref.{now}
+use lib.ListN.{length}
+use Rattle.halves.specs.AwaitingLaws.{Searching, search-room, search-starts, can-take, room-kept, search-ends, search-on, search-none}
+use Rattle.halves.proofs.first_offending.Statement.{statement}
+use Rattle.halves.proofs.first_offending.Tie as tie
+
+abbrev Inv-loop : tie.InvT-loop
+Inv-loop bytes n awaited₀ place₀ awaited place = Searching bytes n awaited place
+
+abbrev μ-loop : tie.MeasureT-loop
+μ-loop bytes n awaited₀ place₀ awaited place = n - place
+
+loop-holds : tie.Need-loop-holds Inv-loop μ-loop
+loop-holds c =
+    let s = c .before .before in
+    search-starts (now (s .args .bytes)) (s .args .n) (now (s .args .awaited)) (s .pre)
+
+-- In a turn: there are at most 48 jobs, and this one's record is there.
+module _ (c : tie.In-loop Inv-loop μ-loop) where
+  few : c .before .loop .place < 48
+  few = let i = c .before .loop .inv in omega (arith, c .loop-test .taken, i .count, i .order .header .few)
+
+  room : 4 + 8 * c .before .loop .place + 8 ≤ length (now (c .before .before .before .before .args .bytes))
+  room = let i = c .before .loop .inv in omega (arith, c .loop-test .taken, i .count, i .order .header .whole)
+
+mul-job-at : tie.Need-mul-job-at Inv-loop μ-loop
+mul-job-at c = omega (arith, few c)
+
+add-job-at : tie.Need-add-job-at Inv-loop μ-loop
+add-job-at c = omega (arith, few c)
+
+job-at-requires : tie.Need-job-at-requires Inv-loop μ-loop
+job-at-requires c κs = room c
+
+take-half-requires : tie.Need-take-half-requires Inv-loop μ-loop
+take-half-requires c κs =
+    let j = c .before in
+    let t = j .before in
+    can-take (t .before .loop .inv) (t .loop-test .taken) (j .job-at .result) (j .job-at .ensures)
+
+same-length : tie.Need-same-length Inv-loop μ-loop
+same-length c =
+    let h = c .before .before .before in
+    let j = h .before .before in
+    let t = j .before in
+    let s = t .before .before .before .before in
+    room-kept (t .before .loop .inv) (t .loop-test .taken) (j .job-at .result) (j .job-at .ensures) _ (h .take-half .ensures .1)
+    ∙ sym (search-room (now (s .args .bytes)) (s .args .n) (now (s .args .awaited)) (s .pre))
+
+returns : tie.Need-returns Inv-loop μ-loop
+returns c =
+    let h = c .before .before .before in
+    let j = h .before .before in
+    let t = j .before in
+    search-ends (t .before .loop .inv) (t .loop-test .taken) (j .job-at .result) (j .job-at .ensures)
+    (sym (c .if1 .taken) ∙ h .take-half .ensures .0)
+
+add-place : tie.Need-add-place Inv-loop μ-loop
+add-place c = omega (arith, few (c .before .before .before .before .before .before))
+
+loop-less : tie.Need-loop-less Inv-loop μ-loop
+loop-less c = omega (arith, c .before .before .before .before .before .before .loop-test .taken)
+
+loop-again : tie.Need-loop-again Inv-loop μ-loop
+loop-again c =
+    let h = c .before .before .before in
+    let j = h .before .before in
+    let t = j .before in
+    search-on (t .before .loop .inv) (t .loop-test .taken) (j .job-at .result) (j .job-at .ensures) _
+    (sym (c .if1 .left) ∙ h .take-half .ensures .0) (h .take-half .ensures .1)
+
+same-length-2 : tie.Need-same-length-2 Inv-loop μ-loop
+same-length-2 c =
+    let s = c .before .before .before .before in
+    c .before .loop .inv .room ∙ sym (search-room (now (s .args .bytes)) (s .args .n) (now (s .args .awaited)) (s .pre))
+
+returns-2 : tie.Need-returns-2 Inv-loop μ-loop
+returns-2 c = search-none (c .before .loop .inv) (c .loop-test .left)
+
+pub first-offending-spec : {M : Type 1} → statement M
+first-offending-spec =
+    tie.close
+    (tie.spec Inv-loop μ-loop loop-holds mul-job-at add-job-at job-at-requires take-half-requires same-length returns add-place
+    loop-less loop-again same-length-2 returns-2)

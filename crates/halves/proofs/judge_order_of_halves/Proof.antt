@@ -1,0 +1,49 @@
+-- `halves::judge_order_of_halves` meets its contract: the order's own verdict, or that of check 13 where it is fine.
+-- Assumes nothing.
+use mathlib.Core.Path.{_≡_, sym, ap, _∙_}
+use denote.Ref.{now}
+use borrow.Author.Needs.{needs}
+use Rattle.packed.specs.Judge.{fine, judge}
+use Rattle.packed.specs.Packed.{numbersOf}
+use Rattle.packed.specs.Refusals.{orderChecks, halvesChecks}
+use Rattle.judge.specs.Verdicts.{verdictOf}
+use Rattle.judge.specs.Told.{told-fine, told-refused, told-next}
+use Rattle.halves.proofs.judge_order_of_halves.Statement.{statement}
+use Rattle.halves.proofs.judge_order_of_halves.Tie as tie
+
+judge-order-requires : tie.Need-judge-order-requires
+judge-order-requires c κs = search needs
+
+enum-known-number : tie.Need-enum-known-number
+enum-known-number c = search needs
+
+enum-told : tie.Need-enum-told
+enum-told c = search needs
+
+-- Past the order's own checks.
+passed : (c : tie.After-enum-told) → judge (orderChecks (now (c .before .before .before .before .args .bytes))) ≡ fine
+passed c =
+    told-fine (orderChecks (now (c .before .before .before .before .args .bytes)))
+    (sym (c .before .before .judge-order .ensures) ∙ c .enum-told .given .1)
+
+judge-halves-requires : tie.Need-judge-halves-requires
+judge-halves-requires c κs = passed c
+
+returns : tie.Need-returns
+returns c =
+    let r = c .before .number .given in
+    let j = c .before .before .before in
+    let bytes = now (j .before .before .args .bytes) in
+    sym (told-refused (orderChecks bytes) (halvesChecks (numbersOf bytes)) (r .0 .0) (r .0 .1 .0)
+    (sym (j .judge-order .ensures) ∙ r .1))
+
+returns-2 : tie.Need-returns-2
+returns-2 c =
+    let e = c .before in
+    let bytes = now (e .before .before .before .before .args .bytes) in
+    c .judge-halves .ensures
+    ∙ sym (ap verdictOf (told-next (orderChecks bytes) (halvesChecks (numbersOf bytes)) (passed e)))
+
+pub judge-order-of-halves-spec : {M : Type 1} → statement M
+judge-order-of-halves-spec =
+    tie.close (tie.spec judge-order-requires enum-known-number enum-told judge-halves-requires returns returns-2)

@@ -1,0 +1,74 @@
+-- `halves::take_half` meets its contract: the tests are those of the rule, one after the other.
+-- Assumes nothing.
+use native.Mathlib.Omega.{arith}
+use denote.Ref.{now}
+use borrow.Author.Needs.{needs}
+use Rattle.fields.specs.Facts.{JobFacts, job-facts}
+use Rattle.halves.specs.AwaitingLaws.{number-casts, weight-casts, seconds-casts, number-low, weight-low}
+use Rattle.halves.specs.AwaitingLaws.{high-taken, half-taken, long-taken, awaited-taken}
+use Rattle.halves.proofs.take_half.Statement.{statement}
+use Rattle.halves.proofs.take_half.Tie as tie
+
+-- The job is within its limits.
+facts : (s : tie.Start) → JobFacts (s .args .job)
+facts s = job-facts (s .args .job) .0 (s .pre .within)
+
+cast-number : tie.Need-cast-number
+cast-number c = let s = c .before .before in number-casts (s .args .job) (now (s .args .awaited)) (facts s)
+
+cast-weight : tie.Need-cast-weight
+cast-weight c = let s = c .before .before .before .before in weight-casts (s .args .job) (now (s .args .awaited)) (facts s)
+
+cast-length : tie.Need-cast-length
+cast-length c =
+    let s = c .before .before .before .before .before .before in
+    seconds-casts (s .args .job) (now (s .args .awaited)) (facts s)
+
+returns : tie.Need-returns
+returns c =
+    let s = c .before .before .before .before .before .before .before .before .before .before in
+    high-taken (s .args .job) (now (s .args .awaited)) (facts s) (c .before .if1 .taken) (c .if2 .taken)
+
+add-awaited : tie.Need-add-awaited
+add-awaited c =
+    let s = c .before .before .before .before .before .before .before .before .before .before in
+    omega (arith, number-low (s .args .job) (now (s .args .awaited)) (facts s))
+
+slice-write-awaited : tie.Need-slice-write-awaited
+slice-write-awaited c =
+    let s = c .before .before .before .before .before .before .before .before .before .before in
+    omega (arith, s .pre .room, c .if2 .left)
+
+same-length : tie.Need-same-length
+same-length c = search needs
+
+returns-2 : tie.Need-returns-2
+returns-2 c =
+    let s = c .before .before .before .before .before .before .before .before .before .before in
+    half-taken (s .args .job) (now (s .args .awaited)) (facts s) (c .before .if1 .taken) (c .if2 .left)
+
+mul-if3 : tie.Need-mul-if3
+mul-if3 c =
+    let s = c .before .before .before .before .before .before .before .before .before in
+    omega (arith, weight-low (s .args .job) (now (s .args .awaited)) (facts s))
+
+returns-3 : tie.Need-returns-3
+returns-3 c =
+    let s = c .before .before .before .before .before .before .before .before .before .before in
+    long-taken (s .args .job) (now (s .args .awaited)) (facts s) (c .before .if1 .left) (c .if3 .taken)
+
+slice-read-result : tie.Need-slice-read-result
+slice-read-result c =
+    let s = c .before .before .before .before .before .before .before .before .before .before .before in
+    omega (arith, s .pre .room, number-low (s .args .job) (now (s .args .awaited)) (facts s))
+
+returns-4 : tie.Need-returns-4
+returns-4 c =
+    let s = c .before .before .before .before .before .before .before .before .before .before .before in
+    awaited-taken (s .args .job) (now (s .args .awaited)) (facts s) (c .before .before .if1 .left) (c .before .if3 .left)
+
+pub take-half-spec : {M : Type 1} → statement M
+take-half-spec =
+    tie.close
+    (tie.spec cast-number cast-weight cast-length returns add-awaited slice-write-awaited same-length returns-2 mul-if3 returns-3
+    slice-read-result returns-4)
