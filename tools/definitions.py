@@ -12,13 +12,13 @@ import sys
 
 PARTS = [
     ('The theory: what a plan and a profile are', '''
-        seconds Limits, seconds Ranges, order Job, order Choice, profile Profile, plan Plan'''),
+        seconds Limits, seconds Ranges, order Job, order Choice, order Halves, profile Profile, plan Plan'''),
     ('The calls: bytes, refusals, answers', '''
         seconds Twos, heat Heat, heat Answer,
         packed Layout, packed Places, packed Packed, packed Judge, packed Refusals,
         unpack Answer, pack Answer, fields Fields, reader Reading, reader_struct Standing,
         profiles Numbers, profiles Answer, point_records Records, better Answer,
-        cells Area, filling After, planner Calls, extending Calls, openings Choosing,
+        cells Area, filling After, planner Calls, halves Calls, extending Calls, openings Choosing,
         packed_answers Numbers, plan_answers Numbers, text Decimal, report Report'''),
 ]
 IMPORT = re.compile(r'(?:unfoldable )?(?:pub |ghost )?use Rattle·(\w+?)(?:·specs\.specs|\.specs)\.(\w+)\.')

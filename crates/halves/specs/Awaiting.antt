@@ -40,10 +40,10 @@ pub record CanSearch (bytes : List ℕ) (n : ℕ) (awaited : List ℕ) : Type 0 
   pub count : n ≡ countOf bytes
   pub none : awaited ≡ replicate 64 0
 
--- No plan loses more than the most weight of an order.
-abbrev pub FewLost : Planned → Type 0
-FewLost (planned.Refused n p) = Unit {0}
-FewLost (planned.Made f) = f .«lost_weight» ≤ mostWeight
+-- The weights that a plan keeps and loses are together at most the most weight of an order.
+abbrev pub Light : Planned → Type 0
+Light (planned.Refused n p) = Unit {0}
+Light (planned.Made f) = f .«kept_weight» + f .«lost_weight» ≤ mostWeight
 
 -- So many seconds for each weight lost.
 abbrev pub secondsAdded : Planned → HalvesPlanned

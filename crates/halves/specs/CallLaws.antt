@@ -32,7 +32,7 @@ use Rattle.planner.specs.Calls.{planChecks, planVerdict, figuresOf, plannedBy, 
 use Rattle.planner.specs.Answers.{plan-fits}
 use Rattle.planner.specs.declared.Planned.{Planned}
 use Rattle.planner.specs.declared.Planned.the-variants as planned
-use Rattle.halves.specs.Awaiting.{FewLost, secondsAdded}
+use Rattle.halves.specs.Awaiting.{Light, secondsAdded}
 use Rattle.halves.specs.Calls.{planHalvesChecks, halvesVerdict, lostIn, lostSeconds, withSeconds, HalvesCall}
 use Rattle.halves.specs.declared.HalvesPlanned.the-variants.{Refused, Made}
 
@@ -99,12 +99,12 @@ module _ (bytes : List ℕ) (starts work : List ℤ) where
         ∙ sym (rooms-judged (orderChecks bytes) order)
 
     module _ {r : Planned} {starts′ work′ : List ℤ} (call : PlanCall bytes starts work r starts′ work′) where
-      -- No plan loses more than all weights,
-      pub few-lost : FewLost r
+      -- A plan's weights are those of the order,
+      pub plan-light : Light r
       unfolding orderOf
-      few-lost = go r refl
+      plan-light = go r refl
         where
-          go : (p : Planned) → r ≡ p → FewLost p
+          go : (p : Planned) → r ≡ p → Light p
           go (planned.Refused n p) e = tt
           go (planned.Made f) e =
               omega (arith, plan-fits bytes starts work call f e .weights, order-fine bytes .0 order .light)

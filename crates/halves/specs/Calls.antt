@@ -60,7 +60,7 @@ pub record HalvesCall (bytes : List ℕ) (starts work : List ℤ) (r : HalvesPla
   pub written : starts′ ≡ halvesStartsAfter bytes starts work
   pub area : work′ ≡ halvesWorkAfter bytes starts work
 
--- ---- the numbers for each case (R34); all but the refusal and its place are 0 in a refused answer (R26)
+-- ---- the numbers for each case (R35); all but the refusal and its place are 0 in a refused answer (R26)
 
 -- Planning's, and the seconds lost.
 pub record HalvesNumbers : Type 0 where

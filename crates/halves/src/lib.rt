@@ -15,7 +15,7 @@ ghost use Rattle.packed.specs.Judge.{fine, judge};
 ghost use Rattle.packed.specs.Refusals.{firstOffending, orderChecks, halvesChecks};
 ghost use Rattle.fields.specs.Fields.{asJob};
 ghost use Rattle.judge.specs.Verdicts.{verdictOf};
-ghost use Rattle.halves.specs.Awaiting.{CanTake, offendsBy, awaitedAfter, CanSearch, FewLost, secondsAdded};
+ghost use Rattle.halves.specs.Awaiting.{CanTake, offendsBy, awaitedAfter, CanSearch, Light, secondsAdded};
 ghost use Rattle.halves.specs.Calls.{HalvesCall};
 
 // What planning halves answers: a refusal with its number and place, or a plan and the optional seconds lost.
@@ -103,7 +103,7 @@ fn judge_order_of_halves(bytes: &[u8]) -> Verdict
 // Planning's answer with the optional seconds lost: an optional half takes so many for each of its weight, and a critical one
 // has none, so they are so many for each weight lost.
 fn add_seconds(planned: Planned) -> HalvesPlanned
-    requires { ⌜ FewLost planned ⌝ }
+    requires { ⌜ Light planned ⌝ }
     ensures { λ r. ⌜ r ≡ secondsAdded planned ⌝ }
 {
     match planned {

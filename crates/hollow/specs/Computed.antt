@@ -2,59 +2,82 @@
 -- mean, and that all checks are passed.
 use Prim.Native.Nat.{ℕ, suc}
 use mathlib.Core.Path.{_≡_, refl, _∙_}
-use mathlib.Core.Bool.{true}
+use mathlib.Core.Bool.{true, false}
 use mathlib.Core.List.{List, [], _∷_}
-use lib.IntN.{ℤ, pos}
+use lib.IntN.{ℤ, pos, negsuc}
 use lib.ListN.{length, getD, length-replicate}
 use Rattle.seconds.specs.Limits.{rest}
-use Rattle.seconds.specs.Twos.{bitsTo}
+use Rattle.seconds.specs.Twos.{bitsTo, toBits}
 use Rattle.order.specs.Job.{Order, oneRate}
 use Rattle.packed.specs.Judge.{fine}
-use Rattle.packed.specs.Layout.{decode, numberOf}
+use Rattle.packed.specs.Layout.{decode, encode, numberOf, bytesOf}
 use Rattle.packed.specs.Places.{part, flat, each, first}
 use Rattle.packed.specs.Packed.{headerWord, headerOf, countOf, t0Of, spareOf, recordAt, jobWord, jobFields, numbersOf}
-use Rattle.packed.specs.Packed.{jobCount, fieldsAt, jobOf, jobsOf, orderOf}
-use Rattle.packed.specs.Refusals.{fieldsWithin, firstBad, numberAt, firstRepeat, headerChecks, jobChecks, weightChecks}
+use Rattle.packed.specs.Packed.{jobCount, fieldsAt, packedHeader, packedJob, packOrder, jobOf, jobsOf, orderOf}
+use Rattle.packed.specs.Refusals.{fieldsWithin, firstBad, numberAt, firstRepeat, firstOffending, headerChecks, jobChecks, weightChecks}
+use Rattle.packed.specs.Refusals.{halvesChecks}
 use Rattle.profiles.specs.Numbers.{mostNumbers}
 use Rattle.cells.specs.Work.{area, cleared, clearedTo}
 use Rattle.extending.specs.Calls.{extendJudged, extendChecks, extendVerdict}
 use Rattle.planner.specs.Calls.{planChecks, planVerdict}
+use Rattle.halves.specs.Calls.{planHalvesChecks, halvesVerdict}
 use Rattle.openings.specs.Choosing.{choosingChecks, choosingVerdict}
 use Rattle.text.specs.Decimal.{digitsIn, digits, figure}
 use Rattle.report.specs.Report.{refusalLine, planLine, startWord, jobLine, jobLines, planText, textOf, reportOf}
 use Rattle.report.specs.Report.{textRoom, printed}
 use Rattle.report.specs.AsPrinted.{morningBytes, morningText, morning-printed}
 use Rattle.worked.specs.Examples.{morning}
+use Rattle.worked.specs.Halves.{twoChecks}
 use Rattle.hollow.specs.Named.{ones, front, room, rows, oneJobBytes, start, page}
 
 -- P4 as an order.
 abbrev pub oneJob : Order
 oneJob = record { t0 = pos 0; jobs = oneRate 0 true 0 (pos 0) 10 (pos 10) ∷ [] }
 
+-- The README's order of halves.
+abbrev pub checked : Order
+checked =
+    record {
+      t0 = negsuc 899;
+      jobs =
+          oneRate 4 true 0 (negsuc 899) 300 (negsuc 299)
+          ∷ oneRate 36 false 5 (negsuc 899) 300 (pos 0)
+          ∷ oneRate 9 true 0 (negsuc 899) 200 (pos 0)
+          ∷ oneRate 41 false 8 (negsuc 899) 480 (pos 300)
+          ∷ [];
+    }
+
 -- With room for a profile and for the rows,
 pub record Accepted (out work : List ℤ) : Type 0 where
   pub plan-morning : planVerdict morningBytes (ones 5) work ≡ fine
   pub plan-one-job : planVerdict oneJobBytes (ones 1) work ≡ fine
+  pub halves-checked : halvesVerdict twoChecks (ones 4) work ≡ fine
+  pub halves-one-job : halvesVerdict oneJobBytes (ones 1) work ≡ fine
   pub extend-morning : extendVerdict start morningBytes out work ≡ fine
   pub extend-one-job : extendVerdict start oneJobBytes out work ≡ fine
   pub choose : choosingVerdict morningBytes oneJobBytes work ≡ fine
   pub morning-order : orderOf morningBytes ≡ morning
   pub one-job-order : orderOf oneJobBytes ≡ oneJob
+  pub checked-order : orderOf twoChecks ≡ checked
 
 -- whatever the buffers hold.
 with-room : (out work : List ℤ) → length out ≡ mostNumbers → length work ≡ area → Accepted out work
-unfolding rest bitsTo decode numberOf part flat each first headerWord headerOf countOf t0Of spareOf recordAt jobWord
-    jobFields numbersOf jobCount fieldsAt jobOf jobsOf orderOf fieldsWithin firstBad numberAt firstRepeat headerChecks jobChecks
-    weightChecks planChecks extendJudged extendChecks choosingChecks ones
+unfolding rest bitsTo toBits decode encode numberOf bytesOf part flat each first headerWord headerOf countOf t0Of spareOf
+    recordAt jobWord jobFields numbersOf jobCount fieldsAt packedHeader packedJob packOrder jobOf jobsOf orderOf fieldsWithin
+    firstBad numberAt firstRepeat firstOffending headerChecks jobChecks weightChecks halvesChecks planChecks planHalvesChecks
+    extendJudged extendChecks choosingChecks ones
 with-room out work d e =
     record {
       plan-morning = rw e;
       plan-one-job = rw e;
+      halves-checked = rw e;
+      halves-one-job = rw e;
       extend-morning = rw (d, e);
       extend-one-job = rw (d, e);
       choose = rw e;
       morning-order = refl;
       one-job-order = refl;
+      checked-order = refl;
     }
 
 -- The named buffers are long enough.

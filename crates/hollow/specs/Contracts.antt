@@ -40,6 +40,9 @@ use Rattle.planner.specs.Calls.{plannedOf, startsAfter, planWorkAfter, PlanCall
 use Rattle.extending.specs.Calls.{extendedOf, outAfter, extendWorkAfter, ExtendCall}
 use Rattle.planner.specs.declared.Planned.{Planned}
 use Rattle.planner.specs.declared.Planned.the-variants as planned
+use Rattle.halves.specs.Calls.{halvesOf, halvesStartsAfter, halvesWorkAfter, HalvesCall}
+use Rattle.halves.specs.declared.HalvesPlanned.{HalvesPlanned}
+use Rattle.halves.specs.declared.HalvesPlanned.the-variants as halved
 use Rattle.extending.specs.declared.Extended.{Extended}
 use Rattle.extending.specs.declared.Extended.the-variants as extended
 use Rattle.openings.specs.Choosing.{chosenOf, workAfter, Asked, partOf, placeOf, Handed}
@@ -53,6 +56,10 @@ use Rattle.hollow.specs.Contract.{Contract, answering, writing, over}
 abbrev planRefused : Planned → Bool
 planRefused (planned.Refused n p) = true
 planRefused (planned.Made f) = false
+
+abbrev halvesRefused : HalvesPlanned → Bool
+halvesRefused (halved.Refused n p) = true
+halvesRefused (halved.Made f s) = false
 
 abbrev extendRefused : Extended → Bool
 extendRefused (extended.Refused n p) = true
@@ -110,6 +117,19 @@ planning =
       only = λ x r b h. (h .answer, λ i. (h .written i, h .area i));
       lent = λ x. (x .1, x .2);
       refusal = planRefused;
+    }
+
+-- Planning halves is given the same.
+abbrev pub planningHalves : Contract PlanInput HalvesPlanned (List ℤ × List ℤ)
+planningHalves =
+    record {
+      allows = λ x r b. HalvesCall (x .0) (x .1) (x .2) r (b .0) (b .1);
+      answer = λ x. halvesOf (x .0) (x .1) (x .2);
+      left = λ x. (halvesStartsAfter (x .0) (x .1) (x .2), halvesWorkAfter (x .0) (x .1) (x .2));
+      met = λ x. record { answer = refl; written = refl; area = refl };
+      only = λ x r b h. (h .answer, λ i. (h .written i, h .area i));
+      lent = λ x. (x .1, x .2);
+      refusal = halvesRefused;
     }
 
 -- What extending is given: profile, bytes, numbers to write to, and work area. Of the last two, what it leaves.

@@ -45,6 +45,9 @@ use Rattle.planner.specs.declared.Planned.{Planned}
 use Rattle.extending.specs.declared.Extended.{Extended}
 use Rattle.planner.proofs.plan as plan
 use Rattle.planner.proofs.plan.Reads as plan-reads
+use Rattle.halves.specs.declared.HalvesPlanned.{HalvesPlanned}
+use Rattle.halves.proofs.plan_halves as plan-halves
+use Rattle.halves.proofs.plan_halves.Reads as plan-halves-reads
 use Rattle.extending.proofs.extend as extend
 use Rattle.extending.proofs.extend.Reads as extend-reads
 use Rattle.openings.specs.declared.Chosen.{Chosen}
@@ -54,12 +57,17 @@ use Rattle.openings.proofs.choose as choose
 use Rattle.openings.proofs.choose.Reads as choose-reads
 use Rattle.hollow.specs.Contracts.{planning, extending, joiningProfiles, lookingUp, lookingUpRecords, unpacking, packing}
 use Rattle.hollow.specs.Contracts.{openingReader, stepping, beginning, steppingReader, readingAt, reporting, heatingUp}
-use Rattle.hollow.specs.Contracts.{asking, choosing}
+use Rattle.hollow.specs.Contracts.{planningHalves, asking, choosing}
 
 pub plan-is : (κs : Lfts 3) (a : Args plan.signature κs) (r : Planned) (x : AtExit plan.ended κs)
     → plan-reads.Post κs a r x
     ≡ planning .allows (a .0 .now, a .1 .0 .now, a .1 .1 .0 .now) r (x .1 .0 .now, x .1 .1 .0 .now)
 plan-is κs a r x = refl
+
+pub plan-halves-is : (κs : Lfts 3) (a : Args plan-halves.signature κs) (r : HalvesPlanned) (x : AtExit plan-halves.ended κs)
+    → plan-halves-reads.Post κs a r x
+    ≡ planningHalves .allows (a .0 .now, a .1 .0 .now, a .1 .1 .0 .now) r (x .1 .0 .now, x .1 .1 .0 .now)
+plan-halves-is κs a r x = refl
 
 pub extend-is : (κs : Lfts 4) (a : Args extend.signature κs) (r : Extended) (x : AtExit extend.ended κs)
     → extend-reads.Post κs a r x

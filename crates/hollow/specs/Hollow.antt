@@ -1,5 +1,6 @@
--- The hollow versions of planning and extending that are tried beside those that every call has: an extension that
--- handles the first job and passes the rest by, a profile that comes back unextended, an invented point total.
+-- The hollow versions of planning, planning halves and extending that are tried beside those that every call has: an extension that
+-- handles the first job and passes the rest by, a profile that comes back unextended, an invented point total, and invented
+-- seconds lost.
 -- Definitions only.
 use Prim.Native.Nat.{ℕ}
 use mathlib.Core.Path.{_≡_}
@@ -13,6 +14,9 @@ use Rattle.planner.specs.Calls.{plannedOf, startsAfter, planWorkAfter}
 use Rattle.extending.specs.Calls.{profileGiven, extendVerdict, extendedBy, outBy, extendWorkAfter}
 use Rattle.planner.specs.declared.Planned.{Planned}
 use Rattle.planner.specs.declared.Planned.the-variants.{Refused, Made}
+use Rattle.halves.specs.Calls.{halvesOf, halvesStartsAfter, halvesWorkAfter}
+use Rattle.halves.specs.declared.HalvesPlanned.{HalvesPlanned}
+use Rattle.halves.specs.declared.HalvesPlanned.the-variants as halved
 use Rattle.extending.specs.declared.Extended.{Extended}
 use Rattle.hollow.specs.Contracts.{PlanInput, ExtendInput}
 
@@ -69,4 +73,18 @@ abbrev pub planningWith : (PlanInput → ℕ) → PlanInput → Planned × (List
 planningWith total x = (
   withPoints (total x) (plannedOf (x .0) (x .1) (x .2)),
   (startsAfter (x .0) (x .1) (x .2), planWorkAfter (x .0) (x .1) (x .2)),
+)
+
+-- ---- seconds lost
+
+-- An answer of planning halves with other seconds.
+abbrev pub withLost : ℕ → HalvesPlanned → HalvesPlanned
+withLost s (halved.Refused n p) = halved.Refused n p
+withLost s (halved.Made f t) = halved.Made f s
+
+-- Planning halves as it should be, but for the seconds.
+abbrev pub halvesWith : (PlanInput → ℕ) → PlanInput → HalvesPlanned × (List ℤ × List ℤ)
+halvesWith seconds x = (
+  withLost (seconds x) (halvesOf (x .0) (x .1) (x .2)),
+  (halvesStartsAfter (x .0) (x .1) (x .2), halvesWorkAfter (x .0) (x .1) (x .2)),
 )

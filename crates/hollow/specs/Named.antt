@@ -1,4 +1,4 @@
--- The inputs at which hollow versions are tried: P1, P2, P4 and P9 of the rules, with lent buffers that hold a 1 everywhere,
+-- The inputs at which hollow versions are tried: P1, P2, P4 and P9 of the rules and the README's order of halves, with lent buffers that hold a 1 everywhere,
 -- so that what is written or cleared shows. Definitions only.
 use Prim.Native.Nat.{ℕ}
 use mathlib.Core.List.{List, [], _∷_}
@@ -12,6 +12,7 @@ use Rattle.cells.specs.Work.{area}
 use Rattle.reader_struct.specs.declared.Reader.{Reader}
 use Rattle.report.specs.Report.{textRoom}
 use Rattle.report.specs.AsPrinted.{morningBytes}
+use Rattle.worked.specs.Halves.{twoChecks}
 use Rattle.hollow.specs.Contracts.{PlanInput, ExtendInput}
 
 -- ---- lent buffers
@@ -57,6 +58,10 @@ planMorning = (morningBytes, ones 5, rows)
 
 abbrev pub planOneJob : PlanInput
 planOneJob = (oneJobBytes, ones 1, rows)
+
+-- Planning the README's order of halves; P4 is one too.
+abbrev pub halvesChecked : PlanInput
+halvesChecked = (twoChecks, ones 4, rows)
 
 -- Extending by P1, and by P4.
 abbrev pub extendMorning : ExtendInput

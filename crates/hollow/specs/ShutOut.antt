@@ -24,21 +24,24 @@ use Rattle.heat.specs.Answer.{lengthOf}
 use Rattle.extending.specs.Calls.{pointsWritten}
 use Rattle.planner.specs.Calls.{planNumbers}
 use Rattle.planner.specs.declared.Planned.{Planned}
+use Rattle.halves.specs.Calls.{halvesNumbers}
+use Rattle.halves.specs.declared.HalvesPlanned.{HalvesPlanned}
 use Rattle.extending.specs.declared.Extended.{Extended}
 use Rattle.openings.specs.Choosing.{winnerOf}
 use Rattle.report.specs.AsPrinted.{morningBytes}
 use Rattle.hollow.specs.Contract.{ShutOut, Leaves, NotHollow, NotHollowIn}
 use Rattle.hollow.specs.Contracts.{PlanInput, planning, ExtendInput, extending, joiningProfiles, lookingUp, lookingUpRecords}
 use Rattle.hollow.specs.Contracts.{unpacking, packing, openingReader, stepping, beginning, steppingReader, readingAt}
-use Rattle.hollow.specs.Contracts.{reporting, heatingUp, asking, choosing}
+use Rattle.hollow.specs.Contracts.{planningHalves, reporting, heatingUp, asking, choosing}
 use Rattle.hollow.specs.Laws.{unwritten, not-hollow, not-hollow-in}
-use Rattle.hollow.specs.Named.{ones, front, rows, oneJobBytes, planMorning, planOneJob, extendMorning, extendOneJob}
+use Rattle.hollow.specs.Named.{ones, front, rows, oneJobBytes, planMorning, planOneJob, halvesChecked}
+use Rattle.hollow.specs.Named.{extendMorning, extendOneJob}
 use Rattle.hollow.specs.Named.{joinTwo, joinOne, lookupAt, lookupRecordsAt, unpackMorning, unpackOneJob}
 use Rattle.hollow.specs.Named.{packMorning, packOneJob, block, readerAt, page, askAt, chooseAt}
 use Rattle.hollow.specs.Computed.{accepted, length-ones, front-ones, front-cleared}
 use Rattle.hollow.specs.Computed.{morning-on-page, one-job-on-page, page-front}
 
--- ---- planning and extending, on P1 and P4
+-- ---- planning and extending, on P1 and P4; planning halves, on the README's order and P4
 
 -- By the number of jobs kept, and the first start;
 pub plan-not-hollow : NotHollowIn planning (λ b. b .0) planMorning planOneJob
@@ -48,6 +51,14 @@ plan-not-hollow =
     (rw (accepted .plan-morning, accepted .morning-order, accepted .plan-one-job, accepted .one-job-order) (omega arith))
     (λ b. b .0) front (rw (accepted .plan-morning, accepted .morning-order, front-ones 4) (omega signed))
 
+-- by the optional seconds lost, and the first start;
+pub plan-halves-not-hollow : NotHollowIn planningHalves (λ b. b .0) halvesChecked planOneJob
+unfolding rest
+plan-halves-not-hollow =
+    not-hollow-in planningHalves (rw (accepted .halves-checked, accepted .checked-order)) (λ r. halvesNumbers r .secondsLost)
+    (rw (accepted .halves-checked, accepted .checked-order, accepted .halves-one-job, accepted .one-job-order) (omega arith))
+    (λ b. b .0) front (rw (accepted .halves-checked, accepted .checked-order, front-ones 3) (omega signed))
+
 -- by the number of points written, and the first point's time.
 pub extend-not-hollow : NotHollowIn extending (λ b. b .0) extendMorning extendOneJob
 unfolding rest
@@ -56,12 +67,18 @@ extend-not-hollow =
     (rw (accepted .extend-morning, accepted .morning-order, accepted .extend-one-job, accepted .one-job-order) (omega arith))
     (λ b. b .0) front (rw (accepted .extend-morning, accepted .morning-order, front-ones 601) (omega signed))
 
--- Neither may leave the work area as it was.
+-- None may leave the work area as it was.
 pub plan-clears : (f : PlanInput → Planned × (List ℤ × List ℤ)) → Leaves planning (λ b. b .1) f
     → ShutOut planning f planMorning
 plan-clears f leaves =
     unwritten planning (λ b. b .1) f planMorning front
     (rw (accepted .plan-morning, front-cleared rows, front-ones 14748) (omega signed)) (leaves planMorning)
+
+pub plan-halves-clears : (f : PlanInput → HalvesPlanned × (List ℤ × List ℤ)) → Leaves planningHalves (λ b. b .1) f
+    → ShutOut planningHalves f halvesChecked
+plan-halves-clears f leaves =
+    unwritten planningHalves (λ b. b .1) f halvesChecked front
+    (rw (accepted .halves-checked, front-cleared rows, front-ones 14748) (omega signed)) (leaves halvesChecked)
 
 pub extend-clears : (f : ExtendInput → Extended × (List ℤ × List ℤ)) → Leaves extending (λ b. b .1) f
     → ShutOut extending f extendMorning

@@ -1,4 +1,5 @@
--- An invented point total is shut out: at every order that has a plan any total but the definition's, at P1 any but 14.
+-- An invented point total is shut out: at every order that has a plan any total but the definition's, at P1 any but 14. So are
+-- invented seconds lost: at every order of halves that is planned any but the definition's, at the README's any but 300.
 use Prim.Native.Nat.{ℕ}
 use mathlib.Core.Path.{_≡_, ap}
 use mathlib.Core.Bool.{false}
@@ -7,16 +8,18 @@ use mathlib.Core.Option.{Option, none, some, Option·map}
 use native.Mathlib.Omega.{arith}
 use Rattle.seconds.specs.Limits.{rest}
 use Rattle.profile.specs.Profile.{pointTotal}
-use Rattle.plan.specs.Plan.{Ended, answerOf, plan}
+use Rattle.plan.specs.Plan.{Ended, answerOf, plan, planAnswer}
 use Rattle.packed.specs.Judge.{Verdict, fine, refused}
 use Rattle.packed.specs.Packed.{orderOf}
 use Rattle.planner.specs.Calls.{planVerdict, plannedBy, planNumbers}
 use Rattle.planner.specs.declared.Planned.{Planned}
+use Rattle.planner.specs.declared.Planned.the-variants as planned
+use Rattle.halves.specs.Calls.{halvesVerdict, lostSeconds, withSeconds, halvesNumbers}
 use Rattle.hollow.specs.Contract.{ShutOut}
-use Rattle.hollow.specs.Contracts.{PlanInput, planning}
+use Rattle.hollow.specs.Contracts.{PlanInput, planning, planningHalves}
 use Rattle.hollow.specs.Laws.{other-answer}
-use Rattle.hollow.specs.Hollow.{withPoints, planningWith}
-use Rattle.hollow.specs.Named.{planMorning}
+use Rattle.hollow.specs.Hollow.{withPoints, planningWith, withLost, halvesWith}
+use Rattle.hollow.specs.Named.{planMorning, halvesChecked}
 use Rattle.hollow.specs.Computed.{accepted}
 
 -- Of an order that is planned.
@@ -43,3 +46,24 @@ pub morning-total : (total : PlanInput → ℕ) → total planMorning ≢ 14
 unfolding rest
 morning-total total d =
     invented-total total planMorning (rw (accepted .plan-morning, accepted .morning-order)) (rw (accepted .morning-order) d)
+
+-- The seconds lost, of an order of halves that is planned.
+pub invented-seconds : (seconds : PlanInput → ℕ) (x : PlanInput)
+    → planningHalves .refusal (planningHalves .answer x) ≡ false → seconds x ≢ lostSeconds (orderOf (x .0))
+    → ShutOut planningHalves (halvesWith seconds) x
+invented-seconds seconds x made d =
+    other-answer planningHalves (halvesWith seconds) x
+    (λ e. d (said (plannedBy (halvesVerdict (x .0) (x .1) (x .2)) (planAnswer (orderOf (x .0)))) made e))
+  where
+    said : (r : Planned) → planningHalves .refusal (withSeconds (lostSeconds (orderOf (x .0))) r) ≡ false
+        → withLost (seconds x) (withSeconds (lostSeconds (orderOf (x .0))) r) ≡ withSeconds (lostSeconds (orderOf (x .0))) r
+        → seconds x ≡ lostSeconds (orderOf (x .0))
+    said (planned.Made f) a e = ap (λ r. halvesNumbers r .secondsLost) e
+    said (planned.Refused n p) a e = let z : _≡_ {A = ℕ} 0 1 = cc in absurd (omega arith)
+
+-- Of the README's order.
+pub checked-seconds : (seconds : PlanInput → ℕ) → seconds halvesChecked ≢ 300
+    → ShutOut planningHalves (halvesWith seconds) halvesChecked
+unfolding rest
+checked-seconds seconds d =
+    invented-seconds seconds halvesChecked (rw (accepted .halves-checked, accepted .checked-order)) (rw (accepted .checked-order) d)

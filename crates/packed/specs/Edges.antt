@@ -1,4 +1,5 @@
--- Both sides of the edges of packing and unpacking as one list: each verdict, and what the rules say of it.
+-- Both sides of the edges of packing and unpacking, and of orders of halves, as one list: each verdict, and what the rules say
+-- of it.
 -- One statement holds of the whole list, by computation.
 use Prim.Native.Nat.{ℕ}
 use mathlib.Core.Path.{_≡_, refl}
@@ -11,8 +12,8 @@ use Rattle.packed.specs.Places.{part, flat, each, first}
 use Rattle.packed.specs.Packed.{headerWord, headerOf, countOf, t0Of, spareOf, recordAt, jobWord, jobFields}
 use Rattle.packed.specs.Packed.{numbersOf, jobCount, fieldsAt, packedHeader, packedJob, packOrder, jobOf, jobsOf}
 use Rattle.packed.specs.Judge.{Verdict, fine, refused, judge}
-use Rattle.packed.specs.Refusals.{fieldsWithin, firstBad, numberAt, firstRepeat, headerChecks}
-use Rattle.packed.specs.Refusals.{listChecks, jobChecks, weightChecks, unpackChecks, packChecks}
+use Rattle.packed.specs.Refusals.{fieldsWithin, firstBad, numberAt, firstRepeat, firstOffending, headerChecks}
+use Rattle.packed.specs.Refusals.{listChecks, jobChecks, weightChecks, halvesChecks, numberChecks, unpackChecks, packChecks}
 
 -- A job ready at 0 with the deadline 100: its number, mark, weight and length.
 abbrev job : ℕ → ℤ → ℤ → ℤ → List ℤ
@@ -36,6 +37,17 @@ packing zs = judge (packChecks (pos 0) zs 388)
 
 abbrev unpacking : List ℕ → Verdict
 unpacking bytes = judge (unpackChecks bytes 288)
+
+-- Whether numbers are an order of halves, behind the checks of packing.
+abbrev halving : List ℤ → Verdict
+halving zs = judge (numberChecks (pos 0) zs ++ halvesChecks zs)
+
+-- A critical job, and an optional one of so much weight and so many seconds.
+abbrev critical : ℕ → List ℤ
+critical number = job number (pos 1) (pos 0) (pos 10)
+
+abbrev optional : ℕ → ℕ → ℕ → List ℤ
+optional number weight long = job number (pos 0) (pos weight) (pos long)
 
 -- ---- the list
 
@@ -92,11 +104,33 @@ edges =
     ∷ edge (judge (packChecks (pos 0) [] 3)) (refused 10 0)
     ∷ edge (judge (unpackChecks (packOrder (pos 0) (weighing 1 1)) 6)) fine
     ∷ edge (judge (unpackChecks (packOrder (pos 0) (weighing 1 1)) 5)) (refused 10 0)
+    -- 13: no jobs, only critical ones, and numbers: 0 and 32, 31 and 63, a critical 32, an optional 31
+    ∷ edge (halving []) fine
+    ∷ edge (halving (critical 4 ++ critical 9)) fine
+    ∷ edge (halving (critical 0 ++ optional 32 1 60)) fine
+    ∷ edge (halving (critical 31 ++ optional 63 50 3000)) fine
+    ∷ edge (halving (critical 31 ++ critical 32)) (refused 13 1)
+    ∷ edge (halving (critical 4 ++ optional 31 1 60)) (refused 13 1)
+    -- lengths, at 60 seconds for each weight and beside that
+    ∷ edge (halving (critical 4 ++ optional 36 2 119)) (refused 13 1)
+    ∷ edge (halving (critical 4 ++ optional 36 2 120)) fine
+    ∷ edge (halving (critical 4 ++ optional 36 2 121)) (refused 13 1)
+    -- no partner, one that is not critical, one that stands behind, and one that is 31 or 33 below
+    ∷ edge (halving (optional 36 1 60)) (refused 13 0)
+    ∷ edge (halving (optional 4 1 60 ++ optional 36 1 60)) (refused 13 0)
+    ∷ edge (halving (critical 5 ++ optional 36 1 60 ++ critical 4)) (refused 13 1)
+    ∷ edge (halving (critical 5 ++ optional 36 1 60)) (refused 13 1)
+    ∷ edge (halving (critical 3 ++ optional 36 1 60)) (refused 13 1)
+    -- the first of two that offend; after 7 and 9
+    ∷ edge (halving (critical 4 ++ optional 37 1 60 ++ critical 40)) (refused 13 1)
+    ∷ edge (halving (critical 4 ++ optional 36 1 60 ++ optional 36 1 61)) (refused 7 2)
+    ∷ edge (halving (heavySix ++ weighing 7 1)) (refused 9 0)
+    ∷ edge (halving heavySix) (refused 13 0)
     ∷ []
 
 -- Every edge is where the rules have it.
 pub edges-hold : map (λ (e : Edge). e .asked) edges ≡ map (λ (e : Edge). e .told) edges
 unfolding decode encode numberOf bytesOf bitsTo toBits part flat each first headerWord headerOf countOf t0Of spareOf
     recordAt jobWord jobFields numbersOf jobCount fieldsAt packedHeader packedJob packOrder jobOf jobsOf
-    fieldsWithin firstBad numberAt firstRepeat headerChecks listChecks jobChecks weightChecks
+    fieldsWithin firstBad numberAt firstRepeat firstOffending headerChecks listChecks jobChecks weightChecks halvesChecks
 edges-hold = refl

@@ -14,8 +14,8 @@ use Rattle.packed.specs.Packed.{countOf, numbersOf, jobCount, jobsOf}
 use Rattle.packed.specs.Judge.{Check, refused, judge}
 use Rattle.packed.specs.JudgeLaws.{Tells, tells-append, judge-tells}
 use Rattle.packed.specs.Refusals.{badAt, repeatedAt, headerChecks, listChecks, jobChecks}
-use Rattle.packed.specs.Refusals.{weightChecks, roomChecks, unpackChecks, packChecks}
-use Rattle.packed.specs.RefusalLaws.{bad-is-first, repeat-is-first}
+use Rattle.packed.specs.Refusals.{weightChecks, halvesChecks, roomChecks, unpackChecks, packChecks}
+use Rattle.packed.specs.RefusalLaws.{bad-is-first, repeat-is-first, offending-is-first}
 
 -- The refusals that have a place.
 abbrev pub hasPlace : ℕ → Bool
@@ -45,6 +45,10 @@ jobs-tell : (zs : List ℤ) → Tells (PlaceIs zs) (jobChecks zs)
 unfolding jobChecks
 jobs-tell zs =
     (λ e. bad (bad-is-first zs) (ltb-true _ _ e), (λ e. repeated (repeat-is-first zs) (ltb-true _ _ e), tt))
+
+pub halves-tell : (zs : List ℤ) → Tells (PlaceIs zs) (halvesChecks zs)
+unfolding halvesChecks
+halves-tell zs = (λ e. offending (offending-is-first zs) (ltb-true _ _ e), tt)
 
 -- A stage with no places, then 6, 7, 9 and 10.
 module _ (zs : List ℤ) (cs : List Check) (none : T (unplaced cs)) (need room : ℕ) where

@@ -68,7 +68,7 @@ morning-packed = refl
 -- ---- the answers as figures
 
 -- Of a plan: refusal, place, jobs kept, kept weight, lost weight, bus-free time, point total.
-abbrev figures : PlanNumbers → List ℤ
+abbrev pub figures : PlanNumbers → List ℤ
 figures n =
     pos (n .refusal) ∷ pos (n .place) ∷ pos (n .kept) ∷ pos (n .keptWeight) ∷ pos (n .lostWeight) ∷ n .finish ∷ pos (n .points)
     ∷ []

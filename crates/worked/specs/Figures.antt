@@ -5,16 +5,17 @@ use mathlib.Core.Path.{_≡_, refl}
 use mathlib.Core.List.{List, [], _∷_, map}
 use lib.IntN.{ℤ, pos, negsuc}
 use Rattle.seconds.specs.Limits.{rest, earliest, latest, latestFree, highestNumber, longest, heaviest, mostWeight, mostJobs}
-use Rattle.seconds.specs.Limits.{mostPoints, leftOut, coldest}
+use Rattle.seconds.specs.Limits.{mostPoints, leftOut, coldest, highestHalf, halvesApart, secondsPerWeight}
 use Rattle.order.specs.Choice.{mask}
 use Rattle.packed.specs.Layout.{widths, headerLayout, jobLayout, headerBytes, jobBytes, jobNumbers}
 use Rattle.packed.specs.Judge.{Check}
-use Rattle.packed.specs.Refusals.{headerChecks, listChecks, jobChecks, weightChecks, unpackChecks, packChecks}
+use Rattle.packed.specs.Refusals.{headerChecks, listChecks, jobChecks, weightChecks, halvesChecks, unpackChecks, packChecks}
 use Rattle.profiles.specs.Numbers.{mostNumbers}
 use Rattle.cells.specs.Area.{rowSize, area}
 use Rattle.reader.specs.Reading.{stepChecks}
 use Rattle.extending.specs.Calls.{extendJudged, extendChecks}
 use Rattle.planner.specs.Calls.{planChecks}
+use Rattle.halves.specs.Calls.{planHalvesChecks}
 use Rattle.openings.specs.Choosing.{choosingChecks}
 
 -- ---- names and figures
@@ -59,6 +60,10 @@ figures =
     -- R29: the numbers of a row, and of the work area
     ∷ is (pos rowSize) (pos 301)
     ∷ is (pos area) (pos 14749)
+    -- R34: the highest critical half, how far above it its optional half is, and the seconds for each weight
+    ∷ is (pos highestHalf) (pos 31)
+    ∷ is (pos halvesApart) (pos 32)
+    ∷ is (pos secondsPerWeight) (pos 60)
     ∷ []
 
 -- Every name stands for its figure.
@@ -91,12 +96,13 @@ module _ (bytes other : List ℕ) (t0 : ℤ) (profile given out work : List ℤ)
       -- the reader: open, step
       ∷ record { checks = headerChecks bytes; refusals = 1 ∷ 2 ∷ 3 ∷ 4 ∷ 5 ∷ [] }
       ∷ record { checks = stepChecks bytes place; refusals = 1 ∷ 2 ∷ 3 ∷ 4 ∷ 5 ∷ 6 ∷ [] }
-      -- extend and plan, with two rooms each; choosing, with two orders
+      -- extend, plan and planning halves, with two rooms each; choosing, with two orders
       ∷ record {
         checks = extendChecks profile bytes out work;
         refusals = 1 ∷ 2 ∷ 3 ∷ 4 ∷ 5 ∷ 6 ∷ 7 ∷ 8 ∷ 9 ∷ 10 ∷ 10 ∷ [];
       }
       ∷ record { checks = planChecks bytes out work; refusals = 1 ∷ 2 ∷ 3 ∷ 4 ∷ 5 ∷ 6 ∷ 7 ∷ 9 ∷ 10 ∷ 10 ∷ [] }
+      ∷ record { checks = planHalvesChecks bytes out work; refusals = 1 ∷ 2 ∷ 3 ∷ 4 ∷ 5 ∷ 6 ∷ 7 ∷ 9 ∷ 13 ∷ 10 ∷ 10 ∷ [] }
       ∷ record {
         checks = choosingChecks bytes other work;
         refusals = 1 ∷ 2 ∷ 3 ∷ 4 ∷ 5 ∷ 6 ∷ 7 ∷ 9 ∷ 1 ∷ 2 ∷ 3 ∷ 4 ∷ 5 ∷ 6 ∷ 7 ∷ 9 ∷ 10 ∷ [];
@@ -105,5 +111,6 @@ module _ (bytes other : List ℕ) (t0 : ℤ) (profile given out work : List ℤ)
 
   -- Each call judges these, in this sequence.
   pub judged-hold : map (λ (j : Judged). numbers (j .checks)) judged ≡ map (λ (j : Judged). j .refusals) judged
-  unfolding headerChecks listChecks jobChecks weightChecks extendJudged extendChecks planChecks choosingChecks
+  unfolding headerChecks listChecks jobChecks weightChecks halvesChecks extendJudged extendChecks planChecks planHalvesChecks
+      choosingChecks
   judged-hold = refl

@@ -2,3 +2,4 @@
 pub mod Figures
 pub mod Examples
 pub mod Rest
+pub mod Halves

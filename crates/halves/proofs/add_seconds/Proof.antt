@@ -4,7 +4,7 @@ use mathlib.Core.Path.{sym, ap}
 use native.Mathlib.Omega.{arith}
 use borrow.Author.Needs.{needs}
 use Rattle.planner.specs.declared.Planned.the-variants.{Made}
-use Rattle.halves.specs.Awaiting.{FewLost, secondsAdded}
+use Rattle.halves.specs.Awaiting.{Light, secondsAdded}
 use Rattle.halves.proofs.add_seconds.Statement.{statement}
 use Rattle.halves.proofs.add_seconds.Tie as tie
 
@@ -17,8 +17,8 @@ enum-known-planned-2 c = search needs
 mul-seconds : tie.Need-mul-seconds
 mul-seconds c =
     let m = c .before .before .planned2 .given in
-    let few : FewLost (Made (m .0 .0)) = rw (m .1) at (c .before .before .before .before .pre) in
-    omega (arith, few)
+    let light : Light (Made (m .0 .0)) = rw (m .1) at (c .before .before .before .before .pre) in
+    omega (arith, light)
 
 returns : tie.Need-returns
 returns c = sym (ap secondsAdded (c .before .planned .given .1))

@@ -10,7 +10,7 @@ use Rattle.packed.specs.JudgeLaws.{stages-fine}
 use Rattle.packed.specs.Packed.{numbersOf}
 use Rattle.packed.specs.Refusals.{orderChecks, halvesChecks}
 use Rattle.judge.specs.Told.{told-fine}
-use Rattle.halves.specs.CallLaws.{halves-stopped, few-lost, halves-done}
+use Rattle.halves.specs.CallLaws.{halves-stopped, plan-light, halves-done}
 use Rattle.halves.proofs.plan_halves.Statement.{statement}
 use Rattle.halves.proofs.plan_halves.Tie as tie
 
@@ -40,7 +40,7 @@ add-seconds-requires c κs =
     let p = c .before .before in
     let e = p .before .before .before in
     let a = e .before .before .before .before .args in
-    few-lost (now (a .bytes)) (now (a .starts)) (now (a .work)) (passed e .0) (passed e .1) (p .plan-order .ensures)
+    plan-light (now (a .bytes)) (now (a .starts)) (now (a .work)) (passed e .0) (passed e .1) (p .plan-order .ensures)
 
 returns : tie.Need-returns
 returns c =

@@ -1,0 +1,331 @@
+-- What the answers of planning halves say: 13 exactly when a place offends, with the first such place; else planning's own answer
+-- and buffers; and the optional seconds lost, 60 for each weight lost.
+use Prim.Native.Nat.{ℕ, _*_, _≤_, _<_}
+use mathlib.Core.Path.{_≡_, refl, sym, ap, _∙_}
+use mathlib.Core.Bool.{true, true≢false}
+use mathlib.Core.Logic.{_↔_, _≢_, _⊎_, inl, inr}
+use mathlib.Core.List.{List, _++_}
+use mathlib.Core.Option.{Option, none, some, Option·map}
+use native.Mathlib.Omega.{arith}
+use lib.Dec.{ltb}
+use lib.IntN.{ℤ}
+use lib.ListN.{length}
+use borrow.Author.Tests.{ltb-true, ltb-false, lt-ltb}
+use borrow.Table.Steps.{cases}
+use Rattle.seconds.specs.Limits.{secondsPerWeight}
+use Rattle.order.specs.Job.{Job, Order}
+use Rattle.order.specs.Halves.{offendsAt, secondsLost}
+use Rattle.order.specs.HalvesLaws.{Offends, offends-is, offends-below, OfHalves, of-halves}
+use Rattle.plan.specs.Plan.{Ended, plan, Answer, answerOf, planAnswer}
+use Rattle.packed.specs.Judge.{Check, Verdict, fine, refused, judge}
+use Rattle.packed.specs.JudgeLaws.{stages-fine, refused-fine, stage-of, Tells, judge-tells}
+use Rattle.packed.specs.Packed.{countOf, numbersOf, jobCount, orderOf, jobsIn}
+use Rattle.packed.specs.PackedLaws.{numbers-count}
+use Rattle.packed.specs.PlacesLaws.{IsFirst, first-unique}
+use Rattle.packed.specs.Refusals.{firstOffending, headerChecks, jobChecks, weightChecks, orderChecks, halvesChecks, roomChecks}
+use Rattle.packed.specs.RefusalLaws.{offending-is-first, halves-fine}
+use Rattle.packed.specs.RefusalPlaces.{PlaceIs, nowhere, halves-tell}
+use Rattle.fields.specs.Places.{jobs-count}
+use Rattle.cells.specs.Work.{area}
+use Rattle.filling.specs.After.{workBy}
+use Rattle.judge.specs.Told.{stays, ten-tells, told-next, Placed, placed-behind, placed-rooms, placed-order}
+use Rattle.planner.specs.Calls.{planChecks, planVerdict, plannedBy, startsBy, planNumbers, PlanCall}
+use Rattle.planner.specs.Answers.{refusedWith, plannedWith}
+use Rattle.planner.specs.declared.Planned.{Planned}
+use Rattle.planner.specs.declared.Planned.the-variants as planned
+use Rattle.halves.specs.Calls.{planHalvesChecks, halvesVerdict, lostIn, lostSeconds, withSeconds, halvesOf, HalvesCall}
+use Rattle.halves.specs.Calls.{HalvesNumbers, halvesNumbers}
+use Rattle.halves.specs.CallLaws.{lost-sixty, verdict-as-plan}
+use Rattle.halves.specs.declared.HalvesPlanned.{HalvesPlanned}
+use Rattle.halves.specs.declared.HalvesPlanned.the-variants.{Refused, Made}
+
+-- ---- check 13
+
+module _ (bytes : List ℕ) where
+  abbrev t0 : ℤ
+  t0 = orderOf bytes .t0
+
+  abbrev jobs : List Job
+  jobs = orderOf bytes .jobs
+
+  -- The order is accepted by 1 to 9, and the place is the first that offends.
+  pub record FirstOffends (p : ℕ) : Type 0 where
+    pub order : judge (orderChecks bytes) ≡ fine
+    pub offends : Offends jobs p
+    pub before : (k : ℕ) → k < p → ¬ Offends jobs k
+
+  -- Check 13 says so.
+  check-thirteen : (p : ℕ) → judge (halvesChecks (numbersOf bytes)) ≡ refused 13 p
+      ↔ (Offends jobs p × ((k : ℕ) → k < p → ¬ Offends jobs k))
+  unfolding halvesChecks orderOf
+  check-thirteen p = (there, back)
+    where
+      zs : List ℤ
+      zs = numbersOf bytes
+
+      n : ℕ
+      n = jobCount zs
+
+      f : IsFirst (offendsAt (jobsIn bytes)) 0 n (firstOffending zs)
+      f = offending-is-first zs
+
+      there : judge (halvesChecks zs) ≡ refused 13 p → Offends (jobsIn bytes) p × ((k : ℕ) → k < p → ¬ Offends (jobsIn bytes) k)
+      there e = cases (ltb (firstOffending zs) n)
+          (λ b. let told : refused 13 (firstOffending zs) ≡ refused 13 p = rw b at e in
+          let here : firstOffending zs ≡ p = cc in
+          rw (← here) (
+            offends-is (jobsIn bytes) (firstOffending zs) .0 (f .passes (ltb-true _ _ b)),
+            λ k h o. true≢false (sym (offends-is (jobsIn bytes) k .1 o) ∙ f .before k (omega arith) h),
+          ))
+          (λ b. absurd (refused-fine (sym (rw b at e))))
+
+      back : Offends (jobsIn bytes) p × ((k : ℕ) → k < p → ¬ Offends (jobsIn bytes) k) → judge (halvesChecks zs) ≡ refused 13 p
+      back h =
+          let yes : offendsAt (jobsIn bytes) p ≡ true = offends-is (jobsIn bytes) p .1 (h .0) in
+          let within : p < n = cases (ltb p n) (λ b. ltb-true p n b)
+          (λ b. absurd (true≢false (sym yes ∙ offends-below (jobsIn bytes) p (omega (arith, jobs-count bytes, numbers-count bytes, ltb-false p n b))))) in
+          let same : firstOffending zs ≡ p =
+          first-unique (offendsAt (jobsIn bytes)) 0 n (firstOffending zs) p f
+          (record {
+            from = omega arith;
+            to = omega arith;
+            passes = λ b. yes;
+            before = λ k a b. cases (offendsAt (jobsIn bytes) k) (λ y. absurd (h .1 k b (offends-is (jobsIn bytes) k .0 y))) (λ e. e);
+          }) in
+          rw (same, lt-ltb p n within)
+
+  -- No refusal by the order's own checks has a number above 10.
+  order-ten : {n p : ℕ} → judge (orderChecks bytes) ≡ refused n p → n ≤ 10
+  unfolding headerChecks jobChecks weightChecks
+  order-ten = judge-tells (λ n p. n ≤ 10) (orderChecks bytes) (ten-tells (orderChecks bytes) tt)
+
+-- It has no other number.
+thirteen-tells : (zs : List ℤ) → Tells (λ n p. n ≡ 13) (halvesChecks zs)
+unfolding halvesChecks
+thirteen-tells zs = ((λ e. refl), tt)
+
+-- ---- the answer in numbers
+
+-- Planning's numbers stay, whatever the seconds.
+seconds-beside : (s : ℕ) (p : Planned) → halvesNumbers (withSeconds s p) .plan ≡ planNumbers p
+seconds-beside s (planned.Refused n q) = refl
+seconds-beside s (planned.Made f) = refl
+
+module _ (bytes : List ℕ) (starts work : List ℤ) where
+  -- Refused by a check: the number and the place of the first that applies, and no seconds.
+  pub refused-says : {n p : ℕ} → halvesVerdict bytes starts work ≡ refused n p
+      → halvesNumbers (halvesOf bytes starts work) ≡ record { plan = refusedWith n p; secondsLost = 0 }
+  refused-says e = rw e
+
+  -- Past the checks: 11 where there is no plan,
+  pub no-plan-says : halvesVerdict bytes starts work ≡ fine → plan (t0 bytes) (jobs bytes) ≡ none
+      → halvesNumbers (halvesOf bytes starts work) ≡ record { plan = refusedWith 11 0; secondsLost = 0 }
+  no-plan-says e is = rw (e, is)
+
+  -- else the numbers of the plan, and the seconds that it loses.
+  pub plan-says : (e : Ended) → halvesVerdict bytes starts work ≡ fine → plan (t0 bytes) (jobs bytes) ≡ some e
+      → halvesNumbers (halvesOf bytes starts work)
+      ≡ record { plan = plannedWith (t0 bytes) (jobs bytes) e; secondsLost = secondsLost (jobs bytes) (e .choice) }
+  plan-says e passed is = rw (passed, is)
+
+  -- The verdict is 13 exactly when the order's own checks are passed and check 13 is not.
+  verdict-thirteen : {p : ℕ} → halvesVerdict bytes starts work ≡ refused 13 p
+      ↔ ((judge (orderChecks bytes) ≡ fine) × (judge (halvesChecks (numbersOf bytes)) ≡ refused 13 p))
+  unfolding planHalvesChecks
+  verdict-thirteen {p} = (there, back)
+    where
+      order : List Check
+      order = orderChecks bytes
+
+      halves : List Check
+      halves = halvesChecks (numbersOf bytes)
+
+      places : List Check
+      places = roomChecks (countOf bytes) (length starts)
+
+      space : List Check
+      space = roomChecks area (length work)
+
+      room-ten : (need room : ℕ) → judge (roomChecks need room) ≡ refused 13 p → ⊥
+      room-ten need room e =
+          let low = judge-tells (λ n p. n ≤ 10) (roomChecks need room) (ten-tells (roomChecks need room) tt) e in
+          omega arith
+
+      first : judge order ≡ refused 13 p ⊎ ((judge order ≡ fine) × (judge halves ≡ refused 13 p))
+          → (judge order ≡ fine) × (judge halves ≡ refused 13 p)
+      first (inl e) = absurd (omega (arith, order-ten bytes e))
+      first (inr h) = h
+
+      second : judge (order ++ halves) ≡ refused 13 p ⊎ ((judge (order ++ halves) ≡ fine) × (judge places ≡ refused 13 p))
+          → (judge order ≡ fine) × (judge halves ≡ refused 13 p)
+      second (inl e) = first (stage-of order halves e)
+      second (inr h) = absurd (room-ten (countOf bytes) (length starts) (h .1))
+
+      third : judge (order ++ halves ++ places) ≡ refused 13 p
+          ⊎ ((judge (order ++ halves ++ places) ≡ fine) × (judge space ≡ refused 13 p))
+          → (judge order ≡ fine) × (judge halves ≡ refused 13 p)
+      third (inl e) = second (stage-of (order ++ halves) places e)
+      third (inr h) = absurd (room-ten area (length work) (h .1))
+
+      there : judge (order ++ halves ++ places ++ space) ≡ refused 13 p → (judge order ≡ fine) × (judge halves ≡ refused 13 p)
+      there e = third (stage-of (order ++ halves ++ places) space e)
+
+      back : (judge order ≡ fine) × (judge halves ≡ refused 13 p) → judge (order ++ halves ++ places ++ space) ≡ refused 13 p
+      back h =
+          stays (order ++ halves ++ places) space (stays (order ++ halves) places (told-next order halves (h .0) ∙ h .1))
+
+module _ (bytes : List ℕ) (starts work : List ℤ) where
+  -- Past all checks 13 is passed too.
+  passed-halves : halvesVerdict bytes starts work ≡ fine → judge (halvesChecks (numbersOf bytes)) ≡ fine
+  unfolding planHalvesChecks
+  passed-halves e =
+      let order = orderChecks bytes in
+      let halves = halvesChecks (numbersOf bytes) in
+      let places = roomChecks (countOf bytes) (length starts) in
+      let rooms = stages-fine (order ++ halves ++ places) (roomChecks area (length work)) .0 e in
+      stages-fine order halves .0 (stages-fine (order ++ halves) places .0 (rooms .0) .0) .1
+
+  -- Refused by the order's own checks, the verdict is planning's.
+  stopped-early : {n p : ℕ} → judge (orderChecks bytes) ≡ refused n p
+      → halvesVerdict bytes starts work ≡ planVerdict bytes starts work
+  unfolding planHalvesChecks planChecks
+  stopped-early e =
+      let order = orderChecks bytes in
+      let halves = halvesChecks (numbersOf bytes) in
+      let places = roomChecks (countOf bytes) (length starts) in
+      let space = roomChecks area (length work) in
+      stays (order ++ halves ++ places) space (stays (order ++ halves) places (stays order halves e))
+      ∙ sym (stays (order ++ places) space (stays order places e))
+
+  -- Every refusal by the checks has its place.
+  halves-placed : Placed (numbersOf bytes) (planHalvesChecks bytes starts work)
+  unfolding planHalvesChecks
+  halves-placed =
+      let zs = numbersOf bytes in
+      placed-rooms zs (orderChecks bytes ++ halvesChecks zs) (countOf bytes) (length starts) area (length work)
+      (placed-behind zs (orderChecks bytes) (halvesChecks zs) (placed-order bytes)
+      (λ n p. judge-tells (PlaceIs zs) (halvesChecks zs) (halves-tell zs)))
+
+-- ---- every outcome that the contract allows
+
+module _ (bytes : List ℕ) (starts work : List ℤ) {r : HalvesPlanned} {starts′ work′ : List ℤ}
+    (call : HalvesCall bytes starts work r starts′ work′) where
+  -- Its refusal is 13 exactly when its verdict is.
+  answer-thirteen : (p : ℕ) → ((halvesNumbers r .plan .refusal ≡ 13) × (halvesNumbers r .plan .place ≡ p))
+      ↔ (halvesVerdict bytes starts work ≡ refused 13 p)
+  answer-thirteen p =
+      (λ h. there (halvesVerdict bytes starts work) (planAnswer (orderOf bytes)) (sym (numbers .0) ∙ h .0) (sym (numbers .1) ∙ h .1), back)
+    where
+      said : Verdict → Option Answer → HalvesPlanned
+      said v a = withSeconds (lostSeconds (orderOf bytes)) (plannedBy v a)
+
+      numbers : (halvesNumbers r .plan .refusal ≡ halvesNumbers (halvesOf bytes starts work) .plan .refusal)
+          × (halvesNumbers r .plan .place ≡ halvesNumbers (halvesOf bytes starts work) .plan .place)
+      numbers = (
+        ap (λ (h : HalvesPlanned). halvesNumbers h .plan .refusal) (call .answer),
+        ap (λ (h : HalvesPlanned). halvesNumbers h .plan .place) (call .answer),
+      )
+
+      there : (v : Verdict) (a : Option Answer) → halvesNumbers (said v a) .plan .refusal ≡ 13
+          → halvesNumbers (said v a) .plan .place ≡ p → v ≡ refused 13 p
+      there fine none e f = absurd (omega arith)
+      there fine (some a) e f = absurd (omega arith)
+      there (refused n q) a e f = λ i. refused (e i) (f i)
+
+      back : halvesVerdict bytes starts work ≡ refused 13 p
+          → (halvesNumbers r .plan .refusal ≡ 13) × (halvesNumbers r .plan .place ≡ p)
+      back e = let says = refused-says bytes starts work e in
+          (numbers .0 ∙ ap (λ (h : HalvesNumbers). h .plan .refusal) says, numbers .1 ∙ ap (λ (h : HalvesNumbers). h .plan .place) says)
+
+  -- 13 with a place exactly when the order is accepted by 1 to 9 and that place is the first that offends, whatever the buffers.
+  pub thirteen : (p : ℕ) → ((halvesNumbers r .plan .refusal ≡ 13) × (halvesNumbers r .plan .place ≡ p)) ↔ FirstOffends bytes p
+  thirteen p = (there, back)
+    where
+      there : (halvesNumbers r .plan .refusal ≡ 13) × (halvesNumbers r .plan .place ≡ p) → FirstOffends bytes p
+      there h =
+          let v = verdict-thirteen bytes starts work .0 (answer-thirteen p .0 h) in
+          let c = check-thirteen bytes p .0 (v .1) in
+          record { order = v .0; offends = c .0; before = c .1 }
+
+      back : FirstOffends bytes p → (halvesNumbers r .plan .refusal ≡ 13) × (halvesNumbers r .plan .place ≡ p)
+      back h =
+          answer-thirteen p .1
+          (verdict-thirteen bytes starts work .1 (h .order, check-thirteen bytes p .1 (h .offends, h .before)))
+
+  -- So it is never given for an order of halves,
+  pub halves-never-thirteen : OfHalves (jobs bytes) → halvesNumbers r .plan .refusal ≢ 13
+  halves-never-thirteen h e =
+      let o = thirteen (halvesNumbers r .plan .place) .0 (e, refl) .offends in
+      true≢false (sym (offends-is _ _ .1 o) ∙ of-halves (jobs bytes) .0 h _)
+
+  -- and always for any other order that passes 1 to 9.
+  pub others-thirteen : judge (orderChecks bytes) ≡ fine → ¬ OfHalves (jobs bytes) → halvesNumbers r .plan .refusal ≡ 13
+  unfolding orderOf
+  others-thirteen order other = go (judge (halvesChecks (numbersOf bytes))) refl
+    where
+      go : (v : Verdict) → judge (halvesChecks (numbersOf bytes)) ≡ v → halvesNumbers r .plan .refusal ≡ 13
+      go fine e = absurd (other (halves-fine (numbersOf bytes) .0 e))
+      go (refused n p) e =
+          let is : n ≡ 13 = judge-tells (λ n p. n ≡ 13) (halvesChecks (numbersOf bytes)) (thirteen-tells (numbersOf bytes)) e in
+          answer-thirteen p .1 (verdict-thirteen bytes starts work .1 (order, rw is at e)) .0
+
+  -- Where 13 is not given, the answer's numbers and both buffers are planning's own.
+  module _ {q : Planned} {starts″ work″ : List ℤ} (plan-call : PlanCall bytes starts work q starts″ work″) where
+    verdict-same : halvesNumbers r .plan .refusal ≢ 13 → halvesVerdict bytes starts work ≡ planVerdict bytes starts work
+    verdict-same not-thirteen = go (judge (orderChecks bytes)) refl (judge (halvesChecks (numbersOf bytes))) refl
+      where
+        go : (v : Verdict) → judge (orderChecks bytes) ≡ v → (w : Verdict) → judge (halvesChecks (numbersOf bytes)) ≡ w
+            → halvesVerdict bytes starts work ≡ planVerdict bytes starts work
+        go (refused n p) e w f = stopped-early bytes starts work e
+        go fine e fine f = verdict-as-plan bytes starts work e f
+        go fine e (refused n p) f =
+            let is : n ≡ 13 = judge-tells (λ n p. n ≡ 13) (halvesChecks (numbersOf bytes)) (thirteen-tells (numbersOf bytes)) f in
+            absurd (not-thirteen (answer-thirteen p .1 (verdict-thirteen bytes starts work .1 (e, rw is at f)) .0))
+
+    pub as-plan : halvesNumbers r .plan .refusal ≢ 13
+        → (halvesNumbers r .plan ≡ planNumbers q) × (starts′ ≡ starts″) × (work′ ≡ work″)
+    as-plan not-thirteen =
+        let v = verdict-same not-thirteen in
+        let a = planAnswer (orderOf bytes) in (
+          ap (λ (h : HalvesPlanned). halvesNumbers h .plan) (call .answer)
+              ∙ seconds-beside (lostSeconds (orderOf bytes)) (plannedBy (halvesVerdict bytes starts work) a)
+              ∙ ap (λ (u : Verdict). planNumbers (plannedBy u a)) v
+              ∙ ap planNumbers (sym (plan-call .answer)),
+          call .written ∙ ap (λ (u : Verdict). startsBy u a starts) v ∙ sym (plan-call .written),
+          call .area ∙ ap (λ (u : Verdict). workBy u work) v ∙ sym (plan-call .area),
+        )
+
+  -- ---- the seconds lost
+
+  -- They are 60 for each weight lost, of every outcome.
+  pub seconds-sixty : halvesNumbers r .secondsLost ≡ secondsPerWeight * halvesNumbers r .plan .lostWeight
+  seconds-sixty =
+      ap (λ (h : HalvesPlanned). halvesNumbers h .secondsLost) (call .answer)
+      ∙ go (halvesVerdict bytes starts work) refl (plan (t0 bytes) (jobs bytes)) refl
+      ∙ ap (λ (h : HalvesPlanned). secondsPerWeight * halvesNumbers h .plan .lostWeight) (sym (call .answer))
+    where
+      o : Order
+      o = orderOf bytes
+
+      said : Verdict → Option Ended → HalvesPlanned
+      said v m = withSeconds (lostIn o m) (plannedBy v (Option·map (answerOf (o .t0) (o .jobs)) m))
+
+      go : (v : Verdict) → halvesVerdict bytes starts work ≡ v → (m : Option Ended) → plan (t0 bytes) (jobs bytes) ≡ m
+          → halvesNumbers (said v m) .secondsLost ≡ secondsPerWeight * halvesNumbers (said v m) .plan .lostWeight
+      go (refused n p) d m is = refl
+      go fine d none is = refl
+      go fine d (some e) is = lost-sixty bytes (passed-halves bytes starts work d) e is
+
+  -- ---- the place
+
+  -- The place of 6, 7 and 13 is the first that they are about, else it is 0.
+  pub halves-place : PlaceIs (numbersOf bytes) (halvesNumbers r .plan .refusal) (halvesNumbers r .plan .place)
+  halves-place =
+      rw (call .answer) (go (halvesVerdict bytes starts work) refl (planAnswer (orderOf bytes)))
+    where
+      go : (v : Verdict) → halvesVerdict bytes starts work ≡ v → (a : Option Answer)
+          → let n = halvesNumbers (withSeconds (lostSeconds (orderOf bytes)) (plannedBy v a)) .plan in
+          PlaceIs (numbersOf bytes) (n .refusal) (n .place)
+      go fine d none = nowhere {n = 11} refl
+      go fine d (some a) = nowhere {n = 0} refl
+      go (refused n p) d a = halves-placed bytes starts work n p d
