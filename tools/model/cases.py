@@ -92,9 +92,17 @@ def heat(case):
     return ' refused 12' if seconds is None else ' %d' % seconds
 
 
-def plan(case):
-    answer, starts, cleared = rules.plan(order_in(case.parts[0]), case.room, case.work)
+def planned(case, call):
+    answer, starts, cleared = call(order_in(case.parts[0]), case.room, case.work)
     return told(answer) + buffer(written(starts, MARK, case.room)) + area(case.work, cleared)
+
+
+def plan(case):
+    return planned(case, rules.plan)
+
+
+def plan_halves(case):
+    return planned(case, rules.plan_halves)
 
 
 def report(case):
@@ -155,9 +163,9 @@ def read(case):
 
 
 CALLS = {
-    'unpack': unpack, 'pack': pack, 'heat': heat, 'plan': plan, 'report': report, 'extend': extend, 'better': better,
-    'lookup': lookup, 'records': records, 'question': question, 'choose': choose, 'read': read,
-    'open': lambda case: opened(order_in(case.parts[0])),
+    'unpack': unpack, 'pack': pack, 'heat': heat, 'plan': plan, 'plan_halves': plan_halves, 'report': report,
+    'extend': extend, 'better': better, 'lookup': lookup, 'records': records, 'question': question, 'choose': choose,
+    'read': read, 'open': lambda case: opened(order_in(case.parts[0])),
     'step': lambda case: stepped(order_in(case.parts[0]), case.place('at')),
 }
 

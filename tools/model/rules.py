@@ -9,10 +9,11 @@ LATEST_FREE = LATEST + REST
 WORK_AREA = 14_749
 PROFILE_ROOM = 602
 LEFT_OUT = 200_000
+HIGHEST_HALF, APART, PER_WEIGHT = 31, 32, 60  # of an order of halves
 MANY = 10  # up to so many jobs every choice is tried as well
 
 
-# ---- packed orders (R21, R22) and refusals 1 to 7 and 9 (R24)
+# ---- packed orders (R21, R22) and refusals 1 to 7, 9 and 13 (R24)
 
 def bits(value, width):
     return format(value % (1 << width), '0%db' % width)
@@ -95,6 +96,24 @@ def judge(data):
     """The same, and 9."""
     refusal, place, t0, jobs = read(data)
     return (9 if refusal == 0 and weigh(jobs) > 300 else refusal), place, t0, jobs
+
+
+def offends(job, earlier):
+    """Whether a job offends in an order of halves, behind the earlier jobs."""
+    number, critical, weight, _, length, _ = job
+    if critical:
+        return number > HIGHEST_HALF
+    partners = [other[0] for other in earlier if other[1] and other[0] <= HIGHEST_HALF]
+    return length != PER_WEIGHT * weight or number - APART not in partners
+
+
+def judge_halves(data):
+    """A packed order judged up to 9, and then 13."""
+    refusal, place, t0, jobs = judge(data)
+    offending = [at for at, job in enumerate(jobs) if offends(job, jobs[:at])]
+    if refusal == 0 and offending:
+        return 13, offending[0], t0, jobs
+    return refusal, place, t0, jobs
 
 
 def unpack(data, room):
@@ -260,8 +279,9 @@ def by(points, t):
 
 # ---- the calls on profiles and orders: the answer, what is written, and whether the work area is cleared (R25, R28, R29)
 
-def plan(data, room, work):
-    refusal, place, t0, jobs = judge(data)
+def plan_judged(judged, room, work):
+    """Planning an order behind the checks of the order itself."""
+    refusal, place, t0, jobs = judged
     if refusal == 0 and (room < len(jobs) or work < WORK_AREA):
         refusal = 10
     if refusal:
@@ -273,6 +293,20 @@ def plan(data, room, work):
     mask = sum(kept << 63 - place for place, kept in enumerate(choice))
     kept = kept_weight(jobs, choice)
     return ('made', mask, sum(choice), kept, weigh(jobs) - kept, free, point_total(t0, jobs)), starts, True
+
+
+def plan(data, room, work):
+    return plan_judged(judge(data), room, work)
+
+
+def plan_halves(data, room, work):
+    """The same of an order of halves, and the optional seconds lost."""
+    judged = judge_halves(data)
+    answer, starts, cleared = plan_judged(judged, room, work)
+    if answer[0] == 'made':
+        left_out = [job for job, start in zip(judged[3], starts) if start == LEFT_OUT]
+        answer += (sum(length for _, critical, _, _, length, _ in left_out if not critical),)
+    return answer, starts, cleared
 
 
 def extend(numbers, data, room, work):
