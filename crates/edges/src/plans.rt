@@ -1,4 +1,4 @@
-// Plans: the call itself, and the text that the program prints for an order.
+// Plans: of an order, of an order of halves, and the text that the program prints for an order.
 use crate::MARK;
 use crate::WORK_MARK;
 use crate::calls;
@@ -12,6 +12,7 @@ use case_lines::put_buffer;
 use case_lines::put_count;
 use case_lines::put_refusal;
 use case_lines::put_word;
+use halves::HalvesPlanned;
 use planner::Figures;
 use planner::Planned;
 
@@ -34,17 +35,46 @@ fn put_planned(answer: Planned) {
     }
 }
 
-// `plan`: an order, with room for starts and a work area lent.
-fn plan(line: &[u8]) {
+// What planning halves answered.
+fn put_halves(answer: HalvesPlanned) {
+    match answer {
+        HalvesPlanned::Refused(number, place) => put_refusal(number, place),
+        HalvesPlanned::Made(figures, seconds) => {
+            put_figures(figures);
+            put_count(seconds as u64);
+        }
+    }
+}
+
+// An order planned as one of halves, or as any other.
+fn answer_plan(of_halves: bool, bytes: &[u8], starts: &mut [i32], work: &mut [i32]) {
+    if of_halves {
+        return put_halves(halves::plan_halves(bytes, starts, work));
+    }
+    put_planned(planner::plan(bytes, starts, work))
+}
+
+// Either of an order, with room for starts and a work area lent.
+fn with_order(line: &[u8], of_halves: bool) {
     let mut bytes = [0; 400];
     let size = make_order(part(line, 1), &mut bytes);
     let mut out = [MARK; 700];
     let mut space = [WORK_MARK; 15_000];
     let starts = lend(&mut out, count_setting(line, b'm'));
     let work = lend(&mut space, count_setting(line, b'k'));
-    put_planned(planner::plan(front_bytes(&bytes, size), starts, work));
+    answer_plan(of_halves, front_bytes(&bytes, size), starts, work);
     put_buffer(starts);
     put_buffer(work);
+}
+
+// `plan`.
+fn plan(line: &[u8]) {
+    with_order(line, false);
+}
+
+// `plan_halves`.
+fn plan_halves(line: &[u8]) {
+    with_order(line, true);
 }
 
 // `report`: any bytes; the text stands on lines of its own.
@@ -61,6 +91,10 @@ fn report(line: &[u8]) {
 pub fn run(line: &[u8]) -> bool {
     if calls(line, b"plan") {
         plan(line);
+        return true;
+    }
+    if calls(line, b"plan_halves") {
+        plan_halves(line);
         return true;
     }
     if calls(line, b"report") {
