@@ -8,13 +8,15 @@ use careful::put;
 const MOST: usize = 10;
 
 // Where a job's fields stand among its six numbers.
-const CRITICAL: usize = 1;
+pub const NUMBER: usize = 0;
 
-const WEIGHT: usize = 2;
+pub const CRITICAL: usize = 1;
+
+pub const WEIGHT: usize = 2;
 
 const READY: usize = 3;
 
-const LENGTH: usize = 4;
+pub const LENGTH: usize = 4;
 
 const DEADLINE: usize = 5;
 
@@ -41,15 +43,17 @@ pub struct Best {
     pub tied: bool,
 }
 
-// A choice's mask, the highest bit for place 0, how many jobs it keeps and the weight it loses.
+// A choice's mask, the highest bit for place 0, how many jobs it keeps, the weight it loses and the optional
+// seconds: the lengths of the non-critical jobs that it leaves out.
 pub struct Tally {
     pub mask: u64,
     pub kept: u64,
     pub lost: i32,
+    pub seconds: i32,
 }
 
 // A field of the job at a place.
-fn field(numbers: &[i32], place: usize, which: usize) -> i32 {
+pub fn field(numbers: &[i32], place: usize, which: usize) -> i32 {
     if place >= MOST {
         return 0;
     }
@@ -200,6 +204,14 @@ pub fn write_starts(numbers: &[i32], t0: i32, choice: u32, starts: &mut [i32]) {
     }
 }
 
+// The length of the job at a place where it is not critical.
+fn optional_length(numbers: &[i32], place: usize) -> i32 {
+    if field(numbers, place, CRITICAL) == 1 {
+        return 0;
+    }
+    field(numbers, place, LENGTH)
+}
+
 // The tally with the job at a place kept or left out.
 fn tallied(numbers: &[i32], place: usize, kept: bool, so_far: Tally) -> Tally {
     if !kept {
@@ -207,12 +219,14 @@ fn tallied(numbers: &[i32], place: usize, kept: bool, so_far: Tally) -> Tally {
             mask: so_far.mask,
             kept: so_far.kept,
             lost: plus(so_far.lost, field(numbers, place, WEIGHT)),
+            seconds: plus(so_far.seconds, optional_length(numbers, place)),
         };
     }
     Tally {
         mask: so_far.mask | bit_of(place),
         kept: more(so_far.kept, 1),
         lost: so_far.lost,
+        seconds: so_far.seconds,
     }
 }
 
@@ -231,6 +245,7 @@ pub fn tally_of(numbers: &[i32], choice: u32) -> Tally {
         mask: 0,
         kept: 0,
         lost: 0,
+        seconds: 0,
     };
     let mut left = choice;
     let mut place = 0;

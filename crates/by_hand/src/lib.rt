@@ -3,6 +3,7 @@
 // lowest bit is place 0; an order is six numbers a job, of at most ten jobs; outcomes and profiles are
 // alternating numbers, time and weight. Every function is safe and ends. Assumes nothing.
 mod choices;
+mod partners;
 mod points;
 
 pub use choices::Best;
@@ -10,6 +11,7 @@ pub use choices::Tally;
 pub use choices::best_choice;
 pub use choices::tally_of;
 pub use choices::write_starts;
+pub use partners::first_offending;
 pub use points::extend;
 pub use points::is_profile;
 pub use points::join;

@@ -107,6 +107,19 @@ pub fn number_of(count: u64) -> i32 {
     0
 }
 
+// A number as a count, 0 where it is below 0 or too great.
+pub fn count_of(number: i32) -> u64
+    ensures { λ r. ⌜ r ≤ 1000000 ⌝ }
+{
+    if number < 0 {
+        return 0;
+    }
+    if number > HIGH {
+        return 0;
+    }
+    number as u64
+}
+
 // Whether a count is a number.
 pub fn is_count(count: u64, number: i32) -> bool {
     if count < 1_000_000 {
