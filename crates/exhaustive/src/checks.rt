@@ -1,9 +1,12 @@
 // Each call compared with the planner by trial: its answer, all that it wrote, and that it wrote no more.
 use crate::counts::FEASIBLE;
+use crate::counts::HALVES;
 use crate::counts::LOOKUPS;
+use crate::counts::OFFENDING;
 use crate::counts::ORDERS;
 use crate::counts::POINTS;
 use crate::counts::QUESTIONS;
+use crate::counts::SECONDS;
 use crate::counts::TIES;
 use crate::counts::count;
 use crate::counts::expect;
@@ -11,12 +14,14 @@ use better::Joined;
 use by_hand::Best;
 use careful::all_are;
 use careful::at;
+use careful::count_of;
 use careful::front;
 use careful::front_bytes;
 use careful::is_count;
 use careful::plus;
 use careful::same;
 use extending::Extended;
+use halves::HalvesPlanned;
 use openings::Chosen;
 use pack::Packed;
 use planner::Figures;
@@ -84,6 +89,75 @@ pub fn check_plan(numbers: &[i32], t0: i32, counts: &mut [u64]) {
     count(counts, ORDERS, 1);
     count(counts, FEASIBLE, best.found as u64);
     count(counts, TIES, best.tied as u64);
+}
+
+// The optional seconds that the best choice loses, none where there is no choice.
+fn lost_seconds(numbers: &[i32], best: Best) -> i32 {
+    if !best.found {
+        return 0;
+    }
+    let tally = by_hand::tally_of(numbers, best.choice);
+    tally.seconds
+}
+
+// Whether a plan of halves has the figures of the best choice and loses its seconds.
+fn halves_figures_agree(
+    figures: Figures,
+    seconds: u32,
+    numbers: &[i32],
+    t0: i32,
+    best: Best,
+) -> bool {
+    is_count(seconds as u64, lost_seconds(numbers, best))
+        && figures_agree(figures, numbers, t0, best)
+}
+
+// Whether planning an order of halves agrees with the best choice and writes the starts expected.
+fn halves_agree(numbers: &[i32], t0: i32, best: Best, expected: &[i32]) -> bool {
+    let mut bytes = [0; 84];
+    let size = pack_order(t0, numbers, &mut bytes);
+    let mut starts = [MARK; 12];
+    let mut work = [MARK; 14_750];
+    let order = front_bytes(&bytes, size);
+    let agrees = match halves::plan_halves(order, &mut starts, &mut work) {
+        HalvesPlanned::Refused(number, place) => !best.found && number == 11 && place == 0,
+        HalvesPlanned::Made(figures, seconds) => {
+            halves_figures_agree(figures, seconds, numbers, t0, best)
+        }
+    };
+    agrees && same(&starts, expected) && leaves(&work, 0)
+}
+
+// Whether planning an order that is not of halves is refused with the first offending place, and changes
+// nothing.
+fn is_refused(numbers: &[i32], t0: i32, offending: usize) -> bool {
+    let mut bytes = [0; 84];
+    let size = pack_order(t0, numbers, &mut bytes);
+    let mut starts = [MARK; 12];
+    let mut work = [MARK; 14_750];
+    let order = front_bytes(&bytes, size);
+    let refused = match halves::plan_halves(order, &mut starts, &mut work) {
+        HalvesPlanned::Refused(number, place) => number == 13 && place == offending,
+        HalvesPlanned::Made(_, _) => false,
+    };
+    refused && all_are(&starts, MARK) && leaves(&work, MARK)
+}
+
+// The plan of an order, of halves or not: as one of halves, and as any other, which does not ask for halves.
+pub fn check_halves(numbers: &[i32], t0: i32, counts: &mut [u64]) {
+    let best = by_hand::best_choice(numbers, t0);
+    let offending = by_hand::first_offending(numbers);
+    let mut expected = [MARK; 12];
+    expect_starts(numbers, t0, best, &mut expected);
+    expect(counts, plan_agrees(numbers, t0, best, &expected));
+    if offending < numbers.len() / 6 {
+        expect(counts, is_refused(numbers, t0, offending));
+        count(counts, OFFENDING, 1);
+        return;
+    }
+    expect(counts, halves_agree(numbers, t0, best, &expected));
+    count(counts, HALVES, best.found as u64);
+    count(counts, SECONDS, count_of(lost_seconds(numbers, best)));
 }
 
 // The refusal that extending must give, 0 for none.

@@ -14,7 +14,13 @@ pub const LOOKUPS: usize = 4;
 
 pub const QUESTIONS: usize = 5;
 
-pub const MISMATCHES: usize = 6;
+pub const HALVES: usize = 6;
+
+pub const OFFENDING: usize = 7;
+
+pub const SECONDS: usize = 8;
+
+pub const MISMATCHES: usize = 9;
 
 // Adds to a count.
 pub fn count(counts: &mut [u64], which: usize, by: u64) {
@@ -48,5 +54,8 @@ pub fn write_counts(counts: &[u64]) {
     write_count(counts, POINTS, b"points ");
     write_count(counts, LOOKUPS, b"lookups ");
     write_count(counts, QUESTIONS, b"questions ");
+    write_count(counts, HALVES, b"halves ");
+    write_count(counts, OFFENDING, b"offending ");
+    write_count(counts, SECONDS, b"seconds lost ");
     write_count(counts, MISMATCHES, b"mismatches ");
 }

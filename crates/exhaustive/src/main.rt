@@ -7,22 +7,28 @@ use careful::front;
 use careful::plus;
 use checks::check_choice;
 use checks::check_extend;
+use checks::check_halves;
 use checks::check_join;
 use checks::check_lookups;
 use checks::check_plan;
 use counts::write_counts;
+use trial_orders::HALVES_KINDS;
 use trial_orders::KINDS;
 use trial_orders::Kind;
+use trial_orders::draw_damage;
 use trial_orders::draw_free;
 use trial_orders::draw_look;
 use trial_orders::draw_order;
 use trial_orders::draw_profile;
+use trial_orders::halves_kind_of;
 use trial_orders::kind_of;
 
-// How many rounds there are, and the first seed.
+// How many rounds there are, the first seed, and that of the orders of halves.
 const ROUNDS: u64 = 1_200;
 
 const SEED: u64 = 20_261_115;
+
+const HALVES_SEED: u64 = 31_326_063;
 
 // Two orders planned, and chosen between at a time, at the bus-free time of the first one's plan and the
 // second before.
@@ -79,20 +85,35 @@ fn try_profiles(kind: Kind, seed: &mut u64, counts: &mut [u64]) {
     compare_profiles(one, other, front(&jobs, size), t0, counts);
 }
 
+// An order of halves drawn, damaged or not, and compared.
+fn try_halves(kind: Kind, seed: &mut u64, counts: &mut [u64]) {
+    let mut jobs = [0; 60];
+    let t0 = draw_free(seed, kind);
+    let size = draw_order(seed, kind, &mut jobs);
+    draw_damage(seed, kind, &mut jobs, size);
+    check_halves(front(&jobs, size), t0, counts);
+}
+
 // All rounds, the kinds in turn.
 fn play_rounds(counts: &mut [u64]) {
     let mut seed = SEED;
+    let mut halves_seed = HALVES_SEED;
     let mut left = ROUNDS;
     while left > 0 {
         left -= 1;
         let kind = kind_of(left % KINDS);
         try_orders(kind, &mut seed, counts);
         try_profiles(kind, &mut seed, counts);
+        try_halves(
+            halves_kind_of(left % HALVES_KINDS),
+            &mut halves_seed,
+            counts,
+        );
     }
 }
 
 fn main() {
-    let mut counts = [0; 7];
+    let mut counts = [0; 10];
     play_rounds(&mut counts);
     write_counts(&counts);
 }

@@ -7,10 +7,10 @@ use Rattle.exhaustive.proofs.play_rounds.Statement.{statement}
 use Rattle.exhaustive.proofs.play_rounds.Tie as tie
 
 abbrev Inv-loop : tie.InvT-loop
-Inv-loop counts₀ seed₀ left₀ counts seed left = length counts ≡ length counts₀
+Inv-loop counts₀ seed₀ halves-seed₀ left₀ counts seed halves-seed left = length counts ≡ length counts₀
 
 abbrev μ-loop : tie.MeasureT-loop
-μ-loop counts₀ seed₀ left₀ counts seed left = left
+μ-loop counts₀ seed₀ halves-seed₀ left₀ counts seed halves-seed left = left
 
 loop-holds : tie.Need-loop-holds Inv-loop μ-loop
 loop-holds c = omega arith
@@ -26,6 +26,12 @@ try-orders-requires c κs = tt
 
 try-profiles-requires : tie.Need-try-profiles-requires Inv-loop μ-loop
 try-profiles-requires c κs = tt
+
+halves-kind-of-requires : tie.Need-halves-kind-of-requires Inv-loop μ-loop
+halves-kind-of-requires c κs = tt
+
+try-halves-requires : tie.Need-try-halves-requires Inv-loop μ-loop
+try-halves-requires c κs = tt
 
 loop-less : tie.Need-loop-less Inv-loop μ-loop
 loop-less c = omega arith
@@ -50,6 +56,8 @@ play-rounds-spec =
     kind-of-requires
     try-orders-requires
     try-profiles-requires
+    halves-kind-of-requires
+    try-halves-requires
     loop-less
     loop-again
     same-length
