@@ -13,9 +13,9 @@
  * Lengths count elements: bytes of an order, numbers of a list, records of a list of points. A buffer may be
  * longer than a call needs; what lies past the part needed stays as it was. No call allocates or keeps a pointer.
  *
- * Of several refusals the lowest number is given; those of a second opening, 1 to 9, come after all of the
- * first's (R25). In a refused answer every figure is 0 but the refusal, the place for 6 and 7, and where a reader
- * stands (R26).
+ * Of several refusals the lowest number is given, but for 13, which comes after 9 and before 10; those of a second
+ * opening, 1 to 9, come after all of the first's (R25). In a refused answer every figure is 0 but the refusal, the
+ * place for 6, 7 and 13, and where a reader stands (R26).
  *
  * The work area's first LEAFANCHOR_WORK_AREA numbers are 0 after every call that has one and passes refusal
  * 10, refused with 11 or not (R29). */
@@ -33,7 +33,7 @@ extern "C" {
  * one rises then. */
 #define LEAFANCHOR_VERSION_MAJOR 0
 /** The version's second figure: it rises when something is added. */
-#define LEAFANCHOR_VERSION_MINOR 2
+#define LEAFANCHOR_VERSION_MINOR 3
 /** The version's third figure: it rises when something is mended. */
 #define LEAFANCHOR_VERSION_PATCH 0
 /** The version as text, "MAJOR.MINOR.PATCH". */
@@ -54,15 +54,18 @@ extern "C" {
 #define LEAFANCHOR_MUST_USE
 #endif
 
-#define LEAFANCHOR_MOST_JOBS 48      /**< jobs of one order, at most */
-#define LEAFANCHOR_ORDER_BYTES 388   /**< bytes of the longest packed order: 4 + 8 a job */
-#define LEAFANCHOR_JOB_NUMBERS 6     /**< numbers of an unpacked job, those of leafanchor_job in its order */
-#define LEAFANCHOR_ORDER_NUMBERS 288 /**< numbers of the longest unpacked order */
-#define LEAFANCHOR_STARTS 48         /**< starts of the longest plan */
-#define LEAFANCHOR_PROFILE_ROOM 602  /**< numbers that extend and better-of ask room for: 301 points */
-#define LEAFANCHOR_WORK_AREA 14749   /**< numbers of the work area that planning is lent */
-#define LEAFANCHOR_LEFT_OUT 200000   /**< the start of a job that is left out */
-#define LEAFANCHOR_REST 15           /**< seconds from a job's finish until the bus is free */
+#define LEAFANCHOR_MOST_JOBS 48          /**< jobs of one order, at most */
+#define LEAFANCHOR_ORDER_BYTES 388       /**< bytes of the longest packed order: 4 + 8 a job */
+#define LEAFANCHOR_JOB_NUMBERS 6         /**< numbers of an unpacked job, those of leafanchor_job in its order */
+#define LEAFANCHOR_ORDER_NUMBERS 288     /**< numbers of the longest unpacked order */
+#define LEAFANCHOR_STARTS 48             /**< starts of the longest plan */
+#define LEAFANCHOR_PROFILE_ROOM 602      /**< numbers that extend and better-of ask room for: 301 points */
+#define LEAFANCHOR_WORK_AREA 14749       /**< numbers of the work area that planning is lent */
+#define LEAFANCHOR_LEFT_OUT 200000       /**< the start of a job that is left out */
+#define LEAFANCHOR_REST 15               /**< seconds from a job's finish until the bus is free */
+#define LEAFANCHOR_HIGHEST_HALF 31       /**< the highest number of a critical half */
+#define LEAFANCHOR_HALVES_APART 32       /**< an optional half's number less that of its critical half */
+#define LEAFANCHOR_SECONDS_PER_WEIGHT 60 /**< seconds that an optional half takes for each weight */
 
 /** Why a call refused (R24); 0 where it did not. */
 enum leafanchor_refusal {
@@ -78,7 +81,8 @@ enum leafanchor_refusal {
     LEAFANCHOR_TOO_MUCH_WEIGHT = 9,       /**< the weights sum to more than 300 */
     LEAFANCHOR_BUFFER_TOO_SHORT = 10,     /**< a buffer is too short */
     LEAFANCHOR_NO_FEASIBLE_CHOICE = 11,   /**< no choice is feasible (choosing: neither has a point by t) */
-    LEAFANCHOR_CELL_TOO_COLD = 12         /**< the cell is below -30 degrees */
+    LEAFANCHOR_CELL_TOO_COLD = 12,        /**< the cell is below -30 degrees */
+    LEAFANCHOR_NOT_OF_HALVES = 13         /**< the order is not of halves; the place is the first offending job's */
 };
 
 /** A phrase for a person.
@@ -101,6 +105,7 @@ static inline const char *leafanchor_phrase(uint32_t refusal)
     case LEAFANCHOR_BUFFER_TOO_SHORT: return "a buffer is too short";
     case LEAFANCHOR_NO_FEASIBLE_CHOICE: return "no choice is feasible";
     case LEAFANCHOR_CELL_TOO_COLD: return "the cell is below -30 degrees";
+    case LEAFANCHOR_NOT_OF_HALVES: return "the order is not of halves";
     default: return "no such refusal";
     }
 }
@@ -184,6 +189,19 @@ typedef struct leafanchor_plan_answer {
                            * where none is kept */
     uint32_t points;      /**< in the profiles of the order's prefixes, together */
 } leafanchor_plan_answer;
+
+/** What planning halves gives beside the starts: the figures of planning, and the optional seconds lost. */
+typedef struct leafanchor_halves_answer {
+    uint32_t refusal;      /**< 1 to 7, 9 to 11, 13 or 0 */
+    size_t place;          /**< of the refused job, for 6, 7 and 13 */
+    uint64_t mask;         /**< the jobs kept, the highest bit for place 0 */
+    uint32_t kept;         /**< how many are kept */
+    uint32_t kept_weight;  /**< of the jobs kept */
+    uint32_t lost_weight;  /**< of the jobs left out */
+    int32_t finish;        /**< when the bus is free after the plan, as in leafanchor_plan_answer */
+    uint32_t points;       /**< in the profiles of the order's prefixes, together */
+    uint32_t seconds_lost; /**< the lengths of the non-critical jobs left out, added */
+} leafanchor_halves_answer;
 
 /** Which opening is worth more. */
 typedef struct leafanchor_question_answer {
@@ -298,6 +316,21 @@ leafanchor_extend_answer leafanchor_extend(const int32_t *profile, size_t profil
 LEAFANCHOR_MUST_USE
 leafanchor_plan_answer leafanchor_plan(const uint8_t *order, size_t order_len, int32_t *starts, size_t starts_len,
                                        int32_t *work, size_t work_len);
+
+/** Plans an order of halves as leafanchor_plan does, and tells the optional seconds lost (R34). Refusals 1 to 7, 9 to
+ * 11 and 13 write no start; 13 is judged after 9, whatever the buffers.
+ * @param order the packed order: each non-critical job comes behind the critical one whose optional half it is, its
+ * number LEAFANCHOR_HALVES_APART above that one's, its length LEAFANCHOR_SECONDS_PER_WEIGHT times its weight; no
+ * critical job is numbered above LEAFANCHOR_HIGHEST_HALF
+ * @param order_len its bytes
+ * @param starts written: the start of each job, LEAFANCHOR_LEFT_OUT for a job left out
+ * @param starts_len room for one start a job
+ * @param work the work area
+ * @param work_len room for LEAFANCHOR_WORK_AREA numbers
+ * @return what planning gives, and the optional seconds lost */
+LEAFANCHOR_MUST_USE
+leafanchor_halves_answer leafanchor_plan_halves(const uint8_t *order, size_t order_len, int32_t *starts,
+                                                size_t starts_len, int32_t *work, size_t work_len);
 
 /** Asks which of two openings is worth more at a time; equal goes to the first (R17). Refusals 1 to 7 and 9 of
  * either opening, 10 and 11 name no winner. Which opening one of 1 to 9 is about: plan the first alone. It gives that
@@ -483,6 +516,11 @@ static inline leafanchor_lookup_answer leafanchor_profile_lookup(const leafancho
     OFFSET(plan_answer, refusal, 0) OFFSET(plan_answer, place, 8) OFFSET(plan_answer, mask, 16)               \
     OFFSET(plan_answer, kept, 24) OFFSET(plan_answer, kept_weight, 28) OFFSET(plan_answer, lost_weight, 32)   \
     OFFSET(plan_answer, finish, 36) OFFSET(plan_answer, points, 40)                                           \
+    SIZE(halves_answer, 48)                                                                                   \
+    OFFSET(halves_answer, refusal, 0) OFFSET(halves_answer, place, 8) OFFSET(halves_answer, mask, 16)         \
+    OFFSET(halves_answer, kept, 24) OFFSET(halves_answer, kept_weight, 28)                                    \
+    OFFSET(halves_answer, lost_weight, 32) OFFSET(halves_answer, finish, 36)                                  \
+    OFFSET(halves_answer, points, 40) OFFSET(halves_answer, seconds_lost, 44)                                 \
     SIZE(question_answer, 8)                                                                                  \
     OFFSET(question_answer, refusal, 0) OFFSET(question_answer, winner, 4)                                    \
     SIZE(choose_answer, 24)                                                                                   \
@@ -515,6 +553,7 @@ LEAFANCHOR_HAS_SIZE(profile, 2416)
 LEAFANCHOR_HOLDS(LEAFANCHOR_ORDER_BYTES == 4 + 8 * LEAFANCHOR_MOST_JOBS, "bytes of an order")
 LEAFANCHOR_HOLDS(LEAFANCHOR_ORDER_NUMBERS == LEAFANCHOR_JOB_NUMBERS * LEAFANCHOR_MOST_JOBS, "numbers of an order")
 LEAFANCHOR_HOLDS(LEAFANCHOR_STARTS == LEAFANCHOR_MOST_JOBS, "starts of a plan")
+LEAFANCHOR_HOLDS(LEAFANCHOR_HALVES_APART == LEAFANCHOR_HIGHEST_HALF + 1, "numbers of halves")
 LEAFANCHOR_HOLDS(LEAFANCHOR_PROFILE_ROOM == 2 * 301, "numbers of a profile")
 LEAFANCHOR_HOLDS(LEAFANCHOR_PROFILE_ROOM >= LEAFANCHOR_ORDER_NUMBERS, "an order unpacks into a profile's room")
 LEAFANCHOR_HOLDS(LEAFANCHOR_WORK_AREA == (1 + LEAFANCHOR_MOST_JOBS) * 301, "numbers of the work area")
