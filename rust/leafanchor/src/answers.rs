@@ -99,22 +99,6 @@ answers! {
         /// Points written, two numbers each.
         points: usize,
     }
-    /// The answer of [`plan`](crate::calls::plan).
-    PlanAnswer(refusal, place) {
-        /// The jobs kept, the highest bit for place 0.
-        mask: u64,
-        /// How many jobs are kept.
-        kept: u32,
-        /// The weight of the jobs kept.
-        kept_weight: u32,
-        /// The weight of the jobs left out.
-        lost_weight: u32,
-        /// When the bus is free after the plan: 15 seconds after the last kept job's finish, t0 where none is
-        /// kept.
-        finish: i32,
-        /// The points in the profiles of the order's prefixes, together.
-        points: u32,
-    }
     /// The answer of [`question`](crate::calls::question).
     QuestionAnswer(refusal) {
         /// 1 or 2, 0 if refused.
@@ -128,6 +112,59 @@ answers! {
         offset: usize,
         /// How many bytes they are.
         length: usize,
+    }
+}
+
+/// Declares the answers that have a plan's figures, each with what it tells behind them.
+macro_rules! plan_answers {
+    ($($(#[$about:meta])* $name:ident { $($more:tt)* })*) => {
+        answers! {
+            $(
+                $(#[$about])*
+                $name(refusal, place) {
+                    /// The jobs kept, the highest bit for place 0.
+                    mask: u64,
+                    /// How many jobs are kept.
+                    kept: u32,
+                    /// The weight of the jobs kept.
+                    kept_weight: u32,
+                    /// The weight of the jobs left out.
+                    lost_weight: u32,
+                    /// When the bus is free after the plan: 15 seconds after the last kept job's finish, t0
+                    /// where none is kept.
+                    finish: i32,
+                    /// The points in the profiles of the order's prefixes, together.
+                    points: u32,
+                    $($more)*
+                }
+            )*
+        }
+    };
+}
+
+plan_answers! {
+    /// The answer of [`plan`](crate::calls::plan).
+    PlanAnswer {}
+    /// The answer of [`plan_halves`](crate::calls::plan_halves).
+    HalvesAnswer {
+        /// The optional seconds lost: the lengths of the non-critical jobs left out, added.
+        seconds_lost: u32,
+    }
+}
+
+impl From<HalvesAnswer> for PlanAnswer {
+    /// What is told beside the seconds lost.
+    fn from(answer: HalvesAnswer) -> Self {
+        PlanAnswer {
+            refusal: answer.refusal,
+            place: answer.place,
+            mask: answer.mask,
+            kept: answer.kept,
+            kept_weight: answer.kept_weight,
+            lost_weight: answer.lost_weight,
+            finish: answer.finish,
+            points: answer.points,
+        }
     }
 }
 

@@ -8,8 +8,8 @@
 #![allow(unsafe_code)]
 
 use crate::answers::{
-    BetterAnswer, ChooseAnswer, ExtendAnswer, HeatAnswer, LookupAnswer, OpenAnswer, PackAnswer, PlanAnswer,
-    Point, QuestionAnswer, StepAnswer, UnpackAnswer,
+    BetterAnswer, ChooseAnswer, ExtendAnswer, HalvesAnswer, HeatAnswer, LookupAnswer, OpenAnswer, PackAnswer,
+    PlanAnswer, Point, QuestionAnswer, StepAnswer, UnpackAnswer,
 };
 
 #[rustfmt::skip]
@@ -36,6 +36,10 @@ extern "C" {
         order: *const u8, order_len: usize, starts: *mut i32, starts_len: usize,
         work: *mut i32, work_len: usize,
     ) -> PlanAnswer;
+    fn leafanchor_plan_halves(
+        order: *const u8, order_len: usize, starts: *mut i32, starts_len: usize,
+        work: *mut i32, work_len: usize,
+    ) -> HalvesAnswer;
     fn leafanchor_question(
         first: *const u8, first_len: usize, second: *const u8, second_len: usize, t: i32,
         work: *mut i32, work_len: usize,
@@ -124,6 +128,22 @@ pub fn plan(order: &[u8], starts: &mut [i32], work: &mut [i32]) -> PlanAnswer {
     // SAFETY: the order is only read; starts and work are each lent alone; the lengths are the slices' own.
     unsafe {
         leafanchor_plan(
+            order.as_ptr(),
+            order.len(),
+            starts.as_mut_ptr(),
+            starts.len(),
+            work.as_mut_ptr(),
+            work.len(),
+        )
+    }
+}
+
+/// Plans an order of halves as [`plan`] does, and tells the optional seconds lost (R34). Refusals 1 to 7, 9,
+/// then 13, whatever the buffers, then 10 and 11.
+pub fn plan_halves(order: &[u8], starts: &mut [i32], work: &mut [i32]) -> HalvesAnswer {
+    // SAFETY: as for `plan`.
+    unsafe {
+        leafanchor_plan_halves(
             order.as_ptr(),
             order.len(),
             starts.as_mut_ptr(),

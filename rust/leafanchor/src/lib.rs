@@ -2,9 +2,10 @@
 //! libleafanchor.a.
 //!
 //! An [`Order`] is packed bytes that the library has checked once, or that it has packed from [`Job`]s. It
-//! gives its jobs, its [`Plan`] and its [`Profile`]; profiles are extended, joined and looked up. Whatever is
-//! not in order is a [`Refusal`]. Nothing here allocates but [`WorkArea::boxed`]; planning works in the
-//! caller's [`WorkArea`]. Times are whole signed seconds.
+//! gives its jobs, its [`Plan`] and its [`Profile`], and where its checks are split into halves its
+//! [`HalvesPlan`]; profiles are extended, joined and looked up. Whatever is not in order is a [`Refusal`].
+//! Nothing here allocates but [`WorkArea::boxed`]; planning works in the caller's [`WorkArea`]. Times are whole
+//! signed seconds.
 //!
 //! A job's finish is its start plus its length. The contactor rests 15 seconds after every job: the bus is
 //! free 15 seconds after the finish, and the next job kept starts then at the earliest. A deadline binds the
@@ -60,7 +61,7 @@ pub use answers::Point;
 pub use job::Job;
 pub use openings::{choose, question, Opening, Winner};
 pub use order::Order;
-pub use plan::{KeptPlaces, Plan};
+pub use plan::{HalvesPlan, KeptPlaces, Plan};
 pub use profile::Profile;
 pub use reader::Reader;
 pub use refusal::Refusal;
@@ -83,11 +84,12 @@ pub use work::WorkArea;
 /// ```
 pub mod calls {
     pub use crate::answers::{
-        BetterAnswer, ChooseAnswer, ExtendAnswer, HeatAnswer, LookupAnswer, OpenAnswer, PackAnswer,
-        PlanAnswer, Point, QuestionAnswer, StepAnswer, UnpackAnswer,
+        BetterAnswer, ChooseAnswer, ExtendAnswer, HalvesAnswer, HeatAnswer, LookupAnswer, OpenAnswer,
+        PackAnswer, PlanAnswer, Point, QuestionAnswer, StepAnswer, UnpackAnswer,
     };
     pub use crate::ffi::{
-        better_of, choose, extend, heat_up, lookup, lookup_records, open, pack, plan, question, step, unpack,
+        better_of, choose, extend, heat_up, lookup, lookup_records, open, pack, plan, plan_halves, question,
+        step, unpack,
     };
 }
 
@@ -111,6 +113,12 @@ pub const WORK_AREA: usize = (MOST_JOBS + 1) * MOST_POINTS;
 pub const LEFT_OUT: i32 = 200_000;
 /// Seconds from a job's finish until the bus is free.
 pub const REST: i32 = 15;
+/// The highest number of a critical half.
+pub const HIGHEST_HALF: i32 = 31;
+/// An optional half's number less that of its critical half.
+pub const HALVES_APART: i32 = 32;
+/// Seconds that an optional half takes for each weight.
+pub const SECONDS_PER_WEIGHT: i32 = 60;
 
 /// The seconds of heating for the sampler's byte, which is a signed number of degrees (R19, R20).
 ///

@@ -2,7 +2,7 @@
 
 use crate::calls;
 use crate::job::Job;
-use crate::plan::Plan;
+use crate::plan::{HalvesPlan, Plan};
 use crate::profile::Profile;
 use crate::refusal::Refusal;
 use crate::work::WorkArea;
@@ -109,5 +109,17 @@ impl<'a> Order<'a> {
     /// Refusal 11 if no choice is feasible.
     pub fn plan(self, work: &mut WorkArea) -> Result<Plan, Refusal> {
         Plan::of(self, work)
+    }
+
+    /// The same for an order of halves, and the optional seconds that the plan loses (R34). Long checks are
+    /// split into a critical half and an optional one: each non-critical job comes behind the critical one
+    /// whose optional half it is, its number [`HALVES_APART`](crate::HALVES_APART) above that one's and its
+    /// length [`SECONDS_PER_WEIGHT`](crate::SECONDS_PER_WEIGHT) times its weight, and no critical job is
+    /// numbered above [`HIGHEST_HALF`](crate::HIGHEST_HALF).
+    ///
+    /// # Errors
+    /// Refusal 13 with the place of the first job that does not fit this; else 11 if no choice is feasible.
+    pub fn plan_halves(self, work: &mut WorkArea) -> Result<HalvesPlan, Refusal> {
+        HalvesPlan::of(self, work)
     }
 }

@@ -1,11 +1,12 @@
-//! The plan that loses the least weight (R7 to R10).
+//! The plan that loses the least weight (R7 to R10), and that of an order of halves (R34).
 
-use crate::calls;
+use crate::calls::{self, PlanAnswer};
 use crate::order::Order;
 use crate::refusal::Refusal;
 use crate::work::WorkArea;
 use crate::{LEFT_OUT, MOST_JOBS};
 use core::iter::FusedIterator;
+use core::ops::Deref;
 
 /// The plan of an order: its figures, and for each job its start or none.
 ///
@@ -46,7 +47,12 @@ impl Plan {
     pub(crate) fn of(order: Order<'_>, work: &mut WorkArea) -> Result<Self, Refusal> {
         let mut starts = [0; MOST_JOBS];
         let answer = calls::plan(order.bytes(), &mut starts, work.numbers()).accepted()?;
-        Ok(Plan {
+        Ok(Plan::told(order, answer, starts))
+    }
+
+    /// The plan that an accepted answer and the starts beside it tell.
+    fn told(order: Order<'_>, answer: PlanAnswer, starts: [i32; MOST_JOBS]) -> Self {
+        Plan {
             mask: answer.mask,
             kept: answer.kept,
             kept_weight: answer.kept_weight,
@@ -55,7 +61,7 @@ impl Plan {
             points: answer.points,
             jobs: order.count(),
             starts,
-        })
+        }
     }
 
     /// The starts in place order, one a job: none for a job left out.
@@ -80,6 +86,55 @@ impl Plan {
     #[must_use]
     pub fn kept_places(&self) -> KeptPlaces {
         KeptPlaces(self.mask)
+    }
+}
+
+/// The plan of an order of halves: all that a [`Plan`] gives, and the optional seconds lost.
+///
+/// ```
+/// use leafanchor::{Job, Order, WorkArea, ORDER_BYTES};
+///
+/// // Check 4, whose optional half is job 36, and check 9, whose optional half is job 41: a minute a weight.
+/// let jobs = [
+///     Job::critical(4, -900, 300, -300),
+///     Job::optional(36, 5, -900, 300, 0),
+///     Job::critical(9, -900, 200, 0),
+///     Job::optional(41, 8, -900, 480, 300),
+/// ];
+/// let mut room = [0; ORDER_BYTES];
+/// let plan = Order::pack(-900, &jobs, &mut room)?.plan_halves(&mut WorkArea::new())?;
+/// assert!(plan.starts().eq([Some(-900), None, Some(-585), Some(-370)]));
+/// assert_eq!((plan.lost_weight, plan.seconds_lost(), plan.finish), (5, 300, 125));
+/// # Ok::<(), leafanchor::Refusal>(())
+/// ```
+#[derive(Clone, Copy, Debug, PartialEq, Eq, Hash)]
+#[must_use]
+pub struct HalvesPlan {
+    plan: Plan,
+    seconds_lost: u32,
+}
+
+impl HalvesPlan {
+    /// The plan of an order of halves.
+    pub(crate) fn of(order: Order<'_>, work: &mut WorkArea) -> Result<Self, Refusal> {
+        let mut starts = [0; MOST_JOBS];
+        let answer = calls::plan_halves(order.bytes(), &mut starts, work.numbers()).accepted()?;
+        Ok(HalvesPlan { plan: Plan::told(order, answer.into(), starts), seconds_lost: answer.seconds_lost })
+    }
+
+    /// The optional seconds lost: the lengths of the non-critical jobs left out, added.
+    #[must_use]
+    pub const fn seconds_lost(&self) -> u32 {
+        self.seconds_lost
+    }
+}
+
+impl Deref for HalvesPlan {
+    type Target = Plan;
+
+    /// The plan without the seconds lost.
+    fn deref(&self) -> &Plan {
+        &self.plan
     }
 }
 

@@ -6,7 +6,8 @@ use core::fmt;
 /// person.
 macro_rules! refusals {
     ($($number:literal $name:ident $({ $place:ident })? $phrase:literal,)*) => {
-        /// Why a call refused. Where several reasons apply, the one of the lowest number is given.
+        /// Why a call refused. Where several reasons apply, the one of the lowest number is given, but for 13,
+        /// which comes after 9 and before 10.
         ///
         /// Later versions may add reasons, and figures to the reasons that are about one job.
         ///
@@ -97,6 +98,7 @@ refusals! {
     10 BufferTooShort "a buffer is too short",
     11 NoFeasibleChoice "no choice is feasible",
     12 CellTooCold "the cell is below -30 degrees",
+    13 NotOfHalves { place } "the job at place {place} does not fit an order of halves",
 }
 
 #[cfg(feature = "std")]
@@ -112,7 +114,7 @@ mod tests {
         for number in (1..=40).chain([u32::MAX]) {
             assert_eq!(Refusal::check(number, 3).unwrap_err().number(), number);
         }
-        for number in [6, 7, u32::MAX] {
+        for number in [6, 7, 13, u32::MAX] {
             assert_eq!(Refusal::check(number, 3).unwrap_err().place(), 3);
         }
         assert_eq!(Refusal::check(9, 3), Err(Refusal::TooMuchWeight));
