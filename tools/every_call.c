@@ -1,6 +1,6 @@
-/* Calls every function of the header, on the worked figures P1 to P11 and at the edges of the rest, and says which
- * answer differs. That the header declares what the library defines, and that its own calls over jobs and profiles
- * give what the plain ones give, is seen here from C. Compiles as C11 and as C++17. */
+/* Calls every function of the header, on the worked figures P1 to P11, at the edges of the rest and on orders of
+ * halves, and says which answer differs. That the header declares what the library defines, and that its own calls
+ * over jobs and profiles give what the plain ones give, is seen here from C. Compiles as C11 and as C++17. */
 #include "leafanchor.h"
 
 #include <stdio.h>
@@ -190,6 +190,53 @@ static void latest(void)
     CHECK(leafanchor_pack(plan.finish, p1, 0, bytes, 4).refusal == LEAFANCHOR_BUS_FREE_OUT_OF_RANGE);
 }
 
+/* The worked order of halves, bus free at -900: checks 4 and 9, each with its optional half. */
+static leafanchor_job worked[] = {
+    {4, 1, 0, -900, 300, -300}, {36, 0, 5, -900, 300, 0}, {9, 1, 0, -900, 200, 0}, {41, 0, 8, -900, 480, 300}};
+static uint8_t halves[LEAFANCHOR_ORDER_BYTES];
+
+/* The plan of the worked order as it then is, as halves, with this much room. */
+static leafanchor_halves_answer of_halves(size_t starts_len, size_t work_len)
+{
+    size_t length = leafanchor_pack_jobs(-900, worked, 4, halves, LEAFANCHOR_ORDER_BYTES).bytes;
+    return leafanchor_plan_halves(halves, length, starts, starts_len, work, work_len);
+}
+
+/* The plan of the worked order, with its starts and the optional seconds lost, and rooms that are too short. */
+static void plans_of_halves(void)
+{
+    static const int32_t wanted[] = {-900, LEAFANCHOR_LEFT_OUT, -585, -370};
+    leafanchor_halves_answer plan = of_halves(LEAFANCHOR_STARTS, LEAFANCHOR_WORK_AREA);
+    CHECK(plan.refusal == 0 && plan.place == 0 && plan.mask == UINT64_C(0xB000000000000000));
+    CHECK(plan.kept == 3 && plan.kept_weight == 8 && plan.lost_weight == 5);
+    CHECK(plan.finish == 125 && plan.points == 8 && plan.seconds_lost == 300);
+    CHECK(memcmp(starts, wanted, sizeof wanted) == 0);
+    plan = of_halves(3, LEAFANCHOR_WORK_AREA);
+    CHECK(plan.refusal == LEAFANCHOR_BUFFER_TOO_SHORT && plan.mask == 0 && plan.seconds_lost == 0);
+    CHECK(of_halves(4, LEAFANCHOR_WORK_AREA - 1).refusal == LEAFANCHOR_BUFFER_TOO_SHORT);
+    CHECK(worked[3].number == worked[2].number + LEAFANCHOR_HALVES_APART);
+    CHECK(worked[3].length == LEAFANCHOR_SECONDS_PER_WEIGHT * worked[3].weight);
+}
+
+/* What is not of halves: refused with its place whatever the buffers, and planned by the other call. */
+static void not_of_halves(void)
+{
+    worked[3].length = 481;
+    leafanchor_halves_answer plan = of_halves(0, 0);
+    CHECK(plan.refusal == LEAFANCHOR_NOT_OF_HALVES && plan.place == 3 && plan.lost_weight == 0);
+    CHECK(leafanchor_plan(halves, 36, starts, 4, work, LEAFANCHOR_WORK_AREA).refusal == LEAFANCHOR_NONE);
+    worked[2].number = LEAFANCHOR_HIGHEST_HALF + 1;
+    plan = of_halves(4, LEAFANCHOR_WORK_AREA);
+    CHECK(plan.refusal == LEAFANCHOR_NOT_OF_HALVES && plan.place == 2);
+    worked[1].number = 37;
+    plan = of_halves(4, LEAFANCHOR_WORK_AREA);
+    CHECK(plan.refusal == LEAFANCHOR_NOT_OF_HALVES && plan.place == 1);
+    plan = leafanchor_plan_halves(order, 44, starts, 5, work, LEAFANCHOR_WORK_AREA); /* P1 */
+    CHECK(plan.refusal == LEAFANCHOR_NOT_OF_HALVES && plan.place == 1);
+    CHECK(strcmp(leafanchor_phrase(13), "the order is not of halves") == 0);
+    CHECK(strcmp(leafanchor_phrase(14), "no such refusal") == 0);
+}
+
 /* P1 as the first opening against an order of no jobs, and the other way round. */
 static void openings(void)
 {
@@ -212,7 +259,6 @@ static void heat_up(void)
     CHECK(leafanchor_heat_up(226).seconds == 3300);
     CHECK(leafanchor_heat_up(225).refusal == LEAFANCHOR_CELL_TOO_COLD && leafanchor_heat_up(225).seconds == 0);
     CHECK(strcmp(leafanchor_phrase(12), "the cell is below -30 degrees") == 0);
-    CHECK(strcmp(leafanchor_phrase(13), "no such refusal") == 0);
 }
 
 /* The version's text is its figures. */
@@ -233,6 +279,8 @@ int main(void)
     held_profiles();
     rest();
     latest();
+    plans_of_halves();
+    not_of_halves();
     openings();
     heat_up();
     version();

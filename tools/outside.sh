@@ -1,6 +1,6 @@
 #!/bin/sh
 # Everything outside Rattle, against the library of tools/native.sh on the machine at hand: the header from C and
-# C++, the Rust wrapper, both examples, the comparison of every call with an independent reference, and the stack use
+# C++, the Rust wrapper, the examples, the comparison of every call with an independent reference, and the stack use
 # of every call. On a machine that is not x86-64 then the same against the shipped library, which is for x86-64: a
 # cross compiler makes the programs and an emulator runs them. `tools/outside.sh MACHINE` holds the library for that
 # machine alone, x86_64 or aarch64. `tools/outside.sh tools` only sees to it that the compilers and the emulator
@@ -103,6 +103,7 @@ hold_c() {
     compile_both layout tools/layout.c
     compile_both every_call tools/every_call.c
     compile_both plan_p1 examples/plan_p1.c
+    compile_both plan_halves examples/plan_halves.c
     for made in c11 cxx17; do
         $emulator "$out/every_call.$made"
         $emulator "$out/layout.$made" >"$out/layout.$made.txt"
@@ -151,6 +152,14 @@ hold_p1() {
     done
 }
 
+hold_halves() {
+    say "the worked order of halves from C and C++"
+    for made in c11 cxx17; do
+        $emulator "$out/plan_halves.$made" >"$out/halves.txt"
+        cmp "$out/halves.txt" examples/halves.expected || die "plan_halves.$made does not print examples/halves.expected"
+    done
+}
+
 hold_calls() {
     say "every call against the reference"
     in_cargo build -p outside
@@ -188,6 +197,7 @@ for machine in "$@"; do
     hold_wrapper
     [ -n "$emulator" ] || hold_build_script
     hold_p1
+    hold_halves
     hold_calls
     hold_stack
 done

@@ -60,6 +60,10 @@ static uint32_t plan(size_t i)
 {
     return leafanchor_plan(orders[i], bytes[i], starts, LEAFANCHOR_STARTS, work, LEAFANCHOR_WORK_AREA).refusal;
 }
+static uint32_t plan_halves(size_t i)
+{
+    return leafanchor_plan_halves(orders[i], bytes[i], starts, LEAFANCHOR_STARTS, work, LEAFANCHOR_WORK_AREA).refusal;
+}
 static uint32_t question(size_t i)
 {
     return leafanchor_question(orders[i], bytes[i], orders[0], bytes[0], 9000, work, LEAFANCHOR_WORK_AREA).refusal;
@@ -90,8 +94,8 @@ static uint32_t profile_lookup(size_t i) { return leafanchor_profile_lookup(&hel
 static const struct { const char *name; call *run; } calls[] = {
     {"heat_up", heat_up}, {"unpack", unpack}, {"pack", pack}, {"open", open}, {"step", step}, {"lookup", lookup},
     {"lookup_records", lookup_records}, {"better_of", better_of}, {"extend", extend}, {"plan", plan},
-    {"question", question}, {"choose", choose}, {"unpack_jobs", unpack_jobs}, {"pack_jobs", pack_jobs},
-    {"profile_of_order", profile_of_order}, {"profile_extended", profile_extended},
+    {"plan_halves", plan_halves}, {"question", question}, {"choose", choose}, {"unpack_jobs", unpack_jobs},
+    {"pack_jobs", pack_jobs}, {"profile_of_order", profile_of_order}, {"profile_extended", profile_extended},
     {"profile_better", profile_better}, {"profile_lookup", profile_lookup}};
 
 /* Ends the program where the system refuses something. */
@@ -143,20 +147,23 @@ static size_t deepest(call *run)
     return most;
 }
 
-/* 48 jobs with windows that overlap; packed with 48, 24, 1 and no jobs, and one order that is refused. */
+/* 48 jobs with windows that overlap, critical halves and behind each its optional one, so that every call goes all the
+ * way; packed with 48, 24, 1 and no jobs, and one order that is refused. */
 static void make_inputs(void)
 {
     static const size_t counts[INPUTS] = {48, 24, 1, 0, 48};
     for (int32_t place = 0; place < LEAFANCHOR_MOST_JOBS; place++) {
-        const int32_t job[] = {place, 0, 6, 100 * place, 150, 100 * place + 1000};
-        memcpy(&numbers[LEAFANCHOR_JOB_NUMBERS * place], job, sizeof job);
+        const int32_t pair = place / 2, ready = 100 * place, deadline = ready + 1000;
+        const int32_t critical[] = {pair, 1, 0, ready, 150, deadline};
+        const int32_t optional[] = {pair + LEAFANCHOR_HALVES_APART, 0, 12, ready, 720, deadline};
+        memcpy(&numbers[LEAFANCHOR_JOB_NUMBERS * place], place % 2 == 0 ? critical : optional, sizeof critical);
     }
     for (size_t input = 0; input < INPUTS; input++) {
         jobs[input] = counts[input];
         bytes[input] =
             leafanchor_pack(0, numbers, 6 * jobs[input], orders[input], LEAFANCHOR_ORDER_BYTES).bytes;
     }
-    orders[INPUTS - 1][4 + 8 * 47] ^= 0x04; /* the last job's number is now that of the one before it */
+    orders[INPUTS - 1][4 + 8 * 47] ^= 0x04; /* the last job's number is now that of an earlier one */
     for (int32_t point = 0; point < POINTS; point++) {
         profile[2 * point] = other[2 * point] = points[point].time = 3 * point;
         profile[2 * point + 1] = other[2 * point + 1] = points[point].weight = point;

@@ -1,16 +1,18 @@
-//! Prints the size of every answer and the offset of every field, as tools/layout.c does on the C side.
+//! Prints the size and alignment of every answer and the offset of every field, as tools/layout.c does on the C
+//! side.
 
 use leafanchor::calls::{
-    BetterAnswer, ChooseAnswer, ExtendAnswer, HeatAnswer, LookupAnswer, OpenAnswer, PackAnswer, PlanAnswer,
-    Point, QuestionAnswer, StepAnswer, UnpackAnswer,
+    BetterAnswer, ChooseAnswer, ExtendAnswer, HalvesAnswer, HeatAnswer, LookupAnswer, OpenAnswer, PackAnswer,
+    PlanAnswer, Point, QuestionAnswer, StepAnswer, UnpackAnswer,
 };
+use std::mem::{align_of, size_of};
 
-/// Prints one struct: its C name and size, then each field's offset.
+/// Prints one struct: its C name, size and alignment, then each field's offset.
 macro_rules! layout {
     ($kind:ty, $name:literal, $($field:ident),*) => {{
         let value = <$kind>::default();
         let start = &value as *const $kind as usize;
-        println!("{} {}", $name, std::mem::size_of::<$kind>());
+        println!("{} {}, aligned to {}", $name, size_of::<$kind>(), align_of::<$kind>());
         $(println!("{}.{} {}", $name, stringify!($field), &value.$field as *const _ as usize - start);)*
     }};
 }
@@ -40,6 +42,19 @@ pub fn print() {
     layout!(BetterAnswer, "better_answer", refusal, points);
     layout!(ExtendAnswer, "extend_answer", refusal, place, points);
     layout!(PlanAnswer, "plan_answer", refusal, place, mask, kept, kept_weight, lost_weight, finish, points);
+    layout!(
+        HalvesAnswer,
+        "halves_answer",
+        refusal,
+        place,
+        mask,
+        kept,
+        kept_weight,
+        lost_weight,
+        finish,
+        points,
+        seconds_lost
+    );
     layout!(QuestionAnswer, "question_answer", refusal, winner);
     layout!(ChooseAnswer, "choose_answer", refusal, winner, offset, length);
 }
