@@ -1,7 +1,8 @@
-//! Inputs of every kind: orders and profiles that are in range, and the same with one or two damages.
+//! Inputs of every kind: orders, orders of halves and profiles that are in range, and the same with one or two
+//! damages.
 
 use leafanchor::calls::Point;
-use trials::{order_of, packed, profile_of, Order, Random, Style};
+use trials::{halves_of, order_of, packed, profile_of, Job, Order, Random, Style};
 
 /// Numbers at and past the ends of ranges.
 const STRANGE: [i32; 18] = [
@@ -44,8 +45,17 @@ pub fn order(random: &mut Random) -> Order {
 
 /// An order in range of a given style and number of jobs.
 pub fn order_with(random: &mut Random, style: Style, n: usize) -> Order {
-    let most = if random.once_in(4) { 300 } else { random.within(n as i32, 300) };
+    let most = most_weight(random, n);
     order_of(random, style, n, most)
+}
+
+/// What the weights of `n` jobs may sum to.
+fn most_weight(random: &mut Random, n: usize) -> i32 {
+    if random.once_in(4) {
+        300
+    } else {
+        random.within(n as i32, 300)
+    }
 }
 
 /// An order whose jobs may repeat numbers, weigh too much or have a field out of range.
@@ -101,13 +111,70 @@ pub fn bytes(random: &mut Random) -> Vec<u8> {
             let length = random.one_of(&[0, 1, 2, 3, 4, 5, 12, 44, 388, 389, 2000]);
             (0..length).map(|_| random.bits() as u8).collect()
         }
-        _ => damaged_bytes(random),
+        _ => {
+            let bytes = packed(&order(random));
+            damaged_bytes(random, bytes)
+        }
     }
 }
 
-/// Packed bytes with one or two damages.
-fn damaged_bytes(random: &mut Random) -> Vec<u8> {
-    let mut bytes = packed(&order(random));
+/// An order of halves in range, of any style.
+pub fn halves(random: &mut Random) -> Order {
+    let n = count_of(random);
+    let style = random.one_of(&Style::ALL);
+    halves_with(random, style, n)
+}
+
+/// An order of halves in range of a given style and number of jobs.
+pub fn halves_with(random: &mut Random, style: Style, n: usize) -> Order {
+    let most = most_weight(random, n);
+    halves_of(random, style, n, most)
+}
+
+/// An order with one or two damages, each of which may make a job no half, at its place or at a later one.
+fn damaged_halves(random: &mut Random, mut order: Order) -> Order {
+    for _ in 0..1 + random.below(2) {
+        if order.jobs.is_empty() {
+            return order;
+        }
+        let (place, other) = (random.below(order.jobs.len()), random.below(order.jobs.len()));
+        match random.below(6) {
+            0 | 1 => order.jobs.swap(place, other),
+            2 => drop(order.jobs.remove(place)),
+            3 => order.jobs[place].length += random.one_of(&[-60, -1, 1, 60]),
+            4 => order.jobs[place].number = (order.jobs[place].number + random.one_of(&[63, 1, 32])) % 64,
+            _ => exchange_mark(random, &mut order.jobs[place]),
+        }
+    }
+    order
+}
+
+/// Makes a critical job an optional one of the length that belongs to its weight, and any other a critical one. A
+/// half then offends by its number.
+pub fn exchange_mark(random: &mut Random, job: &mut Job) {
+    job.critical = 1 - job.critical;
+    job.weight = 0;
+    if job.critical == 0 {
+        job.weight = random.within(1, 9);
+        job.length = 60 * job.weight;
+    }
+}
+
+/// Packed bytes of halves: in order, with jobs that are none, too heavy, or damaged anyhow.
+pub fn bytes_of_halves(random: &mut Random) -> Vec<u8> {
+    let order = match random.below(20) {
+        0 => halves_of(random, Style::Wide, 40, 600),
+        _ => halves(random),
+    };
+    match random.below(20) {
+        0..=7 => packed(&order),
+        8..=16 => packed(&damaged_halves(random, order)),
+        _ => damaged_bytes(random, packed(&order)),
+    }
+}
+
+/// These packed bytes with one or two damages.
+fn damaged_bytes(random: &mut Random, mut bytes: Vec<u8>) -> Vec<u8> {
     for _ in 0..1 + random.below(2) {
         match random.below(6) {
             0 => bytes.truncate(random.below(bytes.len() + 1)),

@@ -16,6 +16,9 @@ use std::process::ExitCode;
 const ROUNDS: usize = 15_000;
 const LONG: usize = 10;
 
+/// Rounds with orders of halves; one in LONG plans two long ones beside the rest.
+const ROUNDS_OF_HALVES: usize = 5_000;
+
 fn main() -> ExitCode {
     if std::env::args().nth(1).as_deref() == Some("layout") {
         layout::print();
@@ -38,6 +41,14 @@ fn main() -> ExitCode {
             trial.plan_long_order();
         }
         trial.openings();
+    }
+    for round in 0..ROUNDS_OF_HALVES {
+        trial.halves();
+        trial.plan_order_of_halves();
+        trial.plan_halves();
+        if round % LONG == 0 {
+            trial.plan_long_halves();
+        }
     }
     if trial.tally.report() {
         ExitCode::SUCCESS

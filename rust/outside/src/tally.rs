@@ -1,6 +1,6 @@
 //! Counts of what was called, what was refused and what differed.
 
-use std::collections::BTreeMap;
+use std::collections::{BTreeMap, BTreeSet};
 use std::fmt::Debug;
 
 /// Mismatches that are printed in full.
@@ -23,8 +23,11 @@ impl Held {
     }
 }
 
+/// Refusals are numbered below this; 0 is none.
+const NUMBERS: usize = 14;
+
 /// Counts by refusal number.
-type Counts = [usize; 13];
+type Counts = [usize; NUMBERS];
 
 /// All counts of a run.
 #[derive(Default)]
@@ -44,6 +47,8 @@ pub struct Tally {
     pub longest_feasible: usize,
     /// Edges of the contactor's rest.
     pub rest: RestEdges,
+    /// What planning halves turned on.
+    pub halves: HalvesEdges,
 }
 
 /// How often the inputs came to an edge of the contactor's rest.
@@ -57,6 +62,44 @@ pub struct RestEdges {
     pub late_plans: usize,
     /// Profiles with a point past 100,000 that were extended.
     pub late_profiles: usize,
+}
+
+/// How often the inputs came to what planning halves turns on.
+#[derive(Default)]
+pub struct HalvesEdges {
+    /// Plans that lose no optional second, and plans that lose some.
+    pub lose_nothing: usize,
+    pub lose_seconds: usize,
+    /// Refused with 13 for a critical job's number, for a length, for a partner that stands behind and for one that
+    /// is not there.
+    pub numbers: usize,
+    pub lengths: usize,
+    pub partners_behind: usize,
+    pub no_partners: usize,
+    /// Those of them where a later place offends too.
+    pub several: usize,
+    /// The places that were told.
+    pub places: BTreeSet<usize>,
+}
+
+impl HalvesEdges {
+    /// Prints the counts; true if each was met.
+    fn report(&self) -> bool {
+        let HalvesEdges {
+            lose_nothing, lose_seconds, numbers, lengths, partners_behind, no_partners, ..
+        } = *self;
+        println!("plans of halves: {lose_nothing} lose nothing, {lose_seconds} lose optional seconds");
+        println!(
+            "not of halves: {numbers} by a number, {lengths} by a length, {partners_behind} by a partner behind, \
+             {no_partners} without one; {} with a later place too, {} different places told",
+            self.several,
+            self.places.len()
+        );
+        [lose_nothing, lose_seconds, numbers, lengths, partners_behind, no_partners, self.several]
+            .iter()
+            .all(|&seen| seen > 0)
+            && self.places.len() == 48
+    }
 }
 
 impl Tally {
@@ -80,7 +123,7 @@ impl Tally {
         wanted: A,
         input: &dyn Debug,
     ) {
-        self.counts.entry(held).or_default()[refusal.min(12) as usize] += 1;
+        self.counts.entry(held).or_default()[(refusal as usize).min(NUMBERS - 1)] += 1;
         if given == wanted && memory {
             return;
         }
@@ -91,13 +134,13 @@ impl Tally {
         }
     }
 
-    /// Prints the counts; true if nothing differed, every refusal 1 to 12 was seen over the C boundary, and so
-    /// was every edge of the rest.
+    /// Prints the counts; true if nothing differed, every refusal 1 to 13 was seen over the C boundary, and so
+    /// was every edge of the rest and of halves.
     pub fn report(&self) -> bool {
         print!("{:>18}", "refusal");
-        (0..13).for_each(|number| print!("{number:>8}"));
+        (0..NUMBERS).for_each(|number| print!("{number:>8}"));
         println!();
-        let (mut of_calls, mut of_types) = ([0; 13], [0; 13]);
+        let (mut of_calls, mut of_types) = ([0; NUMBERS], [0; NUMBERS]);
         for (held, counts) in &self.counts {
             print!("{:>18}", held.name());
             counts.iter().for_each(|count| print!("{count:>8}"));
@@ -114,7 +157,8 @@ impl Tally {
             "straight after a rest: {met} jobs end at their deadline, {missed} would end a second past it"
         );
         println!("bus free past 100,000: {late_plans} plans, {late_profiles} profiles extended");
-        let unseen: Vec<usize> = (0..13).filter(|&number| of_calls[number] == 0).collect();
+        let halves_met = self.halves.report();
+        let unseen: Vec<usize> = (0..NUMBERS).filter(|&number| of_calls[number] == 0).collect();
         if !unseen.is_empty() {
             println!("never seen: refusals {unseen:?}");
         }
@@ -123,6 +167,7 @@ impl Tally {
         println!("mismatches {}", self.mismatches);
         self.mismatches == 0
             && unseen.is_empty()
+            && halves_met
             && [met, missed, late_plans, late_profiles].iter().all(|&seen| seen > 0)
     }
 }

@@ -3,7 +3,7 @@
 use crate::{Job, Order, Random};
 
 /// The latest t0, ready time and deadline; less it the earliest.
-const LATEST: i32 = 100_000;
+pub(crate) const LATEST: i32 = 100_000;
 
 /// The seconds that the contactor rests after every job. A point's time reaches that far past LATEST.
 const REST: i32 = 15;
@@ -33,7 +33,7 @@ impl Style {
 
 /// An order of `n` jobs whose weights sum to at most `most`, which is at least the number of jobs.
 pub fn order_of(random: &mut Random, style: Style, n: usize, most: i32) -> Order {
-    let numbers = numbers_of(random, n);
+    let numbers = numbers_below(random, 64, n);
     let critical_once_in = random.one_of(&[2, 4, 4, 8, 100]);
     let mut left = most;
     let mut jobs = Vec::with_capacity(n);
@@ -42,10 +42,7 @@ pub fn order_of(random: &mut Random, style: Style, n: usize, most: i32) -> Order
         job.number = number;
         job.critical = i32::from(random.once_in(critical_once_in));
         if job.critical == 0 {
-            // One is kept back for each job to come, so that none is left without a weight.
-            let spare = left - (n - place - 1) as i32;
-            job.weight = weight_of(random, style).min(spare);
-            left -= job.weight;
+            job.weight = weight_from(random, style, &mut left, n - place - 1);
         }
         jobs.push(job);
     }
@@ -94,11 +91,11 @@ fn rising(random: &mut Random, count: usize, low: i32, high: i32) -> Vec<i32> {
     all.into_iter().collect()
 }
 
-/// `n` different job numbers in any order.
-fn numbers_of(random: &mut Random, n: usize) -> Vec<i32> {
-    let mut numbers: Vec<i32> = (0..64).collect();
+/// `n` different job numbers below `end` in any order.
+pub(crate) fn numbers_below(random: &mut Random, end: usize, n: usize) -> Vec<i32> {
+    let mut numbers: Vec<i32> = (0..end as i32).collect();
     for place in 0..n {
-        let other = place + random.below(64 - place);
+        let other = place + random.below(end - place);
         numbers.swap(place, other);
     }
     numbers.truncate(n);
@@ -106,13 +103,20 @@ fn numbers_of(random: &mut Random, n: usize) -> Vec<i32> {
 }
 
 /// A bus-free time.
-fn bus_free(random: &mut Random, style: Style) -> i32 {
+pub(crate) fn bus_free(random: &mut Random, style: Style) -> i32 {
     match style {
         Style::Tight | Style::Gaps => random.within(-3, 3),
         Style::Wide => random.within(-LATEST, LATEST),
         Style::Ends => random.one_of(&[-LATEST, -1, 0, LAST_TWO, LAST_TWO + 1, LATEST - 1, LATEST]),
         Style::Morning => random.within(-600, 0),
     }
+}
+
+/// A weight taken from what is left. One is kept back for each job to come, so that none is without a weight.
+pub(crate) fn weight_from(random: &mut Random, style: Style, left: &mut i32, to_come: usize) -> i32 {
+    let weight = weight_of(random, style).min(*left - to_come as i32);
+    *left -= weight;
+    weight
 }
 
 /// A weight from 1 to 50.
@@ -127,7 +131,7 @@ fn weight_of(random: &mut Random, style: Style) -> i32 {
 }
 
 /// A job with times and length alone.
-fn timed(random: &mut Random, style: Style, place: usize) -> Job {
+pub(crate) fn timed(random: &mut Random, style: Style, place: usize) -> Job {
     let place = place as i32;
     let (ready, length, window) = match style {
         Style::Tight => {

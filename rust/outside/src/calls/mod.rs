@@ -2,6 +2,7 @@
 //! and all lent memory are held against the reference. The wrapper's types are then held against it on the
 //! same input.
 
+mod halves;
 mod openings;
 mod packing;
 mod planning;

@@ -13,25 +13,29 @@ impl Trial {
         let first = inputs::bytes(&mut self.random);
         let other = inputs::bytes(&mut self.random);
         let second = if self.random.once_in(20) { &first } else { &other };
-        let t = self.time_for(&first, second);
+        self.weigh(&first, second);
+    }
 
-        let given = calls::question(&first, second, t, self.work.lend(&mut self.random));
-        let wanted = match winner(&first, second, t, self.work.is_enough()) {
+    /// Asks and chooses between these, at a time near one that matters.
+    pub(super) fn weigh(&mut self, first: &[u8], second: &[u8]) {
+        let t = self.time_for(first, second);
+        let given = calls::question(first, second, t, self.work.lend(&mut self.random));
+        let wanted = match winner(first, second, t, self.work.is_enough()) {
             Ok((winner, _)) => QuestionAnswer { refusal: 0, winner },
             Err(refused) => QuestionAnswer { refusal: refused.number, winner: 0 },
         };
         let memory = self.work.holds(after(wanted.refusal));
-        self.tally.compare("question", (given.refusal, given, memory), wanted, &(&first, second, t));
+        self.tally.compare("question", (given.refusal, given, memory), wanted, &(first, second, t));
 
-        let given = calls::choose(&first, second, t, self.work.lend(&mut self.random));
-        let won = winner(&first, second, t, self.work.is_enough());
+        let given = calls::choose(first, second, t, self.work.lend(&mut self.random));
+        let won = winner(first, second, t, self.work.is_enough());
         let wanted = match won {
             Ok((winner, jobs)) => ChooseAnswer { refusal: 0, winner, offset: 4, length: 8 * jobs },
             Err(refused) => ChooseAnswer { refusal: refused.number, ..Default::default() },
         };
         let memory = self.work.holds(after(wanted.refusal));
-        self.tally.compare("choose", (given.refusal, given, memory), wanted, &(&first, second, t));
-        self.typed_choose(&first, second, t, won.map(|(winner, _)| winner));
+        self.tally.compare("choose", (given.refusal, given, memory), wanted, &(first, second, t));
+        self.typed_choose(first, second, t, won.map(|(winner, _)| winner));
     }
 
     /// A time near the points of one of the openings.

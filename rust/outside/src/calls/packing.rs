@@ -11,11 +11,15 @@ impl Trial {
     /// Unpacks bytes of any kind.
     pub fn unpack(&mut self) {
         let bytes = inputs::bytes(&mut self.random);
-        let needed = 6 * jobs_by_length(&bytes);
+        self.unpack_bytes(&bytes);
+    }
+
+    pub(super) fn unpack_bytes(&mut self, bytes: &[u8]) {
+        let needed = 6 * jobs_by_length(bytes);
         let mut lent = Lent::new(inputs::room(&mut self.random, needed), || self.junk());
-        let given = calls::unpack(&bytes, lent.lend());
-        let judged = reference::judged(&bytes);
-        self.typed_order(&bytes, &judged);
+        let given = calls::unpack(bytes, lent.lend());
+        let judged = reference::judged(bytes);
+        self.typed_order(bytes, &judged);
         let roomy = judged.and_then(|order| unless(lent.lend().len() >= needed, 10).map(|()| order));
         let (wanted, written) = match roomy {
             Ok(Order { t0, jobs }) => {
@@ -32,10 +36,14 @@ impl Trial {
     /// Packs numbers of any kind.
     pub fn pack(&mut self) {
         let (t0, numbers) = inputs::numbers(&mut self.random);
+        self.pack_numbers(t0, &numbers);
+    }
+
+    pub(super) fn pack_numbers(&mut self, t0: i32, numbers: &[i32]) {
         let needed = 4 + 8 * (numbers.len() / 6);
         let mut lent = Lent::new(inputs::room(&mut self.random, needed), || self.junk() as u8);
-        let given = calls::pack(t0, &numbers, lent.lend());
-        let judged = reference::judged_numbers(t0, &numbers)
+        let given = calls::pack(t0, numbers, lent.lend());
+        let judged = reference::judged_numbers(t0, numbers)
             .and_then(|order| unless(lent.lend().len() >= needed, 10).map(|()| order));
         let (wanted, written) = match judged {
             Ok(order) => (PackAnswer { refusal: 0, place: 0, bytes: needed }, packed(&order)),
@@ -43,25 +51,29 @@ impl Trial {
                 (PackAnswer { refusal: number, place, ..Default::default() }, vec![])
             }
         };
-        self.tally.compare("pack", (given.refusal, given, lent.holds(&written)), wanted, &(t0, &numbers));
-        self.typed_pack(t0, &numbers);
+        self.tally.compare("pack", (given.refusal, given, lent.holds(&written)), wanted, &(t0, numbers));
+        self.typed_pack(t0, numbers);
     }
 
     /// Opens bytes of any kind and steps at places of any kind.
     pub fn read(&mut self) {
         let bytes = inputs::bytes(&mut self.random);
-        let given = calls::open(&bytes);
-        let wanted = match reference::header(&bytes) {
+        self.read_bytes(&bytes);
+    }
+
+    pub(super) fn read_bytes(&mut self, bytes: &[u8]) {
+        let given = calls::open(bytes);
+        let wanted = match reference::header(bytes) {
             Ok((jobs, _)) => OpenAnswer { refusal: 0, jobs },
             Err(refused) => OpenAnswer { refusal: refused.number, ..Default::default() },
         };
         self.tally.compare("open", (given.refusal, given, true), wanted, &bytes);
-        let refused = (0..given.jobs).find(|&place| reference::reader_job(&bytes, place).is_err());
+        let refused = (0..given.jobs).find(|&place| reference::reader_job(bytes, place).is_err());
         let anywhere = self.random.below(given.jobs + 2);
         for place in [refused.unwrap_or(0), anywhere, self.random.one_of(&[given.jobs, 48, 64, usize::MAX])] {
-            let given = calls::step(&bytes, place);
-            let wanted = wanted_step(&bytes, place);
-            self.tally.compare("step", (given.refusal, given, true), wanted, &(place, &bytes));
+            let given = calls::step(bytes, place);
+            let wanted = wanted_step(bytes, place);
+            self.tally.compare("step", (given.refusal, given, true), wanted, &(place, bytes));
         }
     }
 }

@@ -8,6 +8,19 @@ use leafanchor::calls::{self, PlanAnswer};
 use leafanchor::LEFT_OUT;
 use trials::{packed, Order, Style};
 
+/// Styles in which long orders have many plans.
+pub(super) const STYLES_OF_LONG_ORDERS: [Style; 4] =
+    [Style::Tight, Style::Gaps, Style::Morning, Style::Morning];
+
+/// What a call that plans must give: its figures, the starts that it writes, the optional seconds that the plan
+/// loses, and what becomes of the work area.
+pub(super) struct Wanted {
+    pub answer: PlanAnswer,
+    pub starts: Vec<i32>,
+    pub seconds_lost: u32,
+    pub after: After,
+}
+
 impl Trial {
     /// Plans bytes of any kind.
     pub fn plan(&mut self) {
@@ -23,33 +36,58 @@ impl Trial {
 
     /// Plans a long order in range, half of the time one of 48 jobs.
     pub fn plan_long_order(&mut self) {
-        let n = if self.random.once_in(2) { 48 } else { 12 + self.random.below(36) };
-        let style = self.random.one_of(&[Style::Tight, Style::Gaps, Style::Morning, Style::Morning]);
+        let n = self.long_count();
+        let style = self.random.one_of(&STYLES_OF_LONG_ORDERS);
         let order = inputs::order_with(&mut self.random, style, n);
         self.plan_bytes(&packed(&order));
     }
 
-    fn plan_bytes(&mut self, bytes: &[u8]) {
-        let needed = jobs_by_length(bytes);
-        let mut lent = Lent::new(inputs::room(&mut self.random, needed), || self.junk());
+    /// How many jobs a long order has.
+    pub(super) fn long_count(&mut self) -> usize {
+        if self.random.once_in(2) {
+            48
+        } else {
+            12 + self.random.below(36)
+        }
+    }
+
+    pub(super) fn plan_bytes(&mut self, bytes: &[u8]) {
+        let mut lent = self.room_for_starts(bytes);
         let given = calls::plan(bytes, lent.lend(), self.work.lend(&mut self.random));
-        let rooms = lent.lend().len() >= needed && self.work.is_enough();
-        let planned = reference::judged(bytes)
-            .and_then(|order| unless(rooms, 10).map(|()| order))
+        let wanted = self.wanted(reference::judged(bytes), lent.lend().len());
+        let memory = lent.holds(&wanted.starts) && self.work.holds(wanted.after);
+        self.tally.compare("plan", (given.refusal, given, memory), wanted.answer, &bytes);
+        self.typed_plan(bytes, &wanted);
+    }
+
+    /// Room for the starts of an order, for too few or for more.
+    pub(super) fn room_for_starts(&mut self, bytes: &[u8]) -> Lent<i32> {
+        Lent::new(inputs::room(&mut self.random, jobs_by_length(bytes)), || self.junk())
+    }
+
+    /// What planning must give, by how its order is judged, with this much room for starts and in the work area as
+    /// it was last lent.
+    pub(super) fn wanted(&mut self, judged: Result<Order, Refused>, room: usize) -> Wanted {
+        let planned = judged
+            .and_then(|order| unless(room >= order.jobs.len() && self.work.is_enough(), 10).map(|()| order))
             .and_then(|order| self.best(&order).map(|best| (best, order)).ok_or(Refused::new(11)));
-        let (wanted, written, after) = match planned {
+        match planned {
             Ok((best, order)) => {
                 self.count_rest_edges(&order, best);
-                (wanted_plan(&order, best), starts_of(&order, best), After::Cleared)
+                Wanted {
+                    answer: wanted_plan(&order, best),
+                    starts: starts_of(&order, best),
+                    seconds_lost: reference::seconds_lost(&order, best),
+                    after: After::Cleared,
+                }
             }
-            Err(Refused { number, place }) => {
-                let after = if number == 11 { After::Cleared } else { After::Untouched };
-                (PlanAnswer { refusal: number, place, ..Default::default() }, vec![], after)
-            }
-        };
-        let memory = lent.holds(&written) && self.work.holds(after);
-        self.tally.compare("plan", (given.refusal, given, memory), wanted, &bytes);
-        self.typed_plan(bytes, wanted, &written);
+            Err(Refused { number, place }) => Wanted {
+                answer: PlanAnswer { refusal: number, place, ..Default::default() },
+                starts: vec![],
+                seconds_lost: 0,
+                after: if number == 11 { After::Cleared } else { After::Untouched },
+            },
+        }
     }
 
     /// The plan's choice, over all choices where there are few enough, and what was met on the way.

@@ -55,10 +55,14 @@ impl Trial {
     pub fn extend(&mut self) {
         let profile = inputs::profile(&mut self.random);
         let bytes = inputs::bytes(&mut self.random);
+        self.extend_by(&profile, &bytes);
+    }
+
+    pub(super) fn extend_by(&mut self, profile: &[i32], bytes: &[u8]) {
         let mut lent = Lent::new(inputs::room(&mut self.random, PROFILE_ROOM), || self.junk());
-        let given = calls::extend(&profile, &bytes, lent.lend(), self.work.lend(&mut self.random));
+        let given = calls::extend(profile, bytes, lent.lend(), self.work.lend(&mut self.random));
         let rooms = lent.lend().len() >= PROFILE_ROOM && self.work.is_enough();
-        let (wanted, written, after) = match wanted_extension(&profile, &bytes, rooms) {
+        let (wanted, written, after) = match wanted_extension(profile, bytes, rooms) {
             Ok(points) => {
                 let late = profile.iter().step_by(2).any(|&time| time > 100_000);
                 self.tally.rest.late_profiles += usize::from(late);
@@ -70,8 +74,8 @@ impl Trial {
             }
         };
         let memory = lent.holds(&written) && self.work.holds(after);
-        self.tally.compare("extend", (given.refusal, given, memory), wanted, &(&profile, &bytes));
-        self.typed_extend(&profile, &bytes, wanted, &written);
+        self.tally.compare("extend", (given.refusal, given, memory), wanted, &(profile, bytes));
+        self.typed_extend(profile, bytes, wanted, &written);
     }
 }
 

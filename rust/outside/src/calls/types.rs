@@ -1,6 +1,7 @@
 //! The wrapper's types against the reference, on inputs that were made for the calls. Their buffers are
 //! always long enough, so an input that a call refused with 10 is passed by.
 
+use super::planning::Wanted;
 use super::{numbers_of, Trial};
 use crate::reference::{self, Refused};
 use crate::tally::Held;
@@ -31,12 +32,20 @@ impl Trial {
     }
 
     /// `Order::plan` gives the reference's figures, starts and kept places.
-    pub(super) fn typed_plan(&mut self, bytes: &[u8], wanted: PlanAnswer, starts: &[i32]) {
+    pub(super) fn typed_plan(&mut self, bytes: &[u8], wanted: &Wanted) {
         let work = &mut self.typed_work;
         let given = Order::try_from(bytes).and_then(|order| order.plan(work)).map(figures);
-        let kept = (0..starts.len()).filter(|&place| starts[place] != LEFT_OUT).collect();
-        let wanted = unless_refused(wanted.refusal, wanted.place, (wanted, starts.to_vec(), kept));
-        self.compare_types("Order::plan", given, wanted, &bytes);
+        self.compare_types("Order::plan", given, wanted_figures(wanted), &bytes);
+    }
+
+    /// `Order::plan_halves` gives the same of an order of halves, and the seconds lost.
+    pub(super) fn typed_plan_halves(&mut self, bytes: &[u8], wanted: &Wanted) {
+        let work = &mut self.typed_work;
+        let given = Order::try_from(bytes)
+            .and_then(|order| order.plan_halves(work))
+            .map(|plan| (figures(*plan), plan.seconds_lost()));
+        let wanted = wanted_figures(wanted).map(|figures| (figures, wanted.seconds_lost));
+        self.compare_types("Order::plan_halves", given, wanted, &bytes);
     }
 
     /// `Profile::lookup` over a list that a profile takes.
@@ -152,7 +161,14 @@ fn job_of_numbers(n: &[i32]) -> Option<Job> {
 }
 
 /// A plan as the call answers it, its starts as the call writes them, and its kept places.
-fn figures(plan: Plan) -> (PlanAnswer, Vec<i32>, Vec<usize>) {
+type Figures = (PlanAnswer, Vec<i32>, Vec<usize>);
+
+fn wanted_figures(Wanted { answer, starts, .. }: &Wanted) -> Result<Figures, Refused> {
+    let kept = (0..starts.len()).filter(|&place| starts[place] != LEFT_OUT).collect();
+    unless_refused(answer.refusal, answer.place, (*answer, starts.clone(), kept))
+}
+
+fn figures(plan: Plan) -> Figures {
     let answer = PlanAnswer {
         refusal: 0,
         place: 0,

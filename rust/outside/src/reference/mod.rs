@@ -1,9 +1,11 @@
 //! The rules (docs/RULES.md) written out plainly, with no thought for speed: what every call must answer.
 
+mod halves;
 mod packing;
 mod plans;
 mod profiles;
 
+pub use halves::{judged_halves, offending, seconds_lost};
 pub use packing::{header, judged, judged_numbers, reader_job};
 pub use plans::{best_by_all_choices, best_forward, point_total, Best, Keep, MOST_JOBS_OF_ALL_CHOICES};
 pub use profiles::{better_of, extended, is_valid, lookup, Point};
