@@ -317,8 +317,8 @@ LEAFANCHOR_MUST_USE
 leafanchor_plan_answer leafanchor_plan(const uint8_t *order, size_t order_len, int32_t *starts, size_t starts_len,
                                        int32_t *work, size_t work_len);
 
-/** Plans an order of halves as leafanchor_plan does, and tells the optional seconds lost (R34). Refusals 1 to 7, 9 to
- * 11 and 13 write no start; 13 is judged after 9, whatever the buffers.
+/** Plans an order of halves as leafanchor_plan does, and tells the optional seconds lost (R34, R35). Refusals 1 to 7,
+ * 9 to 11 and 13 write no start; 13 is judged after 9, whatever the buffers.
  * @param order the packed order: each non-critical job comes behind the critical one whose optional half it is, its
  * number LEAFANCHOR_HALVES_APART above that one's, its length LEAFANCHOR_SECONDS_PER_WEIGHT times its weight; no
  * critical job is numbered above LEAFANCHOR_HIGHEST_HALF

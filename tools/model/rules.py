@@ -13,7 +13,7 @@ HIGHEST_HALF, APART, PER_WEIGHT = 31, 32, 60  # of an order of halves
 MANY = 10  # up to so many jobs every choice is tried as well
 
 
-# ---- packed orders (R21, R22) and refusals 1 to 7, 9 and 13 (R24)
+# ---- packed orders (R21, R22), orders of halves (R34) and refusals 1 to 7, 9 and 13 (R24)
 
 def bits(value, width):
     return format(value % (1 << width), '0%db' % width)

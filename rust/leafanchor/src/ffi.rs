@@ -138,8 +138,8 @@ pub fn plan(order: &[u8], starts: &mut [i32], work: &mut [i32]) -> PlanAnswer {
     }
 }
 
-/// Plans an order of halves as [`plan`] does, and tells the optional seconds lost (R34). Refusals 1 to 7, 9,
-/// then 13, whatever the buffers, then 10 and 11.
+/// Plans an order of halves as [`plan`] does, and tells the optional seconds lost (R34, R35). Refusals 1 to 7,
+/// 9, then 13, whatever the buffers, then 10 and 11.
 pub fn plan_halves(order: &[u8], starts: &mut [i32], work: &mut [i32]) -> HalvesAnswer {
     // SAFETY: as for `plan`.
     unsafe {

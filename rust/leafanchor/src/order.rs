@@ -111,8 +111,8 @@ impl<'a> Order<'a> {
         Plan::of(self, work)
     }
 
-    /// The same for an order of halves, and the optional seconds that the plan loses (R34). Long checks are
-    /// split into a critical half and an optional one: each non-critical job comes behind the critical one
+    /// The same for an order of halves, and the optional seconds that the plan loses (R34, R35). Long checks
+    /// are split into a critical half and an optional one: each non-critical job comes behind the critical one
     /// whose optional half it is, its number [`HALVES_APART`](crate::HALVES_APART) above that one's and its
     /// length [`SECONDS_PER_WEIGHT`](crate::SECONDS_PER_WEIGHT) times its weight, and no critical job is
     /// numbered above [`HIGHEST_HALF`](crate::HIGHEST_HALF).

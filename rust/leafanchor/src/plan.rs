@@ -1,4 +1,4 @@
-//! The plan that loses the least weight (R7 to R10), and that of an order of halves (R34).
+//! The plan that loses the least weight (R7 to R10), and that of an order of halves (R34, R35).
 
 use crate::calls::{self, PlanAnswer};
 use crate::order::Order;
