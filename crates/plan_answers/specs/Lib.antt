@@ -1,3 +1,2 @@
 -- The answers on profiles, plans and openings as structs of numbers.
 pub mod Numbers
-pub mod Copied

@@ -7,7 +7,7 @@ use Rattle.profiles.specs.declared.Finding.{Finding}
 use Rattle.better.specs.Answer.{joinRefusal, pointsWritten as pointsJoined}
 use Rattle.better.specs.declared.Joined.{Joined}
 use Rattle.extending.specs.Calls.{extendRefusal, extendPlace, pointsWritten}
-use Rattle.planner.specs.Calls.{planNumbers}
+use Rattle.planner.specs.Calls.{PlanNumbers, planNumbers}
 use Rattle.planner.specs.declared.Planned.{Planned}
 use Rattle.halves.specs.Calls.{halvesNumbers}
 use Rattle.halves.specs.declared.HalvesPlanned.{HalvesPlanned}
@@ -36,9 +36,9 @@ extendNumbers e = record { refusal = extendRefusal e; place = extendPlace e; poi
 
 -- ---- plans
 
-abbrev pub planFigures : Planned → PlanAnswer
-planFigures p =
-    let n = planNumbers p in
+-- Planning's numbers,
+abbrev planStruct : PlanNumbers → PlanAnswer
+planStruct n =
     record {
       refusal = n .refusal;
       place = n .place;
@@ -50,21 +50,27 @@ planFigures p =
       points = n .points;
     }
 
--- Planning's numbers, and the optional seconds lost.
-abbrev pub halvesFigures : HalvesPlanned → HalvesAnswer
-halvesFigures h =
-    let n = halvesNumbers h .plan in
+-- those of its answer,
+abbrev pub planFigures : Planned → PlanAnswer
+planFigures p = planStruct (planNumbers p)
+
+-- and those of an answer of planning halves: the optional seconds lost stand behind them.
+abbrev pub beside : PlanAnswer → ℕ → HalvesAnswer
+beside p seconds =
     record {
-      refusal = n .refusal;
-      place = n .place;
-      mask = n .mask;
-      kept = n .kept;
-      «kept_weight» = n .keptWeight;
-      «lost_weight» = n .lostWeight;
-      finish = n .finish;
-      points = n .points;
-      «seconds_lost» = halvesNumbers h .secondsLost;
+      refusal = p .refusal;
+      place = p .place;
+      mask = p .mask;
+      kept = p .kept;
+      «kept_weight» = p .«kept_weight»;
+      «lost_weight» = p .«lost_weight»;
+      finish = p .finish;
+      points = p .points;
+      «seconds_lost» = seconds;
     }
+
+abbrev pub halvesFigures : HalvesPlanned → HalvesAnswer
+halvesFigures h = beside (planStruct (halvesNumbers h .plan)) (halvesNumbers h .secondsLost)
 
 -- ---- openings
 

@@ -4,7 +4,7 @@ ghost use mathlib.Core.Path.{_≡_};
 ghost use Prim.Native.Nat.{_-_};
 ghost use Rattle.packed.specs.Layout.{headerBytes};
 ghost use Rattle.plan_answers.specs.Numbers.{lookupNumbers, betterNumbers, extendNumbers};
-ghost use Rattle.plan_answers.specs.Numbers.{planFigures, halvesFigures, questionNumbers, chooseNumbers};
+ghost use Rattle.plan_answers.specs.Numbers.{planFigures, beside, halvesFigures, questionNumbers, chooseNumbers};
 use better::Joined;
 use extending::Extended;
 use halves::HalvesPlanned;
@@ -175,33 +175,34 @@ pub fn plan_answer(planned: Planned) -> PlanAnswer
     }
 }
 
+// An answer of planning with the optional seconds lost behind its numbers.
+fn with_seconds(plan: PlanAnswer, seconds: u32) -> HalvesAnswer
+    ensures { λ r. ⌜ r ≡ beside plan seconds ⌝ }
+{
+    HalvesAnswer {
+        refusal: plan.refusal,
+        place: plan.place,
+        mask: plan.mask,
+        kept: plan.kept,
+        kept_weight: plan.kept_weight,
+        lost_weight: plan.lost_weight,
+        finish: plan.finish,
+        points: plan.points,
+        seconds_lost: seconds,
+    }
+}
+
 // The answer of planning halves.
 pub fn halves_answer(planned: HalvesPlanned) -> HalvesAnswer
     ensures { λ r. ⌜ r ≡ halvesFigures planned ⌝ }
 {
     match planned {
-        HalvesPlanned::Refused(number, place) => HalvesAnswer {
-            refusal: number,
-            place: place,
-            mask: 0,
-            kept: 0,
-            kept_weight: 0,
-            lost_weight: 0,
-            finish: 0,
-            points: 0,
-            seconds_lost: 0,
-        },
-        HalvesPlanned::Made(figures, seconds) => HalvesAnswer {
-            refusal: 0,
-            place: 0,
-            mask: figures.mask,
-            kept: figures.kept,
-            kept_weight: figures.kept_weight,
-            lost_weight: figures.lost_weight,
-            finish: figures.finish,
-            points: figures.points,
-            seconds_lost: seconds,
-        },
+        HalvesPlanned::Refused(number, place) => {
+            with_seconds(plan_answer(Planned::Refused(number, place)), 0)
+        }
+        HalvesPlanned::Made(figures, seconds) => {
+            with_seconds(plan_answer(Planned::Made(figures)), seconds)
+        }
     }
 }
 
