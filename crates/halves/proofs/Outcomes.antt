@@ -1,6 +1,6 @@
 -- What the contract of planning halves says of every outcome that it allows: 13 exactly when a place offends, with the first such
--- place; never for an order of halves, and always for any other that passes 1 to 9; else planning's own numbers and buffers, with
--- 60 optional seconds lost for each weight lost.
+-- place; never for an order of halves, and always for any other that passes 1 to 9; else planning's own numbers and buffers, 11
+-- among them, with 60 optional seconds lost for each weight lost.
 use Prim.Native.Nat.{ℕ, _*_}
 use mathlib.Core.Path.{_≡_}
 use mathlib.Core.Logic.{_↔_, _≢_}
@@ -9,18 +9,19 @@ use denote.Ref.{now}
 use denote.Triple.Clauses.{AtExit}
 use denote.Triple.Entry.{Args}
 use Rattle.seconds.specs.Limits.{secondsPerWeight}
-use Rattle.order.specs.HalvesLaws.{OfHalves}
+use Rattle.order.specs.HalvesLaws.{Offends, OfHalves}
 use Rattle.packed.specs.Judge.{fine, judge}
 use Rattle.packed.specs.Packed.{numbersOf, orderOf}
 use Rattle.packed.specs.Refusals.{orderChecks}
 use Rattle.packed.specs.RefusalPlaces.{PlaceIs}
 use Rattle.planner.specs.Calls.{planNumbers}
+use Rattle.planner.specs.Answers.{NoneFeasible}
 use Rattle.planner.specs.declared.Planned.{Planned}
 use Rattle.planner.proofs.plan as plan
 use Rattle.planner.proofs.plan.Reads as plan-reads
 use Rattle.halves.specs.Calls.{halvesNumbers}
-use Rattle.halves.specs.Answers.{FirstOffends, thirteen, halves-never-thirteen, others-thirteen}
-use Rattle.halves.specs.Answers.{as-plan, seconds-sixty, halves-place}
+use Rattle.halves.specs.Answers.{FirstOffends, thirteen, thirteen-if-some, halves-never-thirteen, others-thirteen}
+use Rattle.halves.specs.Answers.{as-plan, halves-eleven, seconds-sixty, halves-place}
 use Rattle.halves.specs.declared.HalvesPlanned.{HalvesPlanned}
 use Rattle.halves.proofs.plan_halves as plan-halves
 use Rattle.halves.proofs.plan_halves.Reads as reads
@@ -32,12 +33,21 @@ module _ (κs : Lfts 3) (a : Args plan-halves.signature κs) (r : HalvesPlanned)
       → ((halvesNumbers r .plan .refusal ≡ 13) × (halvesNumbers r .plan .place ≡ p)) ↔ FirstOffends (now (a .0)) p
   outcome-thirteen = thirteen (now (a .0)) (now (a .1 .0)) (now (a .1 .1 .0)) h
 
+  pub outcome-some-offends : halvesNumbers r .plan .refusal ≡ 13
+      ↔ ((judge (orderChecks (now (a .0))) ≡ fine) × ((k : ℕ) × Offends (orderOf (now (a .0)) .jobs) k))
+  outcome-some-offends = thirteen-if-some (now (a .0)) (now (a .1 .0)) (now (a .1 .1 .0)) h
+
   pub outcome-never-thirteen : OfHalves (orderOf (now (a .0)) .jobs) → halvesNumbers r .plan .refusal ≢ 13
   outcome-never-thirteen = halves-never-thirteen (now (a .0)) (now (a .1 .0)) (now (a .1 .1 .0)) h
 
   pub outcome-others : judge (orderChecks (now (a .0))) ≡ fine → ¬ OfHalves (orderOf (now (a .0)) .jobs)
       → halvesNumbers r .plan .refusal ≡ 13
   outcome-others = others-thirteen (now (a .0)) (now (a .1 .0)) (now (a .1 .1 .0)) h
+
+  -- 11.
+  pub outcome-eleven : halvesNumbers r .plan .refusal ≡ 11
+      ↔ (OfHalves (orderOf (now (a .0)) .jobs) × NoneFeasible (now (a .0)) (now (a .1 .0)) (now (a .1 .1 .0)))
+  outcome-eleven = halves-eleven (now (a .0)) (now (a .1 .0)) (now (a .1 .1 .0)) h
 
   -- The seconds, and every place.
   pub outcome-sixty : halvesNumbers r .secondsLost ≡ secondsPerWeight * halvesNumbers r .plan .lostWeight

@@ -1,5 +1,5 @@
 -- What the answers of planning halves say: 13 exactly when a place offends, with the first such place; else planning's own answer
--- and buffers; and the optional seconds lost, 60 for each weight lost.
+-- and buffers; 11 exactly when nothing is feasible; and the optional seconds lost, 60 for each weight lost.
 use Prim.Native.Nat.{ℕ, _*_, _≤_, _<_}
 use mathlib.Core.Path.{_≡_, refl, sym, ap, _∙_}
 use mathlib.Core.Bool.{true, true≢false}
@@ -29,8 +29,9 @@ use Rattle.fields.specs.Places.{jobs-count}
 use Rattle.cells.specs.Work.{area}
 use Rattle.filling.specs.After.{workBy}
 use Rattle.judge.specs.Told.{stays, ten-tells, told-next, Placed, placed-behind, placed-rooms, placed-order}
-use Rattle.planner.specs.Calls.{planChecks, planVerdict, plannedBy, startsBy, planNumbers, PlanCall}
-use Rattle.planner.specs.Answers.{refusedWith, plannedWith}
+use Rattle.planner.specs.Calls.{planChecks, planVerdict, plannedBy, startsBy, plannedOf, startsAfter, planWorkAfter, PlanCall}
+use Rattle.planner.specs.Calls.{PlanNumbers, planNumbers}
+use Rattle.planner.specs.Answers.{refusedWith, plannedWith, NoneFeasible, plan-eleven}
 use Rattle.planner.specs.declared.Planned.{Planned}
 use Rattle.planner.specs.declared.Planned.the-variants as planned
 use Rattle.halves.specs.Calls.{planHalvesChecks, halvesVerdict, lostIn, lostSeconds, withSeconds, halvesOf, HalvesCall}
@@ -269,6 +270,15 @@ module _ (bytes : List ℕ) (starts work : List ℤ) {r : HalvesPlanned} {starts
           let is : n ≡ 13 = judge-tells (λ n p. n ≡ 13) (halvesChecks (numbersOf bytes)) (thirteen-tells (numbersOf bytes)) e in
           answer-thirteen p .1 (verdict-thirteen bytes starts work .1 (order, rw is at e)) .0
 
+  -- In short: 13 exactly when the order is accepted by 1 to 9 and some place offends.
+  pub thirteen-if-some : halvesNumbers r .plan .refusal ≡ 13
+      ↔ ((judge (orderChecks bytes) ≡ fine) × ((k : ℕ) × Offends (jobs bytes) k))
+  thirteen-if-some = (
+    λ e. let f = thirteen (halvesNumbers r .plan .place) .0 (e, refl) in (f .order, (halvesNumbers r .plan .place, f .offends)),
+    λ h. others-thirteen (h .0)
+        (λ all. true≢false (sym (offends-is (jobs bytes) (h .1 .0) .1 (h .1 .1)) ∙ of-halves (jobs bytes) .0 all (h .1 .0))),
+  )
+
   -- Where 13 is not given, the answer's numbers and both buffers are planning's own.
   module _ {q : Planned} {starts″ work″ : List ℤ} (plan-call : PlanCall bytes starts work q starts″ work″) where
     verdict-same : halvesNumbers r .plan .refusal ≢ 13 → halvesVerdict bytes starts work ≡ planVerdict bytes starts work
@@ -294,6 +304,37 @@ module _ (bytes : List ℕ) (starts work : List ℤ) {r : HalvesPlanned} {starts
           call .written ∙ ap (λ (u : Verdict). startsBy u a starts) v ∙ sym (plan-call .written),
           call .area ∙ ap (λ (u : Verdict). workBy u work) v ∙ sym (plan-call .area),
         )
+
+  -- ---- refusal 11
+
+  -- Exactly when the order is of halves and planning finds no feasible choice.
+  pub halves-eleven : halvesNumbers r .plan .refusal ≡ 11 ↔ (OfHalves (jobs bytes) × NoneFeasible bytes starts work)
+  unfolding orderOf
+  halves-eleven = (there, back)
+    where
+      plan-call : PlanCall bytes starts work (plannedOf bytes starts work) (startsAfter bytes starts work)
+          (planWorkAfter bytes starts work)
+      plan-call = record { answer = refl; written = refl; area = refl }
+
+      of : judge (orderChecks bytes) ≡ fine → halvesNumbers r .plan .refusal ≡ 11 → OfHalves (jobs bytes)
+      of order e = go (judge (halvesChecks (numbersOf bytes))) refl
+        where
+          go : (v : Verdict) → judge (halvesChecks (numbersOf bytes)) ≡ v → OfHalves (jobs bytes)
+          go fine f = halves-fine (numbersOf bytes) .0 f
+          go (refused n p) f =
+              let no : ¬ OfHalves (jobs bytes) = λ h. refused-fine (sym f ∙ halves-fine (numbersOf bytes) .1 h) in
+              absurd (omega (arith, e, others-thirteen order no))
+
+      there : halvesNumbers r .plan .refusal ≡ 11 → OfHalves (jobs bytes) × NoneFeasible bytes starts work
+      there e =
+          let same = as-plan plan-call (λ f. omega (arith, e, f)) in
+          let none = plan-eleven bytes starts work plan-call .0 (sym (ap (λ (n : PlanNumbers). n .refusal) (same .0)) ∙ e) in
+          (of (none .order) e, none)
+
+      back : OfHalves (jobs bytes) × NoneFeasible bytes starts work → halvesNumbers r .plan .refusal ≡ 11
+      back h =
+          let same = as-plan plan-call (halves-never-thirteen (h .0)) in
+          ap (λ (n : PlanNumbers). n .refusal) (same .0) ∙ plan-eleven bytes starts work plan-call .1 (h .1)
 
   -- ---- the seconds lost
 
