@@ -6,16 +6,18 @@ use mathlib.Core.List.{List, [], _∷_, _++_, reverse, reverse-append}
 use mathlib.Core.Option.{some, Option·none-ne-some, Option·some-injective}
 use native.Mathlib.Nat.{add-zero, zero-add}
 use native.Mathlib.Omega.{arith}
-use lib.IntN.{ℤ}
+use lib.IntN.{ℤ, natAbs}
 use lib.ListN.{length, take, drop, getElem?}
 use Rattle.seconds.specs.Signed.{true-T}
 use Rattle.order.specs.Job.{Rate, Job, rateOf, weightOf}
 use Rattle.order.specs.Within.{JobWithin, job-within, weightOf-append}
+use Rattle.order.specs.Moves.{one-rate-whole}
 use Rattle.order.specs.OneRate.{OneRate}
 use Rattle.packed.specs.Layout.{decode, numberOf, jobLayout}
 use Rattle.packed.specs.Places.{eachOf, each}
 use Rattle.packed.specs.PlacesLaws.{length-each}
 use Rattle.packed.specs.Packed.{countOf, numbersOf, jobCount, fieldsAt, jobFields, jobOf, jobIn, orderOf, jobsIn}
+use Rattle.packed.specs.Packed.{theNumber, theWeight, theReady, theLength, theDeadline, isCritical}
 use Rattle.packed.specs.PackedLaws.{word-is, fields-is, numbers-count, fields-of-numbers, order-jobs}
 use Rattle.packed.specs.Refusals.{fieldsWithin}
 use Rattle.packed.specs.RefusalLaws.{within-is, fields-within}
@@ -80,14 +82,12 @@ whole-of-each : (zs : ℕ → List ℤ) (at m k : ℕ) {j : Job} → getElem? (e
     → (i : ℕ) (r : Rate) → rateOf j i ≡ some r → r .gain ≡ j .weight
 unfolding jobOf
 whole-of-each zs at zero k e i r g = absurd (Option·none-ne-some _ e)
-whole-of-each zs at (suc m) zero {j} e i r g = rw (← same) (one i (rw (← same) at g))
-  where
-    same : jobOf (zs at) ≡ j
-    same = Option·some-injective _ _ e
-
-    one : (i : ℕ) → rateOf (jobOf (zs at)) i ≡ some r → r .gain ≡ jobOf (zs at) .weight
-    one zero g = ap (λ (q : Rate). q .gain) (sym (Option·some-injective _ _ g))
-    one (suc i) g = absurd (Option·none-ne-some r g)
+whole-of-each zs at (suc m) zero {j} e i r g =
+    let z : List ℤ = zs at in
+    let same : jobOf z ≡ j = Option·some-injective _ _ e in
+    rw (← same)
+    (one-rate-whole (natAbs (theNumber z)) (isCritical z) (natAbs (theWeight z)) (theReady z) (natAbs (theLength z)) (theDeadline z) i r
+    (rw (← same) at g))
 whole-of-each zs at (suc m) (suc k) e i r g = whole-of-each zs (suc at) m k e i r g
 
 module _ (bytes : List ℕ) where

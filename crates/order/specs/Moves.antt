@@ -5,7 +5,7 @@ use mathlib.Core.Path.{_≡_, refl, sym, ap, _∙_}
 use mathlib.Core.Bool.{Bool, true, false, not, cond, false≢true}
 use mathlib.Core.List.{List, [], _∷_, List·Memᴰ, List·Memᴰ·head, List·Memᴰ·tail, Memᴰ·cast}
 use mathlib.Core.Logic.{_↔_, _≢_}
-use mathlib.Core.Option.{Option, none, some, Option·none-ne-some}
+use mathlib.Core.Option.{Option, none, some, Option·none-ne-some, Option·some-injective}
 use native.Mathlib.Nat.{add-zero}
 use native.Mathlib.Omega.{arith}
 use lib.IntN.{ℤ, pos, _+ℤ_, _-ℤ_}
@@ -15,7 +15,7 @@ use borrow.Author.Tests.{not-true}
 use Rattle.seconds.specs.Limits.{rest}
 use Rattle.seconds.specs.Signed.{signed, add-is, sub-is, max-is, min-is}
 use Rattle.seconds.specs.Ranges.{minZ, InFree}
-use Rattle.order.specs.Job.{Rate, Job, Point, startAt, rateOf, finishAt, allowedAt, freeAt, gainAt}
+use Rattle.order.specs.Job.{Rate, Job, oneRate, Point, startAt, rateOf, finishAt, allowedAt, freeAt, gainAt}
 use Rattle.order.specs.Job.{allowed, busFree, gainOf, lossOf, upTo, picks, move}
 use Rattle.order.specs.Choice.{startOf}
 use Rattle.order.specs.Given.{Covers}
@@ -267,6 +267,12 @@ gain-critical j x w c = omega (arith, gain-light j x w, w .weightless c)
 -- what it does not count, it loses.
 pub gain-and-loss : (j : Job) (x : ℕ) → JobWithin j → gainOf j x + lossOf j x ≡ j .weight
 gain-and-loss j x w = omega (arith, gain-light j x w)
+
+-- A job of the rules counts its whole weight at its one rate.
+pub one-rate-whole : (n : ℕ) (c : Bool) (w : ℕ) (ready : ℤ) (l : ℕ) (d : ℤ) (k : ℕ) (r : Rate)
+    → rateOf (oneRate n c w ready l d) k ≡ some r → r .gain ≡ w
+one-rate-whole n c w ready l d zero r e = ap (λ (q : Rate). q .gain) (sym (Option·some-injective _ _ e))
+one-rate-whole n c w ready l d (suc k) r e = absurd (Option·none-ne-some r e)
 
 -- Only a job that is not critical may be left out, and then it loses its weight; kept at a rate that counts its whole weight it
 -- loses none.
