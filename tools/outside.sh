@@ -144,8 +144,14 @@ hold_build_script() {
     stops none "must be a whole path"
 }
 
+# shown FILE: the README shows every line of an example's output.
+shown() {
+    [ "$(grep -cxFf "$1" README.md)" = "$(grep -c '' "$1")" ] || die "README.md does not show $1"
+}
+
 hold_p1() {
     say "P1 from C, C++ and Rust"
+    shown examples/p1.expected
     for program in "$out/plan_p1.c11" "$out/plan_p1.cxx17" "$built/examples/plan_p1"; do
         $emulator "$program" <examples/p1.order >"$out/p1.txt"
         cmp "$out/p1.txt" examples/p1.expected || die "$program prints another plan than examples/p1.expected"
@@ -154,6 +160,7 @@ hold_p1() {
 
 hold_halves() {
     say "the worked order of halves from C and C++"
+    shown examples/halves.expected
     for made in c11 cxx17; do
         $emulator "$out/plan_halves.$made" >"$out/halves.txt"
         cmp "$out/halves.txt" examples/halves.expected || die "plan_halves.$made does not print examples/halves.expected"
