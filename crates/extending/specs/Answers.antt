@@ -13,13 +13,12 @@ use Rattle.order.specs.Job.{weightOf}
 use Rattle.profile.specs.Profile.{extend, lastWeight}
 use Rattle.profile.specs.Extending.{extend-empty}
 use Rattle.packed.specs.Judge.{Verdict, fine, refused}
-use Rattle.packed.specs.JudgeLaws.{judge-tells}
 use Rattle.packed.specs.Packed.{numbersOf, jobsOf, orderOf}
 use Rattle.packed.specs.Refusals.{headerChecks, jobChecks, weightChecks}
 use Rattle.packed.specs.RefusalPlaces.{PlaceIs, nowhere}
 use Rattle.profiles.specs.Numbers.{mostNumbers, holdsProfile}
 use Rattle.cells.specs.Work.{area}
-use Rattle.judge.specs.Told.{stays, ten-tells, Placed, placed-behind, placed-check, placed-rooms, placed-order}
+use Rattle.judge.specs.Told.{stays, up-to-ten, Placed, placed-behind, placed-check, placed-rooms, placed-order}
 use Rattle.extending.specs.Calls.{profileGiven, profileChecks, extendJudged, extendChecks, extendVerdict}
 use Rattle.extending.specs.Calls.{extension, extendedBy, extendedOf, ExtendCall, extendRefusal, extendPlace, pointsWritten}
 use Rattle.extending.specs.CallLaws.{seven, eight, nine}
@@ -45,8 +44,7 @@ module _ (ns : List ℤ) (bytes : List ℕ) (out work : List ℤ) where
   -- No refusal by the checks has a number above 10,
   extend-ten : {n p : ℕ} → extendVerdict ns bytes out work ≡ refused n p → n ≤ 10
   unfolding extendChecks extendJudged headerChecks jobChecks weightChecks
-  extend-ten =
-      judge-tells (λ n p. n ≤ 10) (extendChecks ns bytes out work) (ten-tells (extendChecks ns bytes out work) tt)
+  extend-ten = up-to-ten (extendChecks ns bytes out work) tt
 
   -- so no outcome that the contract allows is refused with 11, or more.
   pub extend-never-eleven : {r : Extended} {out′ work′ : List ℤ} → ExtendCall ns bytes out work r out′ work′ → extendRefusal r ≤ 10

@@ -1,9 +1,9 @@
 -- What the answers of planning halves say: 13 exactly when a place offends, with the first such place; else planning's own answer
 -- and buffers; 11 exactly when nothing is feasible; and the optional seconds lost, 60 for each weight lost.
-use Prim.Native.Nat.{ℕ, _*_, _≤_, _<_}
+use Prim.Native.Nat.{ℕ, _*_, _<_}
 use mathlib.Core.Path.{_≡_, refl, sym, ap, _∙_}
 use mathlib.Core.Bool.{true, true≢false}
-use mathlib.Core.Logic.{_↔_, _≢_, _⊎_, inl, inr}
+use mathlib.Core.Logic.{_↔_, _≢_, _⊎_, inl, inr, ⊎-elim}
 use mathlib.Core.List.{List, _++_}
 use mathlib.Core.Option.{Option, none, some, Option·map}
 use native.Mathlib.Omega.{arith}
@@ -18,20 +18,20 @@ use Rattle.order.specs.Halves.{offendsAt, secondsLost}
 use Rattle.order.specs.HalvesLaws.{Offends, offends-is, offends-below, OfHalves, of-halves}
 use Rattle.plan.specs.Plan.{Ended, plan, Answer, answerOf, planAnswer}
 use Rattle.packed.specs.Judge.{Check, Verdict, fine, refused, judge}
-use Rattle.packed.specs.JudgeLaws.{stages-fine, refused-fine, stage-of, Tells, judge-tells}
+use Rattle.packed.specs.JudgeLaws.{stages-fine, refused-fine, judge-tells}
 use Rattle.packed.specs.Packed.{countOf, numbersOf, jobCount, orderOf, jobsIn}
 use Rattle.packed.specs.PackedLaws.{numbers-count}
 use Rattle.packed.specs.PlacesLaws.{IsFirst, first-unique}
-use Rattle.packed.specs.Refusals.{firstOffending, headerChecks, jobChecks, weightChecks, orderChecks, halvesChecks, roomChecks}
+use Rattle.packed.specs.Refusals.{firstOffending, orderChecks, halvesChecks, roomChecks}
 use Rattle.packed.specs.RefusalLaws.{offending-is-first, halves-fine}
 use Rattle.packed.specs.RefusalPlaces.{PlaceIs, nowhere, halves-tell}
 use Rattle.fields.specs.Places.{jobs-count}
 use Rattle.cells.specs.Work.{area}
 use Rattle.filling.specs.After.{workBy}
-use Rattle.judge.specs.Told.{stays, ten-tells, told-next, Placed, placed-behind, placed-rooms, placed-order}
+use Rattle.judge.specs.Told.{stays, told-next, Placed, placed-behind, placed-rooms, placed-order}
 use Rattle.planner.specs.Calls.{planChecks, planVerdict, plannedBy, startsBy, plannedOf, startsAfter, planWorkAfter, PlanCall}
 use Rattle.planner.specs.Calls.{PlanNumbers, planNumbers}
-use Rattle.planner.specs.Answers.{refusedWith, plannedWith, NoneFeasible, plan-eleven}
+use Rattle.planner.specs.Answers.{refusedWith, plannedWith, NoneFeasible, plan-ten, plan-eleven}
 use Rattle.planner.specs.declared.Planned.{Planned}
 use Rattle.planner.specs.declared.Planned.the-variants as planned
 use Rattle.halves.specs.Calls.{planHalvesChecks, halvesVerdict, lostIn, lostSeconds, withSeconds, halvesOf, HalvesCall}
@@ -95,15 +95,12 @@ module _ (bytes : List ℕ) where
           }) in
           rw (same, lt-ltb p n within)
 
-  -- No refusal by the order's own checks has a number above 10.
-  order-ten : {n p : ℕ} → judge (orderChecks bytes) ≡ refused n p → n ≤ 10
-  unfolding headerChecks jobChecks weightChecks
-  order-ten = judge-tells (λ n p. n ≤ 10) (orderChecks bytes) (ten-tells (orderChecks bytes) tt)
-
 -- It has no other number.
-thirteen-tells : (zs : List ℤ) → Tells (λ n p. n ≡ 13) (halvesChecks zs)
+only-thirteen : (zs : List ℤ) {n p : ℕ} → judge (halvesChecks zs) ≡ refused n p → judge (halvesChecks zs) ≡ refused 13 p
 unfolding halvesChecks
-thirteen-tells zs = ((λ e. refl), tt)
+only-thirteen zs {n} {p} e =
+    let is : n ≡ 13 = judge-tells (λ n p. n ≡ 13) (halvesChecks zs) ((λ h. refl), tt) e in
+    rw is at e
 
 -- ---- the answer in numbers
 
@@ -129,83 +126,69 @@ module _ (bytes : List ℕ) (starts work : List ℤ) where
       ≡ record { plan = plannedWith (t0 bytes) (jobs bytes) e; secondsLost = secondsLost (jobs bytes) (e .choice) }
   plan-says e passed is = rw (passed, is)
 
-  -- The verdict is 13 exactly when the order's own checks are passed and check 13 is not.
-  verdict-thirteen : {p : ℕ} → halvesVerdict bytes starts work ≡ refused 13 p
-      ↔ ((judge (orderChecks bytes) ≡ fine) × (judge (halvesChecks (numbersOf bytes)) ≡ refused 13 p))
-  unfolding planHalvesChecks
-  verdict-thirteen {p} = (there, back)
-    where
-      order : List Check
-      order = orderChecks bytes
+  -- The stages of its checks: the order's own, 13, and the two rooms.
+  abbrev order : List Check
+  order = orderChecks bytes
 
-      halves : List Check
-      halves = halvesChecks (numbersOf bytes)
+  abbrev halves : List Check
+  halves = halvesChecks (numbersOf bytes)
 
-      places : List Check
-      places = roomChecks (countOf bytes) (length starts)
+  abbrev places : List Check
+  places = roomChecks (countOf bytes) (length starts)
 
-      space : List Check
-      space = roomChecks area (length work)
+  abbrev space : List Check
+  space = roomChecks area (length work)
 
-      room-ten : (need room : ℕ) → judge (roomChecks need room) ≡ refused 13 p → ⊥
-      room-ten need room e =
-          let low = judge-tells (λ n p. n ≤ 10) (roomChecks need room) (ten-tells (roomChecks need room) tt) e in
-          omega arith
-
-      first : judge order ≡ refused 13 p ⊎ ((judge order ≡ fine) × (judge halves ≡ refused 13 p))
-          → (judge order ≡ fine) × (judge halves ≡ refused 13 p)
-      first (inl e) = absurd (omega (arith, order-ten bytes e))
-      first (inr h) = h
-
-      second : judge (order ++ halves) ≡ refused 13 p ⊎ ((judge (order ++ halves) ≡ fine) × (judge places ≡ refused 13 p))
-          → (judge order ≡ fine) × (judge halves ≡ refused 13 p)
-      second (inl e) = first (stage-of order halves e)
-      second (inr h) = absurd (room-ten (countOf bytes) (length starts) (h .1))
-
-      third : judge (order ++ halves ++ places) ≡ refused 13 p
-          ⊎ ((judge (order ++ halves ++ places) ≡ fine) × (judge space ≡ refused 13 p))
-          → (judge order ≡ fine) × (judge halves ≡ refused 13 p)
-      third (inl e) = second (stage-of (order ++ halves) places e)
-      third (inr h) = absurd (room-ten area (length work) (h .1))
-
-      there : judge (order ++ halves ++ places ++ space) ≡ refused 13 p → (judge order ≡ fine) × (judge halves ≡ refused 13 p)
-      there e = third (stage-of (order ++ halves ++ places) space e)
-
-      back : (judge order ≡ fine) × (judge halves ≡ refused 13 p) → judge (order ++ halves ++ places ++ space) ≡ refused 13 p
-      back h =
-          stays (order ++ halves ++ places) space (stays (order ++ halves) places (told-next order halves (h .0) ∙ h .1))
-
-module _ (bytes : List ℕ) (starts work : List ℤ) where
   -- Past all checks 13 is passed too.
-  passed-halves : halvesVerdict bytes starts work ≡ fine → judge (halvesChecks (numbersOf bytes)) ≡ fine
+  passed-halves : halvesVerdict bytes starts work ≡ fine → judge halves ≡ fine
   unfolding planHalvesChecks
   passed-halves e =
-      let order = orderChecks bytes in
-      let halves = halvesChecks (numbersOf bytes) in
-      let places = roomChecks (countOf bytes) (length starts) in
-      let rooms = stages-fine (order ++ halves ++ places) (roomChecks area (length work)) .0 e in
+      let rooms = stages-fine (order ++ halves ++ places) space .0 e in
       stages-fine order halves .0 (stages-fine (order ++ halves) places .0 (rooms .0) .0) .1
 
-  -- Refused by the order's own checks, the verdict is planning's.
-  stopped-early : {n p : ℕ} → judge (orderChecks bytes) ≡ refused n p
-      → halvesVerdict bytes starts work ≡ planVerdict bytes starts work
+  -- Refused by the order's own checks, the verdict is planning's; past them, refused by 13, it is that.
+  stopped-early : {n p : ℕ} → judge order ≡ refused n p → halvesVerdict bytes starts work ≡ planVerdict bytes starts work
   unfolding planHalvesChecks planChecks
   stopped-early e =
-      let order = orderChecks bytes in
-      let halves = halvesChecks (numbersOf bytes) in
-      let places = roomChecks (countOf bytes) (length starts) in
-      let space = roomChecks area (length work) in
       stays (order ++ halves ++ places) space (stays (order ++ halves) places (stays order halves e))
       ∙ sym (stays (order ++ places) space (stays order places e))
+
+  stopped-by-thirteen : {n p : ℕ} → judge order ≡ fine → judge halves ≡ refused n p → halvesVerdict bytes starts work ≡ refused n p
+  unfolding planHalvesChecks
+  stopped-by-thirteen e f =
+      stays (order ++ halves ++ places) space (stays (order ++ halves) places (told-next order halves e ∙ f))
+
+  -- So the verdict is planning's, or the order is accepted and check 13 refuses it.
+  either-verdict : (halvesVerdict bytes starts work ≡ planVerdict bytes starts work)
+      ⊎ ((judge order ≡ fine) × ((p : ℕ) × (judge halves ≡ refused 13 p)))
+  either-verdict = go (judge order) refl (judge halves) refl
+    where
+      go : (v : Verdict) → judge order ≡ v → (w : Verdict) → judge halves ≡ w
+          → (halvesVerdict bytes starts work ≡ planVerdict bytes starts work)
+          ⊎ ((judge order ≡ fine) × ((p : ℕ) × (judge halves ≡ refused 13 p)))
+      go (refused n p) e w f = inl (stopped-early e)
+      go fine e fine f = inl (verdict-as-plan bytes starts work e f)
+      go fine e (refused n p) f = inr (e, (p, only-thirteen (numbersOf bytes) f))
+
+  -- It is 13 exactly then.
+  verdict-thirteen : {p : ℕ} → halvesVerdict bytes starts work ≡ refused 13 p
+      ↔ ((judge order ≡ fine) × (judge halves ≡ refused 13 p))
+  verdict-thirteen {p} = (λ e. there e either-verdict, λ h. stopped-by-thirteen (h .0) (h .1))
+    where
+      there : halvesVerdict bytes starts work ≡ refused 13 p
+          → (halvesVerdict bytes starts work ≡ planVerdict bytes starts work)
+          ⊎ ((judge order ≡ fine) × ((q : ℕ) × (judge halves ≡ refused 13 q)))
+          → (judge order ≡ fine) × (judge halves ≡ refused 13 p)
+      there e (inl same) = absurd (omega (arith, plan-ten bytes starts work (sym same ∙ e)))
+      there e (inr h) = (h .0, h .1 .1 ∙ sym (stopped-by-thirteen (h .0) (h .1 .1)) ∙ e)
 
   -- Every refusal by the checks has its place.
   halves-placed : Placed (numbersOf bytes) (planHalvesChecks bytes starts work)
   unfolding planHalvesChecks
   halves-placed =
       let zs = numbersOf bytes in
-      placed-rooms zs (orderChecks bytes ++ halvesChecks zs) (countOf bytes) (length starts) area (length work)
-      (placed-behind zs (orderChecks bytes) (halvesChecks zs) (placed-order bytes)
-      (λ n p. judge-tells (PlaceIs zs) (halvesChecks zs) (halves-tell zs)))
+      placed-rooms zs (order ++ halves) (countOf bytes) (length starts) area (length work)
+      (placed-behind zs order halves (placed-order bytes) (λ n p. judge-tells (PlaceIs zs) halves (halves-tell zs)))
 
 -- ---- every outcome that the contract allows
 
@@ -262,13 +245,12 @@ module _ (bytes : List ℕ) (starts work : List ℤ) {r : HalvesPlanned} {starts
   -- and always for any other order that passes 1 to 9.
   pub others-thirteen : judge (orderChecks bytes) ≡ fine → ¬ OfHalves (jobs bytes) → halvesNumbers r .plan .refusal ≡ 13
   unfolding orderOf
-  others-thirteen order other = go (judge (halvesChecks (numbersOf bytes))) refl
+  others-thirteen accepted other = go (judge (halvesChecks (numbersOf bytes))) refl
     where
       go : (v : Verdict) → judge (halvesChecks (numbersOf bytes)) ≡ v → halvesNumbers r .plan .refusal ≡ 13
       go fine e = absurd (other (halves-fine (numbersOf bytes) .0 e))
       go (refused n p) e =
-          let is : n ≡ 13 = judge-tells (λ n p. n ≡ 13) (halvesChecks (numbersOf bytes)) (thirteen-tells (numbersOf bytes)) e in
-          answer-thirteen p .1 (verdict-thirteen bytes starts work .1 (order, rw is at e)) .0
+          answer-thirteen p .1 (verdict-thirteen bytes starts work .1 (accepted, only-thirteen (numbersOf bytes) e)) .0
 
   -- In short: 13 exactly when the order is accepted by 1 to 9 and some place offends.
   pub thirteen-if-some : halvesNumbers r .plan .refusal ≡ 13
@@ -282,15 +264,10 @@ module _ (bytes : List ℕ) (starts work : List ℤ) {r : HalvesPlanned} {starts
   -- Where 13 is not given, the answer's numbers and both buffers are planning's own.
   module _ {q : Planned} {starts″ work″ : List ℤ} (plan-call : PlanCall bytes starts work q starts″ work″) where
     verdict-same : halvesNumbers r .plan .refusal ≢ 13 → halvesVerdict bytes starts work ≡ planVerdict bytes starts work
-    verdict-same not-thirteen = go (judge (orderChecks bytes)) refl (judge (halvesChecks (numbersOf bytes))) refl
-      where
-        go : (v : Verdict) → judge (orderChecks bytes) ≡ v → (w : Verdict) → judge (halvesChecks (numbersOf bytes)) ≡ w
-            → halvesVerdict bytes starts work ≡ planVerdict bytes starts work
-        go (refused n p) e w f = stopped-early bytes starts work e
-        go fine e fine f = verdict-as-plan bytes starts work e f
-        go fine e (refused n p) f =
-            let is : n ≡ 13 = judge-tells (λ n p. n ≡ 13) (halvesChecks (numbersOf bytes)) (thirteen-tells (numbersOf bytes)) f in
-            absurd (not-thirteen (answer-thirteen p .1 (verdict-thirteen bytes starts work .1 (e, rw is at f)) .0))
+    verdict-same not-thirteen =
+        ⊎-elim (λ same. same)
+        (λ h. absurd (not-thirteen (answer-thirteen (h .1 .0) .1 (verdict-thirteen bytes starts work .1 (h .0, h .1 .1)) .0)))
+        (either-verdict bytes starts work)
 
     pub as-plan : halvesNumbers r .plan .refusal ≢ 13
         → (halvesNumbers r .plan ≡ planNumbers q) × (starts′ ≡ starts″) × (work′ ≡ work″)

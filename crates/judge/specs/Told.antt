@@ -3,7 +3,6 @@
 use Prim.Native.Nat.{ℕ, _+_, _*_, _/_, _≤_, _<_}
 use mathlib.Core.Path.{_≡_, refl, sym, ap, _∙_}
 use mathlib.Core.Bool.{Bool, true, false, not, cond, _&&_}
-use mathlib.Core.Logic.{⊎-elim}
 use mathlib.Core.List.{List, [], _∷_, _++_}
 use native.Mathlib.Omega.{arith}
 use lib.Dec.{T, leb, ltb, eqb}
@@ -16,7 +15,7 @@ use borrow.Table.Steps.{cases}
 use Rattle.seconds.specs.Ranges.{isTime}
 use Rattle.seconds.specs.Signed.{signed}
 use Rattle.packed.specs.Judge.{Check, Verdict as Judged, fine, refused, judge, orElse, check}
-use Rattle.packed.specs.JudgeLaws.{judge-append, stage-of, Tells, judge-tells}
+use Rattle.packed.specs.JudgeLaws.{judge-append, Tells, judge-tells}
 use Rattle.order.specs.Job.{weightOf}
 use Rattle.packed.specs.Packed.{countOf, numbersOf, jobCount, jobsOf}
 use Rattle.packed.specs.Refusals.{headerChecks, listChecks, jobChecks, weightChecks, roomChecks, orderChecks, firstRepeat}
@@ -151,11 +150,15 @@ abbrev pub upToTen : List Check → Bool
 upToTen [] = true
 upToTen (c ∷ cs) = leb (c .number) 10 && upToTen cs
 
-pub ten-tells : (cs : List Check) → T (upToTen cs) → Tells (λ n p. n ≤ 10) cs
+ten-tells : (cs : List Check) → T (upToTen cs) → Tells (λ n p. n ≤ 10) cs
 ten-tells [] t = tt
 ten-tells (c ∷ cs) t =
     let h : T (leb (c .number) 10) = search and-l in
     (λ e. omega signed, ten-tells cs (search and-r))
+
+-- Then no refusal by them has.
+pub up-to-ten : (cs : List Check) → T (upToTen cs) → {n p : ℕ} → judge cs ≡ refused n p → n ≤ 10
+up-to-ten cs t = judge-tells (λ n p. n ≤ 10) cs (ten-tells cs t)
 
 -- ---- the place of a refusal
 
@@ -165,7 +168,11 @@ Placed zs cs = (n p : ℕ) → judge cs ≡ refused n p → PlaceIs zs n p
 
 -- One stage behind another.
 pub placed-behind : (zs : List ℤ) (cs ds : List Check) → Placed zs cs → Placed zs ds → Placed zs (cs ++ ds)
-placed-behind zs cs ds first second n p e = ⊎-elim (first n p) (λ h. second n p (h .1)) (stage-of cs ds e)
+placed-behind zs cs ds first second n p e = go (judge cs) refl (sym (judge-append cs ds) ∙ e)
+  where
+    go : (v : Judged) → judge cs ≡ v → orElse v (judge ds) ≡ refused n p → PlaceIs zs n p
+    go fine d f = second n p f
+    go (refused m q) d f = first n p (d ∙ f)
 
 -- A check with no place.
 pub placed-check : (zs : List ℤ) (m : ℕ) (b : Bool) → hasPlace m ≡ false → Placed zs (check m b ∷ [])

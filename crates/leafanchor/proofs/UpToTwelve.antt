@@ -13,11 +13,10 @@ use lib.IntN.{ℤ}
 use lib.ListN.{length}
 use borrow.Table.Steps.{cases}
 use Rattle.packed.specs.Judge.{Check, Verdict, fine, refused, judge}
-use Rattle.packed.specs.JudgeLaws.{judge-tells}
 use Rattle.packed.specs.Packed.{countOf, orderOf}
 use Rattle.packed.specs.Refusals.{headerChecks, listChecks, jobChecks, weightChecks, unpackChecks, packChecks}
 use Rattle.plan.specs.Plan.{Answer, planAnswer}
-use Rattle.judge.specs.Told.{upToTen, ten-tells}
+use Rattle.judge.specs.Told.{upToTen, up-to-ten}
 use Rattle.heat.specs.Answer.{refusalOf as heatRefusal, heatingOf}
 use Rattle.heat.specs.declared.Heating.{Heating}
 use Rattle.heat.specs.declared.Heating.the-variants as heating
@@ -67,9 +66,7 @@ by-verdict cs low number past told = go (judge cs) refl
   where
     go : (v : Verdict) → judge cs ≡ v → number v ≤ 12
     go fine e = past
-    go (refused n p) e =
-        let ten = judge-tells (λ n p. n ≤ 10) cs (ten-tells cs low) e in
-        omega (arith, told n p)
+    go (refused n p) e = omega (arith, told n p, up-to-ten cs low e)
 
 -- ---- each answer
 

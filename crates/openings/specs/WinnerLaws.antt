@@ -14,7 +14,7 @@ use borrow.Table.Steps.{cases}
 use Rattle.seconds.specs.Signed.{signed}
 use Rattle.profile.specs.Profile.{greater}
 use Rattle.packed.specs.Judge.{Verdict as Judged, fine, refused, judge}
-use Rattle.packed.specs.JudgeLaws.{stages-fine, judge-tells}
+use Rattle.packed.specs.JudgeLaws.{stages-fine}
 use Rattle.packed.specs.Layout.{headerBytes}
 use Rattle.packed.specs.Places.{flat}
 use Rattle.packed.specs.Packed.{countOf, recordAt}
@@ -23,7 +23,7 @@ use Rattle.packed.specs.Refusals.{headerChecks, jobChecks, weightChecks, roomCh
 use Rattle.packed.specs.RefusalLaws.{room-fine}
 use Rattle.packed.specs.Accepted.{order-fine}
 use Rattle.cells.specs.Work.{area, cleared}
-use Rattle.judge.specs.Told.{ten-tells}
+use Rattle.judge.specs.Told.{up-to-ten}
 use Rattle.openings.specs.Choosing.{openingWorth, byWorth, Tie, toFirst, winnerBy, choosingChecks, choosingVerdict}
 use Rattle.openings.specs.Choosing.{chosenBy, Asked, refusalOf}
 use Rattle.openings.specs.ChoosingLaws.{cleared-past}
@@ -77,8 +77,7 @@ module _ (first second : List ℕ) (t : ℤ) (work : List ℤ) where
   -- The checks give 1 to 10,
   checks-most : {n p : ℕ} → choosingVerdict first second work ≡ refused n p → n ≤ 10
   unfolding choosingChecks headerChecks jobChecks weightChecks
-  checks-most =
-      judge-tells (λ n p. n ≤ 10) (choosingChecks first second work) (ten-tells (choosingChecks first second work) tt)
+  checks-most = up-to-ten (choosingChecks first second work) tt
 
   -- and are passed exactly when both orders are accepted and there is room.
   checks-passed : choosingVerdict first second work ≡ fine

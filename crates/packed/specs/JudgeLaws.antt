@@ -2,7 +2,7 @@
 use Prim.Native.Nat.{ℕ, zero, suc}
 use mathlib.Core.Path.{_≡_, refl, sym, _∙_}
 use mathlib.Core.Bool.{true, false}
-use mathlib.Core.Logic.{_↔_, _⊎_, inl, inr}
+use mathlib.Core.Logic.{_↔_}
 use mathlib.Core.List.{List, [], _∷_, _++_}
 use native.Mathlib.Omega.{arith}
 use lib.ListN.{getD}
@@ -30,16 +30,6 @@ stages-fine cs ds = (
   λ e. both-fine (judge cs) (judge ds) (sym (judge-append cs ds) ∙ e),
   λ h. rw (judge-append cs ds, h .0) (h .1),
 )
-
--- A refusal of two stages is the first's, or the second's past the first.
-pub stage-of : (cs ds : List Check) {n p : ℕ} → judge (cs ++ ds) ≡ refused n p
-    → judge cs ≡ refused n p ⊎ ((judge cs ≡ fine) × (judge ds ≡ refused n p))
-stage-of cs ds {n} {p} e = go (judge cs) refl (sym (judge-append cs ds) ∙ e)
-  where
-    go : (v : Verdict) → judge cs ≡ v → orElse v (judge ds) ≡ refused n p
-        → judge cs ≡ refused n p ⊎ ((judge cs ≡ fine) × (judge ds ≡ refused n p))
-    go fine d f = inr (d, f)
-    go (refused m q) d f = inl (d ∙ f)
 
 -- ---- fine
 

@@ -18,14 +18,14 @@ use Rattle.plan.specs.Plan.{Ended, plan, Answer, answerOf, planAnswer}
 use Rattle.plan.specs.PlanIs.{plan-none, plan-is}
 use Rattle.plan.specs.Figures.{answer-figures}
 use Rattle.packed.specs.Judge.{Verdict, fine, refused, judge}
-use Rattle.packed.specs.JudgeLaws.{stages-fine, judge-tells}
+use Rattle.packed.specs.JudgeLaws.{stages-fine}
 use Rattle.packed.specs.Packed.{countOf, numbersOf, orderOf}
 use Rattle.packed.specs.Refusals.{headerChecks, jobChecks, weightChecks, roomChecks, orderChecks}
 use Rattle.packed.specs.RefusalLaws.{room-fine}
 use Rattle.packed.specs.Accepted.{order-within}
 use Rattle.packed.specs.RefusalPlaces.{PlaceIs, nowhere}
 use Rattle.cells.specs.Work.{area}
-use Rattle.judge.specs.Told.{ten-tells, Placed, placed-rooms, placed-order}
+use Rattle.judge.specs.Told.{up-to-ten, Placed, placed-rooms, placed-order}
 use Rattle.starting.specs.Picks.{jobsKept}
 use Rattle.starting.specs.PicksLaws.{kept-list}
 use Rattle.planner.specs.Calls.{planChecks, planVerdict, figuresOf, plannedBy, plannedOf, PlanCall}
@@ -92,10 +92,9 @@ module _ (bytes : List ℕ) (starts work : List ℤ) where
       )
 
   -- No refusal by them has a number above 10.
-  plan-ten : {n p : ℕ} → planVerdict bytes starts work ≡ refused n p → n ≤ 10
+  pub plan-ten : {n p : ℕ} → planVerdict bytes starts work ≡ refused n p → n ≤ 10
   unfolding planChecks headerChecks jobChecks weightChecks
-  plan-ten =
-      judge-tells (λ n p. n ≤ 10) (planChecks bytes starts work) (ten-tells (planChecks bytes starts work) tt)
+  plan-ten = up-to-ten (planChecks bytes starts work) tt
 
   -- Their places are those of 6 and 7, or else 0,
   plan-placed : Placed (numbersOf bytes) (planChecks bytes starts work)

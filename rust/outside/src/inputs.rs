@@ -36,17 +36,38 @@ fn count_of(random: &mut Random) -> usize {
     }
 }
 
+/// Draws an order of a style and a number of jobs, whose weights sum to at most so much.
+type Draw = fn(&mut Random, Style, usize, i32) -> Order;
+
 /// An order in range, of any style.
 pub fn order(random: &mut Random) -> Order {
-    let n = count_of(random);
-    let style = random.one_of(&Style::ALL);
-    order_with(random, style, n)
+    drawn(random, order_of)
 }
 
 /// An order in range of a given style and number of jobs.
 pub fn order_with(random: &mut Random, style: Style, n: usize) -> Order {
+    drawn_with(random, order_of, style, n)
+}
+
+/// An order of halves in range, of any style.
+pub fn halves(random: &mut Random) -> Order {
+    drawn(random, halves_of)
+}
+
+/// An order of halves in range of a given style and number of jobs.
+pub fn halves_with(random: &mut Random, style: Style, n: usize) -> Order {
+    drawn_with(random, halves_of, style, n)
+}
+
+fn drawn(random: &mut Random, draw: Draw) -> Order {
+    let n = count_of(random);
+    let style = random.one_of(&Style::ALL);
+    drawn_with(random, draw, style, n)
+}
+
+fn drawn_with(random: &mut Random, draw: Draw, style: Style, n: usize) -> Order {
     let most = most_weight(random, n);
-    order_of(random, style, n, most)
+    draw(random, style, n, most)
 }
 
 /// What the weights of `n` jobs may sum to.
@@ -116,19 +137,6 @@ pub fn bytes(random: &mut Random) -> Vec<u8> {
             damaged_bytes(random, bytes)
         }
     }
-}
-
-/// An order of halves in range, of any style.
-pub fn halves(random: &mut Random) -> Order {
-    let n = count_of(random);
-    let style = random.one_of(&Style::ALL);
-    halves_with(random, style, n)
-}
-
-/// An order of halves in range of a given style and number of jobs.
-pub fn halves_with(random: &mut Random, style: Style, n: usize) -> Order {
-    let most = most_weight(random, n);
-    halves_of(random, style, n, most)
 }
 
 /// An order with one or two damages, each of which may make a job no half, at its place or at a later one.
