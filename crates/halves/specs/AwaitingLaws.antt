@@ -7,13 +7,12 @@ use mathlib.Core.Logic.{_≢_}
 use mathlib.Core.List.{List, [], _∷_, _++_}
 use mathlib.Core.Option.{some}
 use native.Mathlib.Omega.{arith}
-use lib.Dec.{T, leb, ltb, eqb}
+use lib.Dec.{leb, ltb, eqb}
 use lib.IntN.{ℤ, pos, negsuc, natAbs}
-use lib.Signed.{nonNeg}
 use lib.ListN.{length, take, drop, getD, set, replicate, getElem?, length-set, length-replicate, getD-replicate}
 use lib.Seq.{getD-set-same, getD-set-other}
-use mir.Syntax.{w32, w64}
-use mir.Val.{Fits, toZ, ofZ}
+use mir.Syntax.{w32}
+use mir.Val.{toZ, ofZ}
 use mir.Facts.{toZ-ofZ}
 use borrow.Author.Tests.{eqb-true, eqb-false, eq-eqb, ne-eqb, lt-ltb, le-ltb}
 use borrow.Table.Steps.{cases}
@@ -83,16 +82,7 @@ module _ (job : Fields) (awaited : List ℕ) (f : JobFacts job) where
   fitting : JobFits job
   fitting = facts-fit job f
 
-  -- They are within their limits, and so the casts are.
-  pub number-casts : T (nonNeg (toZ w32 (ofZ w32 (job .number)))) × Fits w64 number
-  number-casts = rw (toZ-ofZ (fitting .number)) (omega (signed, f .number, abs-is (job .number)))
-
-  pub weight-casts : T (nonNeg (toZ w32 (ofZ w32 (job .weight)))) × Fits w32 weight
-  weight-casts = rw (toZ-ofZ (fitting .weight)) (omega (signed, f .weight, abs-is (job .weight)))
-
-  pub seconds-casts : T (nonNeg (toZ w32 (ofZ w32 (job .length)))) × Fits w32 seconds
-  seconds-casts = rw (toZ-ofZ (fitting .long)) (omega (signed, f .long, abs-is (job .length)))
-
+  -- Two of them are low.
   pub number-low : number ≤ 63
   number-low = rw (toZ-ofZ (fitting .number)) (omega (signed, f .number, abs-is (job .number)))
 

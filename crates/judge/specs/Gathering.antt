@@ -38,11 +38,11 @@ use Rattle.judge.specs.declared.Gathered.{Gathered}
 -- ---- a number of a job, from 0 to a greatest, as the code casts it
 
 -- It is what its bits say.
-pub kept : (greatest : ℕ) (z : ℤ) → Between (pos 0) (pos greatest) z → greatest < 256 → toZ w32 (ofZ w32 z) ≡ z
+pub kept : (greatest : ℕ) (z : ℤ) → Between (pos 0) (pos greatest) z → greatest < 65536 → toZ w32 (ofZ w32 z) ≡ z
 kept greatest z b l = toZ-ofZ (omega signed)
 
--- It has room in any unsigned number.
-pub casts : (w : Width) (greatest : ℕ) (z : ℤ) → Between (pos 0) (pos greatest) z → greatest < 256 → 256 ≤ 2 ^ bits w
+-- It has room in any unsigned number that has room for the greatest.
+pub casts : (w : Width) (greatest : ℕ) (z : ℤ) → Between (pos 0) (pos greatest) z → greatest < 65536 → greatest < 2 ^ bits w
     → T (nonNeg (toZ w32 (ofZ w32 z))) × Fits w (natAbs (toZ w32 (ofZ w32 z)))
 casts w greatest z b l h = rw (kept greatest z b l) (omega (signed, abs-is z))
 

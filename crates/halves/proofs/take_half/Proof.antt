@@ -2,10 +2,13 @@
 -- Assumes nothing.
 use native.Mathlib.Omega.{arith}
 use denote.Ref.{now}
+use mir.Syntax.{w32, w64}
 use borrow.Author.Needs.{needs}
+use Rattle.seconds.specs.Limits.{highestNumber, heaviest, longest}
+use Rattle.seconds.specs.Signed.{signed}
 use Rattle.fields.specs.Facts.{JobFacts, job-facts}
-use Rattle.halves.specs.AwaitingLaws.{number-casts, weight-casts, seconds-casts, number-low, weight-low}
-use Rattle.halves.specs.AwaitingLaws.{high-taken, half-taken, long-taken, awaited-taken}
+use Rattle.judge.specs.Gathering.{casts}
+use Rattle.halves.specs.AwaitingLaws.{number-low, weight-low, high-taken, half-taken, long-taken, awaited-taken}
 use Rattle.halves.proofs.take_half.Statement.{statement}
 use Rattle.halves.proofs.take_half.Tie as tie
 
@@ -14,15 +17,19 @@ facts : (s : tie.Start) → JobFacts (s .args .job)
 facts s = job-facts (s .args .job) .0 (s .pre .within)
 
 cast-number : tie.Need-cast-number
-cast-number c = let s = c .before .before in number-casts (s .args .job) (now (s .args .awaited)) (facts s)
+cast-number c =
+    let s = c .before .before in
+    casts w64 highestNumber (s .args .job .number) (facts s .number) (omega arith) (omega arith)
 
 cast-weight : tie.Need-cast-weight
-cast-weight c = let s = c .before .before .before .before in weight-casts (s .args .job) (now (s .args .awaited)) (facts s)
+cast-weight c =
+    let s = c .before .before .before .before in
+    casts w32 heaviest (s .args .job .weight) (facts s .weight) (omega arith) (omega arith)
 
 cast-length : tie.Need-cast-length
 cast-length c =
     let s = c .before .before .before .before .before .before in
-    seconds-casts (s .args .job) (now (s .args .awaited)) (facts s)
+    casts w32 longest (s .args .job .length) (omega (signed, facts s .long)) (omega arith) (omega arith)
 
 returns : tie.Need-returns
 returns c =
