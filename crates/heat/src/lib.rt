@@ -1,8 +1,11 @@
-// Heat-up lengths: the seconds of heating for the byte that the sampler gives, from a table of one
-// length for each whole degree from -30 to +9. Every byte has an answer; below -30 degrees it is a
-// refusal. Assumes nothing.
+// Heat-up lengths: the seconds of heating for the byte that the sampler gives, by the two slopes of the
+// rule. Every byte has an answer; below -30 degrees it is a refusal. Assumes nothing.
 ghost use mathlib.Core.Path.{_≡_};
-ghost use Rattle.heat.specs.Heat.{degreeOf};
+ghost use Prim.Native.Nat.{_≤_};
+ghost use lib.IntN.{pos, _-ℤ_, natAbs};
+ghost use lib.Signed.{_≤ℤ_};
+ghost use Rattle.seconds.specs.Limits.{coldest};
+ghost use Rattle.heat.specs.Heat.{degreeOf, heatAt};
 ghost use Rattle.heat.specs.Answer.{heatingOf};
 
 // The heating that a cell wants: so many seconds, or none since it is too cold (refusal 12).
@@ -10,50 +13,6 @@ pub enum Heating {
     Seconds(u32),
     TooCold,
 }
-
-// One length for each degree, -30 first.
-const LENGTHS: [u32; 40] = [
-    3300,
-    3180,
-    3060,
-    2940,
-    2820,
-    2700,
-    2580,
-    2460,
-    2340,
-    2220,
-    2100,
-    1980,
-    1860,
-    1740,
-    1620,
-    1500,
-    1380,
-    1260,
-    1140,
-    1020,
-    900,
-    855,
-    810,
-    765,
-    720,
-    675,
-    630,
-    585,
-    540,
-    495,
-    450,
-    405,
-    360,
-    315,
-    270,
-    225,
-    180,
-    135,
-    90,
-    45,
-];
 
 // The degree that a byte means: above 127 it is its value less 256.
 fn degree(byte: u8) -> i32
@@ -63,6 +22,28 @@ fn degree(byte: u8) -> i32
     if raw > 127 { raw - 256 } else { raw }
 }
 
+// How far a cell of -30 degrees or more lies below a mark of at most 10.
+fn degrees_below(mark: i32, cell: i32) -> u32
+    requires { ⌜ (coldest ≤ℤ cell) × (cell ≤ℤ mark) × (mark ≤ℤ pos 10) ⌝ }
+    ensures { λ r. ⌜ (r ≡ natAbs (mark -ℤ cell)) × (r ≤ 40) ⌝ }
+{
+    (mark - cell) as u32
+}
+
+// The seconds of heating at a degree of -30 or more, by two slopes that meet at -10 degrees and 900 seconds.
+fn seconds_at(cell: i32) -> u32
+    requires { ⌜ coldest ≤ℤ cell ⌝ }
+    ensures { λ r. ⌜ r ≡ heatAt cell ⌝ }
+{
+    if cell >= 10 {
+        return 0;
+    }
+    if cell >= -10 {
+        return 45 * degrees_below(10, cell);
+    }
+    900 + 120 * degrees_below(-10, cell)
+}
+
 pub fn heat_up(byte: u8) -> Heating
     ensures { λ r. ⌜ r ≡ heatingOf byte ⌝ }
 {
@@ -70,9 +51,5 @@ pub fn heat_up(byte: u8) -> Heating
     if cell < -30 {
         return Heating::TooCold;
     }
-    if cell > 9 {
-        return Heating::Seconds(0);
-    }
-    let at = (cell + 30) as usize;
-    Heating::Seconds(LENGTHS[at])
+    Heating::Seconds(seconds_at(cell))
 }
