@@ -159,11 +159,11 @@ def step(data, place):
 
 
 def heat(byte):
-    """The seconds, none where the cell is too cold."""
+    """The seconds, degree by degree up to 10; none where the cell is too cold."""
     degrees = byte - 256 if byte > 127 else byte
-    if degrees >= -10:
-        return 45 * max(0, 10 - degrees)
-    return 900 + 120 * (-10 - degrees) if degrees >= -30 else None
+    if degrees < -30:
+        return None
+    return sum(45 if degree >= -10 else 120 for degree in range(degrees, 10))
 
 
 # ---- choices (R5, R6): a choice is a 1 or a 0 for each job

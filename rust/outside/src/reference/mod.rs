@@ -27,14 +27,19 @@ impl Refused {
     }
 }
 
-/// The seconds of heating for a byte: 45 per degree below 10 down to -10, then 900 and 120 per degree below
-/// -10.
+/// The seconds of heating for each degree from -30 to 9, as a list: the library has two slopes.
+const HEATING: [u32; 40] = [
+    3300, 3180, 3060, 2940, 2820, 2700, 2580, 2460, 2340, 2220, // from -30 degrees
+    2100, 1980, 1860, 1740, 1620, 1500, 1380, 1260, 1140, 1020, // from -20
+    900, 855, 810, 765, 720, 675, 630, 585, 540, 495, // from -10
+    450, 405, 360, 315, 270, 225, 180, 135, 90, 45, // from 0
+];
+
+/// The seconds of heating for a byte.
 pub fn heat_up(byte: u8) -> Result<u32, Refused> {
-    let degrees = if byte > 127 { i32::from(byte) - 256 } else { i32::from(byte) };
-    match degrees {
+    match i32::from(byte as i8) {
+        degrees @ -30..=9 => Ok(HEATING[(degrees + 30) as usize]),
         10.. => Ok(0),
-        -10..=9 => Ok((45 * (10 - degrees)) as u32),
-        -30..=-11 => Ok((900 + 120 * (-10 - degrees)) as u32),
         _ => Err(Refused::new(12)),
     }
 }
