@@ -1,5 +1,5 @@
 /* Plans two long checks, each split into a critical half and an optional one, and prints when every half runs and how
- * many optional seconds are lost. An order that is refused prints its refusal, place and phrase. */
+ * many optional seconds are lost. An order that is refused prints its refusal, place, field and phrase. */
 #include "leafanchor.h"
 
 #include <inttypes.h>
@@ -32,9 +32,11 @@ static void print_job(const int32_t *job, int32_t start)
 }
 
 /* Prints a refusal. */
-static int refused(uint32_t refusal, size_t place)
+static int refused(uint32_t refusal, size_t place, uint32_t field)
 {
-    printf("%" PRIu32 " %zu %s\n", refusal, place, leafanchor_phrase(refusal));
+    char phrase[LEAFANCHOR_PHRASE_ROOM];
+    printf("%" PRIu32 " %zu %" PRIu32 " %s\n", refusal, place, field,
+           leafanchor_tell(refusal, place, field, phrase, sizeof phrase));
     return 1;
 }
 
@@ -42,12 +44,12 @@ int main(void)
 {
     leafanchor_pack_answer packed = leafanchor_pack(-900, jobs, NUMBERS, order, LEAFANCHOR_ORDER_BYTES);
     if (packed.refusal != LEAFANCHOR_NONE) {
-        return refused(packed.refusal, packed.place);
+        return refused(packed.refusal, packed.place, packed.field);
     }
     leafanchor_halves_answer plan =
         leafanchor_plan_halves(order, packed.bytes, starts, LEAFANCHOR_STARTS, work, LEAFANCHOR_WORK_AREA);
     if (plan.refusal != LEAFANCHOR_NONE) {
-        return refused(plan.refusal, plan.place);
+        return refused(plan.refusal, plan.place, plan.field);
     }
     for (size_t place = 0; place < NUMBERS / LEAFANCHOR_JOB_NUMBERS; place++) {
         print_job(&jobs[LEAFANCHOR_JOB_NUMBERS * place], starts[place]);

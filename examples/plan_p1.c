@@ -1,6 +1,6 @@
 /* Plans the packed order on standard input (p1.order is one) and prints the plan: a line of figures, then
- * each job's number and its start, or - where it is left out. A refused order prints its refusal, place
- * and phrase. */
+ * each job's number and its start, or - where it is left out. A refused order prints its refusal, place,
+ * field and phrase. */
 #include "leafanchor.h"
 
 #include <inttypes.h>
@@ -29,13 +29,21 @@ static void print_jobs(size_t bytes)
     }
 }
 
+/* Prints a refused order's line. */
+static void print_refusal(leafanchor_plan_answer plan)
+{
+    char phrase[LEAFANCHOR_PHRASE_ROOM];
+    printf("%" PRIu32 " %zu %" PRIu32 " %s\n", plan.refusal, plan.place, plan.field,
+           leafanchor_tell(plan.refusal, plan.place, plan.field, phrase, sizeof phrase));
+}
+
 int main(void)
 {
     size_t bytes = fread(order, 1, sizeof order, stdin);
     leafanchor_plan_answer plan =
         leafanchor_plan(order, bytes, starts, LEAFANCHOR_STARTS, work, LEAFANCHOR_WORK_AREA);
     if (plan.refusal != LEAFANCHOR_NONE) {
-        printf("%" PRIu32 " %zu %s\n", plan.refusal, plan.place, leafanchor_phrase(plan.refusal));
+        print_refusal(plan);
         return 1;
     }
     printf("%" PRIu32 " %zu %" PRIu32 " %" PRIu32 " %" PRIu32 " %" PRId32 " %" PRIu32 "\n", plan.refusal,

@@ -15,7 +15,7 @@
  *
  * Of several refusals the lowest number is given, but for 13, which comes after 9 and before 10; those of a second
  * opening, 1 to 9, come after all of the first's (R25). In a refused answer every figure is 0 but the refusal, the
- * place for 6, 7 and 13, and where a reader stands (R26).
+ * place for 6, 7 and 13, the field for 6, and where a reader stands (R26).
  *
  * The work area's first LEAFANCHOR_WORK_AREA numbers are 0 after every call that has one and passes refusal
  * 10, refused with 11 or not (R29). */
@@ -33,9 +33,9 @@ extern "C" {
  * one rises then. */
 #define LEAFANCHOR_VERSION_MAJOR 0
 /** The version's second figure: it rises when something is added. */
-#define LEAFANCHOR_VERSION_MINOR 3
+#define LEAFANCHOR_VERSION_MINOR 4
 /** The version's third figure: it rises when something is mended or made smaller. */
-#define LEAFANCHOR_VERSION_PATCH 1
+#define LEAFANCHOR_VERSION_PATCH 0
 /** The version as text, "MAJOR.MINOR.PATCH". */
 #define LEAFANCHOR_VERSION \
     LEAFANCHOR_QUOTED(LEAFANCHOR_VERSION_MAJOR) "." LEAFANCHOR_QUOTED(LEAFANCHOR_VERSION_MINOR) "." \
@@ -66,6 +66,8 @@ extern "C" {
 #define LEAFANCHOR_HIGHEST_HALF 31       /**< the highest number of a critical half */
 #define LEAFANCHOR_HALVES_APART 32       /**< an optional half's number less that of its critical half */
 #define LEAFANCHOR_SECONDS_PER_WEIGHT 60 /**< seconds that an optional half takes for each weight */
+#define LEAFANCHOR_PHRASE_ROOM 64        /**< bytes of the longest text of leafanchor_tell, its end included */
+#define LEAFANCHOR_NO_PLACE ((size_t)-1) /**< tells leafanchor_tell that an answer has no place */
 
 /** Why a call refused (R24); 0 where it did not. */
 enum leafanchor_refusal {
@@ -75,7 +77,8 @@ enum leafanchor_refusal {
     LEAFANCHOR_TOO_MANY_JOBS = 3,         /**< more than 48 jobs (packing: more than 288 numbers) */
     LEAFANCHOR_WRONG_LENGTH = 4,          /**< not 4 + 8n bytes (packing: not a multiple of 6 numbers) */
     LEAFANCHOR_BUS_FREE_OUT_OF_RANGE = 5, /**< the bus-free time is out of range */
-    LEAFANCHOR_JOB_OUT_OF_RANGE = 6,      /**< a job's field is out of range; the place is the first such job's */
+    LEAFANCHOR_JOB_OUT_OF_RANGE = 6,      /**< a job's field is out of range; the place is the first such job's,
+                                           * the field its first such one */
     LEAFANCHOR_NUMBER_REPEATED = 7,       /**< a job number came earlier; the place is the first such job's */
     LEAFANCHOR_PROFILE_NOT_VALID = 8,     /**< a given profile is not valid */
     LEAFANCHOR_TOO_MUCH_WEIGHT = 9,       /**< the weights sum to more than 300 */
@@ -110,6 +113,85 @@ static inline const char *leafanchor_phrase(uint32_t refusal)
     }
 }
 
+/** Which field of a job is out of range (R36): the first such in the order of a packed record, for refusal 6; 0 with
+ * every other answer. A packed order holds the first two within their ranges: packing alone can name them. */
+enum leafanchor_field {
+    LEAFANCHOR_NO_FIELD = 0,       /**< the answer names none */
+    LEAFANCHOR_FIELD_NUMBER = 1,   /**< not 0 to 63 */
+    LEAFANCHOR_FIELD_CRITICAL = 2, /**< neither 0 nor 1 */
+    LEAFANCHOR_FIELD_WEIGHT = 3,   /**< not 0 where the job is critical, else not 1 to 50 */
+    LEAFANCHOR_FIELD_READY = 4,    /**< not -100,000 to 100,000 */
+    LEAFANCHOR_FIELD_LENGTH = 5,   /**< not 1 to 10,000 */
+    LEAFANCHOR_FIELD_DEADLINE = 6  /**< not -100,000 to 100,000 */
+};
+
+/** A field's name for a person, as in "job at place 2: length out of range".
+ * @param field the field's figure, or any other
+ * @return the name, in memory that stays */
+LEAFANCHOR_MUST_USE
+static inline const char *leafanchor_field_name(uint32_t field)
+{
+    switch (field) {
+    case LEAFANCHOR_NO_FIELD: return "no field";
+    case LEAFANCHOR_FIELD_NUMBER: return "number";
+    case LEAFANCHOR_FIELD_CRITICAL: return "critical mark";
+    case LEAFANCHOR_FIELD_WEIGHT: return "weight";
+    case LEAFANCHOR_FIELD_READY: return "ready time";
+    case LEAFANCHOR_FIELD_LENGTH: return "length";
+    case LEAFANCHOR_FIELD_DEADLINE: return "deadline";
+    default: return "no such field";
+    }
+}
+
+/** Puts text behind the text that ends at a place; what has no room beside an end is left off.
+ * @param text what is put
+ * @param out the bytes written
+ * @param room how many they are
+ * @param at where the text so far ends
+ * @return where it ends now */
+static inline size_t leafanchor_put_text(const char *text, char *out, size_t room, size_t at)
+{
+    while (*text != '\0' && at + 1 < room) {
+        out[at++] = *text++;
+    }
+    return at;
+}
+
+/** A refusal in words for a person, with the place and the field that it names: "job at place 2: length out of range".
+ * @param refusal the refusal's number, or any other
+ * @param place its place; LEAFANCHOR_NO_PLACE for a question or a choice, whose answers have none
+ * @param field its field; 0 where the answer has none
+ * @param out written: the text and an end, cut where it is too short
+ * @param room bytes of out: 1 at least, LEAFANCHOR_PHRASE_ROOM for every text
+ * @return out */
+LEAFANCHOR_MUST_USE
+static inline const char *leafanchor_tell(uint32_t refusal, size_t place, uint32_t field, char *out, size_t room)
+{
+    char digits[24];
+    size_t first = sizeof digits;
+    size_t at = 0;
+    const int about_a_job = refusal == LEAFANCHOR_JOB_OUT_OF_RANGE || refusal == LEAFANCHOR_NUMBER_REPEATED ||
+                            refusal == LEAFANCHOR_NOT_OF_HALVES;
+    if (about_a_job && place != LEAFANCHOR_NO_PLACE) {
+        digits[--first] = '\0';
+        do {
+            digits[--first] = (char)('0' + place % 10);
+            place /= 10;
+        } while (place != 0);
+        at = leafanchor_put_text("job at place ", out, room, at);
+        at = leafanchor_put_text(&digits[first], out, room, at);
+        at = leafanchor_put_text(": ", out, room, at);
+    }
+    if (refusal == LEAFANCHOR_JOB_OUT_OF_RANGE) {
+        at = leafanchor_put_text(leafanchor_field_name(field), out, room, at);
+        at = leafanchor_put_text(" out of range", out, room, at);
+    } else {
+        at = leafanchor_put_text(leafanchor_phrase(refusal), out, room, at);
+    }
+    out[at] = '\0';
+    return out;
+}
+
 /** The heat-up length. */
 typedef struct leafanchor_heat_answer {
     uint32_t refusal; /**< 12 or 0 */
@@ -120,6 +202,7 @@ typedef struct leafanchor_heat_answer {
 typedef struct leafanchor_unpack_answer {
     uint32_t refusal; /**< 1 to 7, 9, 10 or 0 */
     size_t place;     /**< of the refused job, for 6 and 7 */
+    uint32_t field;   /**< of that job, for 6 */
     size_t jobs;      /**< of the order */
     int32_t t0;       /**< its bus-free time */
 } leafanchor_unpack_answer;
@@ -128,6 +211,7 @@ typedef struct leafanchor_unpack_answer {
 typedef struct leafanchor_pack_answer {
     uint32_t refusal; /**< 3 to 7, 9, 10 or 0 */
     size_t place;     /**< of the refused job, for 6 and 7 */
+    uint32_t field;   /**< of that job, for 6 */
     size_t bytes;     /**< written */
 } leafanchor_pack_answer;
 
@@ -141,6 +225,7 @@ typedef struct leafanchor_open_answer {
 typedef struct leafanchor_step_answer {
     uint32_t refusal; /**< 1 to 6 or 0 */
     size_t place;     /**< of the refused job, for 6 */
+    uint32_t field;   /**< of that job, for 6 */
     uint32_t end;     /**< 1 at the end of the order, else 0 */
     int32_t number;   /**< the job's number, 0 to 63 */
     int32_t critical; /**< 1 where it is critical, else 0 */
@@ -174,6 +259,7 @@ typedef struct leafanchor_better_answer {
 typedef struct leafanchor_extend_answer {
     uint32_t refusal; /**< 1 to 10 or 0 */
     size_t place;     /**< of the refused job, for 6 and 7 */
+    uint32_t field;   /**< of that job, for 6 */
     size_t points;    /**< written; each is two numbers */
 } leafanchor_extend_answer;
 
@@ -181,6 +267,7 @@ typedef struct leafanchor_extend_answer {
 typedef struct leafanchor_plan_answer {
     uint32_t refusal;     /**< 1 to 7, 9 to 11 or 0 */
     size_t place;         /**< of the refused job, for 6 and 7 */
+    uint32_t field;       /**< of that job, for 6 */
     uint64_t mask;        /**< the jobs kept, the highest bit for place 0 */
     uint32_t kept;        /**< how many are kept */
     uint32_t kept_weight; /**< of the jobs kept */
@@ -194,6 +281,7 @@ typedef struct leafanchor_plan_answer {
 typedef struct leafanchor_halves_answer {
     uint32_t refusal;      /**< 1 to 7, 9 to 11, 13 or 0 */
     size_t place;          /**< of the refused job, for 6, 7 and 13 */
+    uint32_t field;        /**< of that job, for 6 */
     uint64_t mask;         /**< the jobs kept, the highest bit for place 0 */
     uint32_t kept;         /**< how many are kept */
     uint32_t kept_weight;  /**< of the jobs kept */
@@ -206,12 +294,14 @@ typedef struct leafanchor_halves_answer {
 /** Which opening is worth more. */
 typedef struct leafanchor_question_answer {
     uint32_t refusal; /**< 1 to 7, 9 to 11 or 0 */
+    uint32_t field;   /**< of the refused job, for 6 */
     uint32_t winner;  /**< 1 or 2; 0 if refused */
 } leafanchor_question_answer;
 
 /** Which opening is worth more, and where its records lie: its bytes offset .. offset + length. */
 typedef struct leafanchor_choose_answer {
     uint32_t refusal; /**< 1 to 7, 9 to 11 or 0 */
+    uint32_t field;   /**< of the refused job, for 6 */
     uint32_t winner;  /**< 1 or 2; 0 if refused */
     size_t offset;    /**< of the winner's first record */
     size_t length;    /**< of its records together, in bytes */
@@ -334,7 +424,7 @@ leafanchor_halves_answer leafanchor_plan_halves(const uint8_t *order, size_t ord
 
 /** Asks which of two openings is worth more at a time; equal goes to the first (R17). Refusals 1 to 7 and 9 of
  * either opening, 10 and 11 name no winner. Which opening one of 1 to 9 is about: plan the first alone. It gives that
- * refusal with its place; or else it is the second's, and planning the second alone gives it.
+ * refusal with its place and field; or else it is the second's, and planning the second alone gives it.
  * @param first the first packed order
  * @param first_len its bytes
  * @param second the second packed order
@@ -423,7 +513,7 @@ static inline leafanchor_job leafanchor_job_of_step(leafanchor_step_answer step)
  * @param out written: the profile extended by the order; another one than profile
  * @param work the work area
  * @param work_len room for LEAFANCHOR_WORK_AREA numbers
- * @return the refusal and its place, and the points of out */
+ * @return the refusal, its place and its field, and the points of out */
 LEAFANCHOR_MUST_USE
 static inline leafanchor_extend_answer leafanchor_profile_extended(const leafanchor_profile *profile,
                                                                    const uint8_t *order, size_t order_len,
@@ -444,14 +534,14 @@ static inline leafanchor_extend_answer leafanchor_profile_extended(const leafanc
  * @param out written: the profile of the order
  * @param work the work area
  * @param work_len room for LEAFANCHOR_WORK_AREA numbers
- * @return the refusal and its place, and the points of out */
+ * @return the refusal, its place and its field, and the points of out */
 LEAFANCHOR_MUST_USE
 static inline leafanchor_extend_answer leafanchor_profile_of_order(const uint8_t *order, size_t order_len,
                                                                    leafanchor_profile *out, int32_t *work,
                                                                    size_t work_len)
 {
     leafanchor_unpack_answer unpacked = leafanchor_unpack(order, order_len, out->numbers, LEAFANCHOR_PROFILE_ROOM);
-    leafanchor_extend_answer answer = {unpacked.refusal, unpacked.place, 0};
+    leafanchor_extend_answer answer = {unpacked.refusal, unpacked.place, unpacked.field, 0};
     if (unpacked.refusal == LEAFANCHOR_NONE) {
         const int32_t bus_free[] = {unpacked.t0, 0};
         answer = leafanchor_extend(bus_free, 2, order, order_len, out->numbers, LEAFANCHOR_PROFILE_ROOM, work,
@@ -492,40 +582,42 @@ static inline leafanchor_lookup_answer leafanchor_profile_lookup(const leafancho
 #define LEAFANCHOR_LAYOUT(SIZE, OFFSET)                                                                       \
     SIZE(heat_answer, 8)                                                                                      \
     OFFSET(heat_answer, refusal, 0) OFFSET(heat_answer, seconds, 4)                                           \
-    SIZE(unpack_answer, 32)                                                                                   \
-    OFFSET(unpack_answer, refusal, 0) OFFSET(unpack_answer, place, 8) OFFSET(unpack_answer, jobs, 16)         \
-    OFFSET(unpack_answer, t0, 24)                                                                             \
-    SIZE(pack_answer, 24)                                                                                     \
-    OFFSET(pack_answer, refusal, 0) OFFSET(pack_answer, place, 8) OFFSET(pack_answer, bytes, 16)              \
+    SIZE(unpack_answer, 40)                                                                                   \
+    OFFSET(unpack_answer, refusal, 0) OFFSET(unpack_answer, place, 8) OFFSET(unpack_answer, field, 16)        \
+    OFFSET(unpack_answer, jobs, 24) OFFSET(unpack_answer, t0, 32)                                             \
+    SIZE(pack_answer, 32)                                                                                     \
+    OFFSET(pack_answer, refusal, 0) OFFSET(pack_answer, place, 8) OFFSET(pack_answer, field, 16)              \
+    OFFSET(pack_answer, bytes, 24)                                                                            \
     SIZE(open_answer, 16)                                                                                     \
     OFFSET(open_answer, refusal, 0) OFFSET(open_answer, jobs, 8)                                              \
     SIZE(step_answer, 56)                                                                                     \
-    OFFSET(step_answer, refusal, 0) OFFSET(step_answer, place, 8) OFFSET(step_answer, end, 16)                \
-    OFFSET(step_answer, number, 20) OFFSET(step_answer, critical, 24) OFFSET(step_answer, weight, 28)         \
-    OFFSET(step_answer, ready, 32) OFFSET(step_answer, length, 36) OFFSET(step_answer, deadline, 40)          \
-    OFFSET(step_answer, next, 48)                                                                             \
+    OFFSET(step_answer, refusal, 0) OFFSET(step_answer, place, 8) OFFSET(step_answer, field, 16)              \
+    OFFSET(step_answer, end, 20) OFFSET(step_answer, number, 24) OFFSET(step_answer, critical, 28)            \
+    OFFSET(step_answer, weight, 32) OFFSET(step_answer, ready, 36) OFFSET(step_answer, length, 40)            \
+    OFFSET(step_answer, deadline, 44) OFFSET(step_answer, next, 48)                                           \
     SIZE(point, 8)                                                                                            \
     OFFSET(point, time, 0) OFFSET(point, weight, 4)                                                           \
     SIZE(lookup_answer, 12)                                                                                   \
     OFFSET(lookup_answer, refusal, 0) OFFSET(lookup_answer, found, 4) OFFSET(lookup_answer, weight, 8)        \
     SIZE(better_answer, 16)                                                                                   \
     OFFSET(better_answer, refusal, 0) OFFSET(better_answer, points, 8)                                        \
-    SIZE(extend_answer, 24)                                                                                   \
-    OFFSET(extend_answer, refusal, 0) OFFSET(extend_answer, place, 8) OFFSET(extend_answer, points, 16)       \
-    SIZE(plan_answer, 48)                                                                                     \
-    OFFSET(plan_answer, refusal, 0) OFFSET(plan_answer, place, 8) OFFSET(plan_answer, mask, 16)               \
-    OFFSET(plan_answer, kept, 24) OFFSET(plan_answer, kept_weight, 28) OFFSET(plan_answer, lost_weight, 32)   \
-    OFFSET(plan_answer, finish, 36) OFFSET(plan_answer, points, 40)                                           \
-    SIZE(halves_answer, 48)                                                                                   \
-    OFFSET(halves_answer, refusal, 0) OFFSET(halves_answer, place, 8) OFFSET(halves_answer, mask, 16)         \
-    OFFSET(halves_answer, kept, 24) OFFSET(halves_answer, kept_weight, 28)                                    \
-    OFFSET(halves_answer, lost_weight, 32) OFFSET(halves_answer, finish, 36)                                  \
-    OFFSET(halves_answer, points, 40) OFFSET(halves_answer, seconds_lost, 44)                                 \
-    SIZE(question_answer, 8)                                                                                  \
-    OFFSET(question_answer, refusal, 0) OFFSET(question_answer, winner, 4)                                    \
-    SIZE(choose_answer, 24)                                                                                   \
-    OFFSET(choose_answer, refusal, 0) OFFSET(choose_answer, winner, 4) OFFSET(choose_answer, offset, 8)       \
-    OFFSET(choose_answer, length, 16)
+    SIZE(extend_answer, 32)                                                                                   \
+    OFFSET(extend_answer, refusal, 0) OFFSET(extend_answer, place, 8) OFFSET(extend_answer, field, 16)        \
+    OFFSET(extend_answer, points, 24)                                                                         \
+    SIZE(plan_answer, 56)                                                                                     \
+    OFFSET(plan_answer, refusal, 0) OFFSET(plan_answer, place, 8) OFFSET(plan_answer, field, 16)              \
+    OFFSET(plan_answer, mask, 24) OFFSET(plan_answer, kept, 32) OFFSET(plan_answer, kept_weight, 36)          \
+    OFFSET(plan_answer, lost_weight, 40) OFFSET(plan_answer, finish, 44) OFFSET(plan_answer, points, 48)      \
+    SIZE(halves_answer, 56)                                                                                   \
+    OFFSET(halves_answer, refusal, 0) OFFSET(halves_answer, place, 8) OFFSET(halves_answer, field, 16)        \
+    OFFSET(halves_answer, mask, 24) OFFSET(halves_answer, kept, 32) OFFSET(halves_answer, kept_weight, 36)    \
+    OFFSET(halves_answer, lost_weight, 40) OFFSET(halves_answer, finish, 44)                                  \
+    OFFSET(halves_answer, points, 48) OFFSET(halves_answer, seconds_lost, 52)                                 \
+    SIZE(question_answer, 12)                                                                                 \
+    OFFSET(question_answer, refusal, 0) OFFSET(question_answer, field, 4) OFFSET(question_answer, winner, 8)  \
+    SIZE(choose_answer, 32)                                                                                   \
+    OFFSET(choose_answer, refusal, 0) OFFSET(choose_answer, field, 4) OFFSET(choose_answer, winner, 8)        \
+    OFFSET(choose_answer, offset, 16) OFFSET(choose_answer, length, 24)
 
 /** A fact that the compiler checks, where it can. */
 #if defined(__cplusplus) && __cplusplus >= 201103L

@@ -1,6 +1,7 @@
-/* Calls every function of the header, on the worked figures P1 to P11, at the edges of the rest and on orders of
- * halves, and says which answer differs. That the header declares what the library defines, and that its own calls
- * over jobs and profiles give what the plain ones give, is seen here from C. Compiles as C11 and as C++17. */
+/* Calls every function of the header, on the worked figures P1 to P11, at the edges of the rest, on orders of halves
+ * and on each field out of range, and says which answer differs. That the header declares what the library defines, and
+ * that its own calls over jobs and profiles give what the plain ones give, is seen here from C. Compiles as C11 and as
+ * C++17. */
 #include "leafanchor.h"
 
 #include <stdio.h>
@@ -33,15 +34,16 @@ static int32_t work[LEAFANCHOR_WORK_AREA];
 static void packed_orders(void)
 {
     leafanchor_pack_answer packed = leafanchor_pack(-600, p1, 30, order, LEAFANCHOR_ORDER_BYTES);
-    CHECK(packed.refusal == 0 && packed.place == 0 && packed.bytes == 44);
+    CHECK(packed.refusal == 0 && packed.place == 0 && packed.field == 0 && packed.bytes == 44);
     CHECK(memcmp(order, "\x17\xFD\xA8\x00\x1E\x03\xFD\xA8\x07\xBC\x00\x00", 12) == 0);
     leafanchor_unpack_answer unpacked = leafanchor_unpack(order, 44, numbers, LEAFANCHOR_ORDER_NUMBERS);
-    CHECK(unpacked.refusal == 0 && unpacked.place == 0 && unpacked.jobs == 5 && unpacked.t0 == -600);
+    CHECK(unpacked.refusal == 0 && unpacked.place == 0 && unpacked.field == 0);
+    CHECK(unpacked.jobs == 5 && unpacked.t0 == -600);
     CHECK(memcmp(numbers, p1, sizeof p1) == 0);
     leafanchor_open_answer opened = leafanchor_open(order, 44);
     CHECK(opened.refusal == 0 && opened.jobs == 5);
     leafanchor_step_answer job = leafanchor_step(order, 44, 1);
-    CHECK(job.refusal == 0 && job.place == 0 && job.end == 0 && job.next == 2);
+    CHECK(job.refusal == 0 && job.place == 0 && job.field == 0 && job.end == 0 && job.next == 2);
     CHECK(job.number == 3 && job.critical == 0 && job.weight == 20);
     CHECK(job.ready == -200 && job.length == 300 && job.deadline == 250);
     CHECK(leafanchor_step(order, 44, 5).end == 1);
@@ -57,10 +59,11 @@ static void jobs(void)
     static leafanchor_job got[LEAFANCHOR_MOST_JOBS];
     static uint8_t bytes[LEAFANCHOR_ORDER_BYTES];
     leafanchor_pack_answer packed = leafanchor_pack_jobs(-600, wanted, 5, bytes, LEAFANCHOR_ORDER_BYTES);
-    CHECK(packed.refusal == 0 && packed.place == 0 && packed.bytes == 44);
+    CHECK(packed.refusal == 0 && packed.place == 0 && packed.field == 0 && packed.bytes == 44);
     CHECK(memcmp(bytes, order, 44) == 0);
     leafanchor_unpack_answer unpacked = leafanchor_unpack_jobs(bytes, 44, got, LEAFANCHOR_MOST_JOBS);
-    CHECK(unpacked.refusal == 0 && unpacked.place == 0 && unpacked.jobs == 5 && unpacked.t0 == -600);
+    CHECK(unpacked.refusal == 0 && unpacked.place == 0 && unpacked.field == 0);
+    CHECK(unpacked.jobs == 5 && unpacked.t0 == -600);
     CHECK(memcmp(got, wanted, sizeof wanted) == 0);
     CHECK(got[1].number == 3 && got[1].critical == 0 && got[1].weight == 20);
     CHECK(got[1].ready == -200 && got[1].length == 300 && got[1].deadline == 250);
@@ -72,7 +75,7 @@ static void jobs(void)
     CHECK(leafanchor_pack_jobs(-600, wanted, 5, bytes, 43).refusal == LEAFANCHOR_BUFFER_TOO_SHORT);
     got[2].number = 7;
     packed = leafanchor_pack_jobs(-600, got, 5, bytes, LEAFANCHOR_ORDER_BYTES);
-    CHECK(packed.refusal == LEAFANCHOR_NUMBER_REPEATED && packed.place == 2 && packed.bytes == 0);
+    CHECK(packed.refusal == LEAFANCHOR_NUMBER_REPEATED && packed.place == 2 && packed.field == 0 && packed.bytes == 0);
 }
 
 /* The plan of P1, with its starts. */
@@ -81,12 +84,12 @@ static void plans(void)
     static const int32_t wanted[] = {-600, -90, LEAFANCHOR_LEFT_OUT, 225, 340};
     leafanchor_plan_answer plan =
         leafanchor_plan(order, 44, starts, LEAFANCHOR_STARTS, work, LEAFANCHOR_WORK_AREA);
-    CHECK(plan.refusal == 0 && plan.place == 0 && plan.mask == UINT64_C(0xD800000000000000));
+    CHECK(plan.refusal == 0 && plan.place == 0 && plan.field == 0 && plan.mask == UINT64_C(0xD800000000000000));
     CHECK(plan.kept == 4 && plan.kept_weight == 35 && plan.lost_weight == 15);
     CHECK(plan.finish == 455 && plan.points == 14);
     CHECK(memcmp(starts, wanted, sizeof wanted) == 0);
     plan = leafanchor_plan(order, 44, starts, 4, work, LEAFANCHOR_WORK_AREA);
-    CHECK(plan.refusal == LEAFANCHOR_BUFFER_TOO_SHORT && plan.mask == 0);
+    CHECK(plan.refusal == LEAFANCHOR_BUFFER_TOO_SHORT && plan.field == 0 && plan.mask == 0);
 }
 
 /* P2, P3 and P9. */
@@ -98,7 +101,7 @@ static void profiles(void)
     static const int32_t p[] = {0, 0, 20, 7}, q[] = {5, 7}, p9[] = {0, 0, 5, 7};
     leafanchor_extend_answer extended = leafanchor_extend(bus_free, 2, order, 44, profile,
                                                           LEAFANCHOR_PROFILE_ROOM, work, LEAFANCHOR_WORK_AREA);
-    CHECK(extended.refusal == 0 && extended.place == 0 && extended.points == 5);
+    CHECK(extended.refusal == 0 && extended.place == 0 && extended.field == 0 && extended.points == 5);
     CHECK(memcmp(profile, p2, sizeof p2) == 0);
     CHECK(leafanchor_lookup(profile, 10, 214).found == 0);
     CHECK(leafanchor_lookup(profile, 10, 454).weight == 30);
@@ -126,7 +129,8 @@ static void held_profiles(void)
     static uint8_t part[LEAFANCHOR_ORDER_BYTES];
     leafanchor_extend_answer answer =
         leafanchor_profile_of_order(order, 44, &made, work, LEAFANCHOR_WORK_AREA);
-    CHECK(answer.refusal == 0 && answer.place == 0 && answer.points == 5 && is(&made, p2, 10));
+    CHECK(answer.refusal == 0 && answer.place == 0 && answer.field == 0);
+    CHECK(answer.points == 5 && is(&made, p2, 10));
     CHECK(leafanchor_profile_lookup(&made, 214).found == 0 && leafanchor_profile_lookup(&made, 215).found == 1);
     CHECK(leafanchor_profile_lookup(&made, 454).weight == 30 && leafanchor_profile_lookup(&made, 455).weight == 35);
 
@@ -147,6 +151,7 @@ static void held_profiles(void)
     part[4 + 8] = part[4];
     answer = leafanchor_profile_of_order(part, bytes, &whole, work, LEAFANCHOR_WORK_AREA);
     CHECK(answer.refusal == LEAFANCHOR_JOB_OUT_OF_RANGE && answer.place == 1 && whole.numbers_len == 0);
+    CHECK(answer.field == LEAFANCHOR_FIELD_WEIGHT);
     answer = leafanchor_profile_of_order(order, 44, &whole, work, LEAFANCHOR_WORK_AREA - 1);
     CHECK(answer.refusal == LEAFANCHOR_BUFFER_TOO_SHORT && whole.numbers_len == 0);
 }
@@ -207,7 +212,7 @@ static void plans_of_halves(void)
 {
     static const int32_t wanted[] = {-900, LEAFANCHOR_LEFT_OUT, -585, -370};
     leafanchor_halves_answer plan = of_halves(LEAFANCHOR_STARTS, LEAFANCHOR_WORK_AREA);
-    CHECK(plan.refusal == 0 && plan.place == 0 && plan.mask == UINT64_C(0xB000000000000000));
+    CHECK(plan.refusal == 0 && plan.place == 0 && plan.field == 0 && plan.mask == UINT64_C(0xB000000000000000));
     CHECK(plan.kept == 3 && plan.kept_weight == 8 && plan.lost_weight == 5);
     CHECK(plan.finish == 125 && plan.points == 8 && plan.seconds_lost == 300);
     CHECK(memcmp(starts, wanted, sizeof wanted) == 0);
@@ -223,7 +228,7 @@ static void not_of_halves(void)
 {
     worked[3].length = 481;
     leafanchor_halves_answer plan = of_halves(0, 0);
-    CHECK(plan.refusal == LEAFANCHOR_NOT_OF_HALVES && plan.place == 3 && plan.lost_weight == 0);
+    CHECK(plan.refusal == LEAFANCHOR_NOT_OF_HALVES && plan.place == 3 && plan.field == 0 && plan.lost_weight == 0);
     CHECK(leafanchor_plan(halves, 36, starts, 4, work, LEAFANCHOR_WORK_AREA).refusal == LEAFANCHOR_NONE);
     worked[2].number = LEAFANCHOR_HIGHEST_HALF + 1;
     plan = of_halves(4, LEAFANCHOR_WORK_AREA);
@@ -243,11 +248,104 @@ static void openings(void)
     static const uint8_t empty[] = {0, 0, 0, 0};
     leafanchor_question_answer asked =
         leafanchor_question(order, 44, empty, 4, 454, work, LEAFANCHOR_WORK_AREA);
-    CHECK(asked.refusal == 0 && asked.winner == 1);
+    CHECK(asked.refusal == 0 && asked.field == 0 && asked.winner == 1);
     leafanchor_choose_answer chosen = leafanchor_choose(empty, 4, order, 44, 454, work, LEAFANCHOR_WORK_AREA);
-    CHECK(chosen.refusal == 0 && chosen.winner == 2 && chosen.offset == 4 && chosen.length == 40);
+    CHECK(chosen.refusal == 0 && chosen.field == 0);
+    CHECK(chosen.winner == 2 && chosen.offset == 4 && chosen.length == 40);
     chosen = leafanchor_choose(empty, 4, order, 44, -1, work, LEAFANCHOR_WORK_AREA);
-    CHECK(chosen.refusal == LEAFANCHOR_NO_FEASIBLE_CHOICE && chosen.winner == 0 && chosen.length == 0);
+    CHECK(chosen.refusal == LEAFANCHOR_NO_FEASIBLE_CHOICE && chosen.field == 0);
+    CHECK(chosen.winner == 0 && chosen.length == 0);
+}
+
+/* An order of two jobs as packed bytes, whatever the fields from the weight on hold. */
+static void put_two(const int32_t *two, uint8_t *bytes)
+{
+    static const uint8_t header[] = {2 << 2, 0, 0, 0};
+    memcpy(bytes, header, sizeof header);
+    for (size_t place = 0; place < 2; place++) {
+        const int32_t *job = &two[LEAFANCHOR_JOB_NUMBERS * place];
+        uint64_t record = (uint64_t)job[0] << 58 | (uint64_t)job[1] << 57 | (uint64_t)job[2] << 50 |
+                          (uint64_t)(job[3] & 0x3FFFF) << 32 | (uint64_t)job[4] << 18 | (uint64_t)(job[5] & 0x3FFFF);
+        for (size_t byte = 8; byte > 0; byte--) {
+            bytes[4 + 8 * place + byte - 1] = (uint8_t)(record & 0xFF);
+            record >>= 8;
+        }
+    }
+}
+
+/* Every call on bytes refuses an order whose second job has this field out of range, and names it. */
+static void named_over_bytes(const int32_t *two, uint32_t field)
+{
+    static const uint8_t empty[] = {0, 0, 0, 0};
+    static const int32_t bus_free[] = {0, 0};
+    static uint8_t bad[4 + 2 * 8];
+    put_two(two, bad);
+    leafanchor_unpack_answer unpacked = leafanchor_unpack(bad, sizeof bad, numbers, LEAFANCHOR_ORDER_NUMBERS);
+    CHECK(unpacked.refusal == 6 && unpacked.place == 1 && unpacked.field == field && unpacked.jobs == 0);
+    leafanchor_step_answer job = leafanchor_step(bad, sizeof bad, 1);
+    CHECK(job.refusal == 6 && job.place == 1 && job.field == field && job.end == 0 && job.next == 1);
+    CHECK(leafanchor_step(bad, sizeof bad, 0).refusal == 0 && leafanchor_step(bad, sizeof bad, 0).field == 0);
+    leafanchor_extend_answer extended = leafanchor_extend(bus_free, 2, bad, sizeof bad, profile,
+                                                          LEAFANCHOR_PROFILE_ROOM, work, LEAFANCHOR_WORK_AREA);
+    CHECK(extended.refusal == 6 && extended.place == 1 && extended.field == field && extended.points == 0);
+    leafanchor_plan_answer plan = leafanchor_plan(bad, sizeof bad, starts, 2, work, LEAFANCHOR_WORK_AREA);
+    CHECK(plan.refusal == 6 && plan.place == 1 && plan.field == field && plan.mask == 0);
+    leafanchor_halves_answer of = leafanchor_plan_halves(bad, sizeof bad, starts, 2, work, LEAFANCHOR_WORK_AREA);
+    CHECK(of.refusal == 6 && of.place == 1 && of.field == field && of.mask == 0);
+    leafanchor_question_answer asked =
+        leafanchor_question(bad, sizeof bad, empty, 4, 0, work, LEAFANCHOR_WORK_AREA);
+    CHECK(asked.refusal == 6 && asked.field == field && asked.winner == 0);
+    leafanchor_choose_answer chosen = leafanchor_choose(empty, 4, bad, sizeof bad, 0, work, LEAFANCHOR_WORK_AREA);
+    CHECK(chosen.refusal == 6 && chosen.field == field && chosen.winner == 0 && chosen.length == 0);
+}
+
+/* Each field of a second job out of range in turn, and the deadline with it: the first is named. Bytes hold a number
+ * and a mark within their ranges. */
+static void fields_out_of_range(void)
+{
+    static const int32_t two[] = {1, 0, 5, 0, 10, 100, 2, 0, 5, 0, 10, 100001};
+    static const int32_t past[] = {64, 2, 51, 100001, 10001, 100001};
+    static int32_t bad[12];
+    for (uint32_t field = LEAFANCHOR_FIELD_NUMBER; field <= LEAFANCHOR_FIELD_DEADLINE; field++) {
+        memcpy(bad, two, sizeof two);
+        bad[LEAFANCHOR_JOB_NUMBERS + field - 1] = past[field - 1];
+        leafanchor_pack_answer packed = leafanchor_pack(0, bad, 12, order, LEAFANCHOR_ORDER_BYTES);
+        CHECK(packed.refusal == 6 && packed.place == 1 && packed.field == field && packed.bytes == 0);
+        if (field >= LEAFANCHOR_FIELD_WEIGHT) {
+            named_over_bytes(bad, field);
+        }
+    }
+    memcpy(bad, two, sizeof two);
+    bad[LEAFANCHOR_JOB_NUMBERS + 1] = 1; /* critical, and its weight is 5 */
+    named_over_bytes(bad, LEAFANCHOR_FIELD_WEIGHT);
+}
+
+/* Whether a refusal is told so, with room for every text. */
+static int told(uint32_t refusal, size_t place, uint32_t field, const char *text)
+{
+    char out[LEAFANCHOR_PHRASE_ROOM];
+    return strcmp(leafanchor_tell(refusal, place, field, out, sizeof out), text) == 0;
+}
+
+/* A refusal in words, and a field's name. */
+static void in_words(void)
+{
+    static const char *const names[] = {"no field", "number", "critical mark", "weight",
+                                        "ready time", "length", "deadline", "no such field"};
+    char out[LEAFANCHOR_PHRASE_ROOM];
+    for (uint32_t field = 0; field < 8; field++) {
+        CHECK(strcmp(leafanchor_field_name(field), names[field]) == 0);
+    }
+    CHECK(told(6, 2, LEAFANCHOR_FIELD_LENGTH, "job at place 2: length out of range"));
+    CHECK(told(6, 47, LEAFANCHOR_FIELD_WEIGHT, "job at place 47: weight out of range"));
+    CHECK(told(7, 10, 0, "job at place 10: a job number is repeated"));
+    CHECK(told(13, 0, 0, "job at place 0: the order is not of halves"));
+    CHECK(told(6, LEAFANCHOR_NO_PLACE, LEAFANCHOR_FIELD_READY, "ready time out of range"));
+    CHECK(told(11, 0, 0, "no choice is feasible") && told(14, 3, 4, "no such refusal"));
+    /* the longest text has room, and a shorter room cuts it */
+    CHECK(strlen(leafanchor_tell(6, LEAFANCHOR_NO_PLACE - 1, 2, out, sizeof out)) < sizeof out - 1);
+    CHECK(strcmp(out + strlen(out) - 26, "critical mark out of range") == 0);
+    CHECK(strcmp(leafanchor_tell(6, 2, 5, out, 8), "job at ") == 0 && strcmp(leafanchor_tell(6, 2, 5, out, 1), "") == 0);
 }
 
 /* P10 and P11. */
@@ -282,6 +380,8 @@ int main(void)
     plans_of_halves();
     not_of_halves();
     openings();
+    fields_out_of_range();
+    in_words();
     heat_up();
     version();
     puts(wrong ? "every call: differs" : "every call: as worked out");

@@ -156,6 +156,11 @@ hold_p1() {
         $emulator "$program" <examples/p1.order >"$out/p1.txt"
         cmp "$out/p1.txt" examples/p1.expected || die "$program prints another plan than examples/p1.expected"
     done
+    shown examples/refused.expected
+    for made in c11 cxx17; do
+        $emulator "$out/plan_p1.$made" <examples/refused.order >"$out/refused.txt" && die "plan_p1.$made plans examples/refused.order"
+        cmp "$out/refused.txt" examples/refused.expected || die "plan_p1.$made does not print examples/refused.expected"
+    done
 }
 
 hold_halves() {

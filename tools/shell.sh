@@ -50,8 +50,9 @@ octets() { # COUNT VALUE
         printf "\\$(printf %03o $(($2 >> 8 * left & 255)))"
     done
 }
-header() { octets 4 $(($1 << 26 | ($2 & 262143) << 8)); }                     # JOBS T0
-job() { octets 8 $(($1 << 58 | $2 << 57 | $3 << 50 | $4 << 18 | $5)); }       # NUMBER CRITICAL WEIGHT LENGTH DEADLINE, ready at 0
+header() { octets 4 $(($1 << 26 | ($2 & 262143) << 8)); } # JOBS T0
+# job NUMBER CRITICAL WEIGHT LENGTH DEADLINE [READY]: ready at 0 where no time is told.
+job() { octets 8 $(($1 << 58 | $2 << 57 | $3 << 50 | (${6-0} & 262143) << 32 | $4 << 18 | $5 & 262143)); }
 
 cp examples/p1.order "$room/p1"
 p1=$(cat examples/p1.expected)
@@ -214,25 +215,33 @@ refused() {
     gives "refused: $1" 1 "$2" "leafanchor: refusal ${2%% *}: $3"
 }
 printf abc >order
-refused "three bytes" '1 0' 'the packed order is under 4 bytes'
+refused "three bytes" '1 0 0' 'the packed order is under 4 bytes'
 : >order
-refused "no bytes" '1 0' 'the packed order is under 4 bytes'
+refused "no bytes" '1 0 0' 'the packed order is under 4 bytes'
 octets 4 1 >order
-refused "a spare bit" '2 0' "the header's spare bits are not zero"
+refused "a spare bit" '2 0 0' "the header's spare bits are not zero"
 header 49 0 >order
-refused "49 jobs" '3 0' 'there are more than 48 jobs'
+refused "49 jobs" '3 0 0' 'there are more than 48 jobs'
 header 1 0 >order
-refused "a job missing" '4 0' 'the length does not fit the number of jobs: 4 bytes and 8 for each'
+refused "a job missing" '4 0 0' 'the length does not fit the number of jobs: 4 bytes and 8 for each'
 header 0 100001 >order
-refused "a bus-free time of 100,001" '5 0' 'the bus-free time is out of range'
+refused "a bus-free time of 100,001" '5 0 0' 'the bus-free time is out of range'
+{ header 2 0 && job 1 0 1 10 10 && job 2 0 51 0 10; } >order
+refused "a weight of 51, and a length of 0" '6 1 3' 'job at place 1: weight out of range'
+{ header 2 0 && job 1 0 1 10 10 && job 2 1 1 10 10; } >order
+refused "a critical job of weight 1" '6 1 3' 'job at place 1: weight out of range'
+{ header 2 0 && job 1 0 1 10 10 && job 2 0 1 10 10 -100001; } >order
+refused "a ready time of -100,001" '6 1 4' 'job at place 1: ready time out of range'
 { header 2 0 && job 1 0 1 10 10 && job 2 0 1 0 10; } >order
-refused "a length of 0" '6 1' 'the job at place 1 has a field out of range'
+refused "a length of 0" '6 1 5' 'job at place 1: length out of range'
+{ header 3 0 && job 1 0 1 10 10 && job 2 0 1 10 100001 && job 3 0 0 10 10; } >order
+refused "a deadline of 100,001 before a weight of 0" '6 1 6' 'job at place 1: deadline out of range'
 { header 4 0 && job 4 0 1 10 10 && job 9 0 1 10 10 && job 4 0 1 10 10 && job 9 0 1 10 10; } >order
-refused "numbers 4, 9, 4, 9" '7 2' 'the job at place 2 repeats a number'
+refused "numbers 4, 9, 4, 9" '7 2 0' 'the job at place 2 repeats a number'
 { header 7 0 && for number in 1 2 3 4 5 6; do job "$number" 0 50 10 10; done && job 7 0 1 10 10; } >order
-refused "weights of 301" '9 0' 'the weights sum to more than 300'
+refused "weights of 301" '9 0 0' 'the weights sum to more than 300'
 { header 1 0 && job 0 1 0 10 9; } >order
-refused "a critical job with no time" '11 0' 'no choice of jobs keeps every critical job and meets every deadline'
+refused "a critical job with no time" '11 0 0' 'no choice of jobs keeps every critical job and meets every deadline'
 { header 1 0 && job 0 0 10 10 9; } >order
 try "$leafanchor" plan order
 gives "not refused: the same job, not critical" 0 '0 0 0 0 10 0 1
@@ -258,13 +267,13 @@ gives "not refused: no jobs" 0 '0 0 0 0 0 -100000 0' ''
 try "$leafanchor" plan order
 holds "not refused: 388 bytes" '[ "$status" = 0 ] && [ "$(head -n 1 "$out")" = "0 0 0 0 48 0 48" ] && [ "$(wc -l <"$out")" = 49 ]'
 echo >>order
-refused "389 bytes" '4 0' 'the length does not fit *'
+refused "389 bytes" '4 0 0' 'the length does not fit *'
 endless() { timeout 10 "$leafanchor" plan </dev/zero; }
 try endless
-gives "an endless input is not read to its end" 1 '4 0' 'leafanchor: refusal 4: *'
+gives "an endless input is not read to its end" 1 '4 0 0' 'leafanchor: refusal 4: *'
 endless_pipe() { { cat p1 && yes; } | timeout 10 "$leafanchor" plan; }
 try endless_pipe
-gives "an endless pipe is not read to its end" 1 '4 0' 'leafanchor: refusal 4: *'
+gives "an endless pipe is not read to its end" 1 '4 0 0' 'leafanchor: refusal 4: *'
 
 # Stand-ins for the program are for every machine, so the machine calls itself x86-64 here.
 machine=$room/x86-64
@@ -272,12 +281,16 @@ mkdir "$machine"
 printf '#!/bin/sh\necho x86_64\n' >"$machine/uname"
 chmod 755 "$machine/uname"
 built_checkout stand_ins
-program 'echo 10 0'
+program 'echo 10 0 0'
 cp p1 order
 leafanchor=$here/leafanchor
-refused "a buffer too short" '10 0' 'a buffer is too short'
-program 'echo 6 2 4'
-refused "a line with a third figure" '6 2 4' 'the job at place 2 has a field out of range'
+refused "a buffer too short" '10 0 0' 'a buffer is too short'
+program 'echo 6 2 1'
+refused "a number out of range" '6 2 1' 'job at place 2: number out of range'
+program 'echo 6 2 2'
+refused "a critical mark out of range" '6 2 2' 'job at place 2: critical mark out of range'
+program 'echo 6 2 9'
+refused "a field with no name" '6 2 9' 'job at place 2: a field out of range'
 program 'exit 5'
 try env PATH="$machine:$PATH" "$leafanchor" plan p1
 gives "a program that fails" 3 '' "leafanchor: the program $here/target/bin/plan_order cannot be run here: it ended with status 5"
@@ -307,7 +320,7 @@ try full plan order
 gives "standard output full: a refused order" 3 '' "$unwritten"
 mute() { "$leafanchor" "$@" 2>&-; }
 try mute plan order
-gives "standard error closed: a refused order" 1 '4 0' ''
+gives "standard error closed: a refused order" 1 '4 0 0' ''
 try mute plan p1 p1
 gives "standard error closed: two files" 2 '' ''
 
@@ -320,7 +333,7 @@ at_terminal() {
 }
 at_terminal "$leafanchor plan >$room/written 2>$err"
 mv "$room/written" "$out"
-gives "at a terminal it says what it waits for" 1 '1 0' 'leafanchor: waiting for a packed order on standard input, up to its end (Ctrl-D)
+gives "at a terminal it says what it waits for" 1 '1 0 0' 'leafanchor: waiting for a packed order on standard input, up to its end (Ctrl-D)
 leafanchor: refusal 1: *'
 at_terminal "$leafanchor plan p1 2>$err"
 holds "at a terminal, with a file, it waits for nothing" '[ "$status" = 0 ] && [ ! -s "$err" ] && [ "$(tr -d "\r" <"$out")" = "$p1" ]'

@@ -137,12 +137,13 @@ def asked(case):
 
 def question(case):
     refusal, winner, cleared, _, _ = asked(case)
-    return (' refused %d' % refusal if refusal else ' %d' % winner) + area(case.work, cleared)
+    number, _, field = refusal
+    return (' refused %d %d' % (number, field) if number else ' %d' % winner) + area(case.work, cleared)
 
 
 def choose(case):
     refusal, winner, cleared, first, second = asked(case)
-    part = [] if refusal else (first, second)[winner - 1][4:]
+    part = (first, second)[winner - 1][4:] if winner else []
     return ' part %d' % len(part) + plain(part) + area(case.work, cleared)
 
 

@@ -1,6 +1,7 @@
 """The rules of docs/RULES.md as plain functions, written from the rules and apart from the library. An order is a list of
 bytes; a job its six numbers: number, critical, weight, ready, length, deadline; a profile alternating numbers. A call's
-answer is a tuple that begins with a word for its kind, as ('refused', number, place)."""
+answer is a tuple that begins with a word for its kind, as ('refused', number, place, field). A refusal on its way there is
+its three figures."""
 from itertools import product
 
 EARLIEST, LATEST = -100_000, 100_000
@@ -11,6 +12,7 @@ PROFILE_ROOM = 602
 LEFT_OUT = 200_000
 HIGHEST_HALF, APART, PER_WEIGHT = 31, 32, 60  # of an order of halves
 MANY = 10  # up to so many jobs every choice is tried as well
+ACCEPTED = (0, 0, 0)  # no refusal
 
 
 # ---- packed orders (R21, R22), orders of halves (R34) and refusals 1 to 7, 9 and 13 (R24)
@@ -45,11 +47,12 @@ def is_time(value):
     return EARLIEST <= value <= LATEST
 
 
-def well_formed(job):
+def bad_field(job):
+    """Which field of a job is out of range, the first by the layout, counted from 1; 0 if none is."""
     number, critical, weight, ready, length, deadline = job
     weighs = weight == 0 if critical == 1 else 1 <= weight <= 50
-    return (0 <= number <= 63 and critical in (0, 1) and weighs and is_time(ready) and 1 <= length <= 10_000
-            and is_time(deadline))
+    passed = (0 <= number <= 63, critical in (0, 1), weighs, is_time(ready), 1 <= length <= 10_000, is_time(deadline))
+    return 0 if all(passed) else 1 + passed.index(False)
 
 
 def judge_header(data):
@@ -67,35 +70,44 @@ def judge_header(data):
 
 
 def judge_jobs(jobs):
-    """Refusals 6 and 7 with their place, 0 and 0 for none."""
+    """Refusals 6 and 7 with their place, 6 with its field too."""
     for place, job in enumerate(jobs):
-        if not well_formed(job):
-            return 6, place
+        if bad_field(job):
+            return 6, place, bad_field(job)
     numbers = [job[0] for job in jobs]
     for place, number in enumerate(numbers):
         if number in numbers[:place]:
-            return 7, place
-    return 0, 0
+            return 7, place, 0
+    return ACCEPTED
 
 
 def weigh(jobs):
     return sum(job[2] for job in jobs)
 
 
+def then(refusal, applies, number):
+    """A refusal, or behind one that is none the number where it applies."""
+    return (number, 0, 0) if refusal == ACCEPTED and applies else refusal
+
+
+def refused(refusal):
+    return ('refused',) + refusal
+
+
 def read(data):
-    """A packed order judged up to 7: refusal, place, t0 and jobs."""
-    refusal = judge_header(data)
-    if refusal:
-        return refusal, 0, 0, []
+    """A packed order judged up to 7: refusal, t0 and jobs."""
+    number = judge_header(data)
+    if number:
+        return (number, 0, 0), 0, []
     count, t0, _ = header(data)
     jobs = [record(data, place) for place in range(count)]
-    return judge_jobs(jobs) + (t0, jobs)
+    return judge_jobs(jobs), t0, jobs
 
 
 def judge(data):
     """The same, and 9."""
-    refusal, place, t0, jobs = read(data)
-    return (9 if refusal == 0 and weigh(jobs) > 300 else refusal), place, t0, jobs
+    refusal, t0, jobs = read(data)
+    return then(refusal, weigh(jobs) > 300, 9), t0, jobs
 
 
 def offends(job, earlier):
@@ -109,39 +121,32 @@ def offends(job, earlier):
 
 def judge_halves(data):
     """A packed order judged up to 9, and then 13."""
-    refusal, place, t0, jobs = judge(data)
+    refusal, t0, jobs = judge(data)
     offending = [at for at, job in enumerate(jobs) if offends(job, jobs[:at])]
-    if refusal == 0 and offending:
-        return 13, offending[0], t0, jobs
-    return refusal, place, t0, jobs
+    if refusal == ACCEPTED and offending:
+        refusal = 13, offending[0], 0
+    return refusal, t0, jobs
 
 
 def unpack(data, room):
-    refusal, place, t0, jobs = judge(data)
-    if refusal == 0 and room < 6 * len(jobs):
-        refusal = 10
-    if refusal:
-        return ('refused', refusal, place), []
+    refusal, t0, jobs = judge(data)
+    refusal = then(refusal, room < 6 * len(jobs), 10)
+    if refusal != ACCEPTED:
+        return refused(refusal), []
     return ('jobs', len(jobs), t0), [number for job in jobs for number in job]
 
 
 def pack(t0, numbers, room):
-    jobs = [tuple(numbers[at:at + 6]) for at in range(0, len(numbers), 6)]
-    refusal, place = 0, 0
-    if len(numbers) > 288:
-        refusal = 3
-    elif len(numbers) % 6:
-        refusal = 4
-    elif not is_time(t0):
-        refusal = 5
-    else:
-        refusal, place = judge_jobs(jobs)
-    if refusal == 0 and weigh(jobs) > 300:
-        refusal = 9
-    if refusal == 0 and room < 4 + 8 * len(jobs):
-        refusal = 10
-    if refusal:
-        return ('refused', refusal, place), []
+    jobs = [tuple(numbers[at:at + 6]) for at in range(0, len(numbers) - 5, 6)]
+    refusal = then(ACCEPTED, len(numbers) > 288, 3)
+    refusal = then(refusal, len(numbers) % 6, 4)
+    refusal = then(refusal, not is_time(t0), 5)
+    if refusal == ACCEPTED:
+        refusal = judge_jobs(jobs)
+    refusal = then(refusal, weigh(jobs) > 300, 9)
+    refusal = then(refusal, room < 4 + 8 * len(jobs), 10)
+    if refusal != ACCEPTED:
+        return refused(refusal), []
     return ('bytes', 4 + 8 * len(jobs)), packed(t0, jobs)
 
 
@@ -149,13 +154,13 @@ def pack(t0, numbers, room):
 
 def step(data, place):
     """The answer, and the place where the reader then stands."""
-    refusal = judge_header(data)
-    if refusal:
-        return ('refused', refusal, 0), place
+    number = judge_header(data)
+    if number:
+        return refused((number, 0, 0)), place
     if place >= header(data)[0]:
         return ('end',), place
     job = record(data, place)
-    return (('job',) + job, place + 1) if well_formed(job) else (('refused', 6, place), place)
+    return (refused((6, place, bad_field(job))), place) if bad_field(job) else (('job',) + job, place + 1)
 
 
 def heat(byte):
@@ -281,14 +286,13 @@ def by(points, t):
 
 def plan_judged(judged, room, work):
     """Planning an order behind the checks of the order itself."""
-    refusal, place, t0, jobs = judged
-    if refusal == 0 and (room < len(jobs) or work < WORK_AREA):
-        refusal = 10
-    if refusal:
-        return ('refused', refusal, place), [], False
+    refusal, t0, jobs = judged
+    refusal = then(refusal, room < len(jobs) or work < WORK_AREA, 10)
+    if refusal != ACCEPTED:
+        return refused(refusal), [], False
     choice = best(t0, jobs)
     if choice is None:
-        return ('refused', 11, 0), [], True
+        return refused((11, 0, 0)), [], True
     starts, free = run(t0, jobs, choice)
     mask = sum(kept << 63 - place for place, kept in enumerate(choice))
     kept = kept_weight(jobs, choice)
@@ -304,21 +308,18 @@ def plan_halves(data, room, work):
     judged = judge_halves(data)
     answer, starts, cleared = plan_judged(judged, room, work)
     if answer[0] == 'made':
-        left_out = [job for job, start in zip(judged[3], starts) if start == LEFT_OUT]
+        left_out = [job for job, start in zip(judged[2], starts) if start == LEFT_OUT]
         answer += (sum(length for _, critical, _, _, length, _ in left_out if not critical),)
     return answer, starts, cleared
 
 
 def extend(numbers, data, room, work):
-    refusal, place, _, jobs = read(data)
-    if refusal == 0 and not valid(numbers):
-        refusal = 8
-    if refusal == 0 and weigh(jobs) + sum(numbers[-1:]) > 300:
-        refusal = 9
-    if refusal == 0 and (room < PROFILE_ROOM or work < WORK_AREA):
-        refusal = 10
-    if refusal:
-        return ('refused', refusal, place), [], False
+    refusal, _, jobs = read(data)
+    refusal = then(refusal, not valid(numbers), 8)
+    refusal = then(refusal, weigh(jobs) + sum(numbers[-1:]) > 300, 9)
+    refusal = then(refusal, room < PROFILE_ROOM or work < WORK_AREA, 10)
+    if refusal != ACCEPTED:
+        return refused(refusal), [], False
     points = shortest((free, weight + kept) for time, weight in points_in(numbers) for free, kept in profile_from(time, jobs))
     assert valid(numbers_in(points)), points
     return ('points', len(points)), numbers_in(points), True
@@ -342,27 +343,27 @@ def lookup(numbers, t):
 
 
 def question(first, second, t, work):
-    """Refusal, winner (R17), and whether the work area is cleared."""
+    """Refusal, which names no place, winner (R17), and whether the work area is cleared."""
     worth = []
     for data in (first, second):
-        refusal, _, t0, jobs = judge(data)
-        if refusal:
-            return refusal, 0, False
+        refusal, t0, jobs = judge(data)
+        if refusal != ACCEPTED:
+            return (refusal[0], 0, refusal[2]), 0, False
         weight = by(profile_from(t0, jobs), t)
         worth.append(-1 if weight is None else weight)
     if work < WORK_AREA:
-        return 10, 0, False
+        return (10, 0, 0), 0, False
     if worth == [-1, -1]:
-        return 11, 0, True
-    return 0, (2 if worth[1] > worth[0] else 1), True
+        return (11, 0, 0), 0, True
+    return ACCEPTED, (2 if worth[1] > worth[0] else 1), True
 
 
 def report(data):
     """The program's text (R31, R32)."""
     answer, starts, _ = plan(data, 48, WORK_AREA)
     if answer[0] == 'refused':
-        return '%d %d\n' % answer[1:]
+        return '%d %d %d\n' % answer[1:]
     lines = ['0 0 %d %d %d %d %d' % answer[2:]]
-    for job, start in zip(judge(data)[3], starts):
+    for job, start in zip(judge(data)[2], starts):
         lines.append('%d %s' % (job[0], '-' if start == LEFT_OUT else start))
     return '\n'.join(lines) + '\n'

@@ -13,7 +13,7 @@ fn pack_order(numbers: &[i32], bytes: &mut [u8]) -> usize {
         return 0;
     }
     match pack::pack(at(numbers, 0), &numbers[1..], bytes) {
-        Packed::Refused(_, _) => 0,
+        Packed::Refused(_) => 0,
         Packed::Bytes(written) => written,
     }
 }

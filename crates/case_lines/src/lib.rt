@@ -27,4 +27,5 @@ pub use told::put_opened;
 pub use told::put_part;
 pub use told::put_refusal;
 pub use told::put_refused;
+pub use told::put_refused_field;
 pub use told::put_word;

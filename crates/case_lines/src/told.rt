@@ -5,6 +5,7 @@ use crate::lines::place_of;
 use careful::at;
 use careful::first_other;
 use fields::Job;
+use packed::Refusal;
 use reader::Moved;
 use reader::Opened;
 use reader::Read;
@@ -41,10 +42,17 @@ pub fn put_refused(number: u32) {
     put_count(number as u64);
 }
 
-// A refusal and its place.
-pub fn put_refusal(number: u32, place: usize) {
+// A refusal and its field, where no place is told.
+pub fn put_refused_field(number: u32, field: u32) {
     put_refused(number);
-    put_count(place as u64);
+    put_count(field as u64);
+}
+
+// A refusal, its place and its field.
+pub fn put_refusal(refusal: Refusal) {
+    put_refused(refusal.number);
+    put_count(refusal.place as u64);
+    put_count(refusal.field as u64);
 }
 
 // The number at a place; of ten and more of one kind how many they are. Returns the place past them.
@@ -132,7 +140,7 @@ pub fn put_moved(moved: Moved) {
     match answer {
         Read::Job(job) => put_job(job),
         Read::End => put_word(b" end"),
-        Read::Refused(number, at) => put_refusal(number, at),
+        Read::Refused(refusal) => put_refusal(refusal),
     }
     put_count(moved.place as u64);
 }

@@ -9,14 +9,14 @@ use case_lines::part;
 use case_lines::put_buffer;
 use case_lines::put_count;
 use case_lines::put_part;
-use case_lines::put_refused;
+use case_lines::put_refused_field;
 use case_lines::setting;
 use openings::Chosen;
 
 // What the question answered.
 fn put_chosen(answer: Chosen) {
     match answer {
-        Chosen::Refused(number) => put_refused(number),
+        Chosen::Refused(refusal) => put_refused_field(refusal.number, refusal.field),
         Chosen::First => put_count(1),
         Chosen::Second => put_count(2),
     }

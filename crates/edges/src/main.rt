@@ -3,7 +3,7 @@
 // what the call answered, and behind bars all that the lent buffers hold after it. A call more is a function
 // that takes a case's line, and a word in the `run` of its file.
 mod choices;
-mod packed;
+mod orders;
 mod plans;
 mod points;
 mod readers;
@@ -32,7 +32,7 @@ pub fn calls(line: &[u8], call: &[u8]) -> bool {
 
 // The call that a case is for, in the file that has it.
 fn run(line: &[u8]) -> bool {
-    packed::run(line)
+    orders::run(line)
         || plans::run(line)
         || points::run(line)
         || choices::run(line)

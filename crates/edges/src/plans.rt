@@ -30,7 +30,7 @@ fn put_figures(figures: Figures) {
 // What planning answered.
 fn put_planned(answer: Planned) {
     match answer {
-        Planned::Refused(number, place) => put_refusal(number, place),
+        Planned::Refused(refusal) => put_refusal(refusal),
         Planned::Made(figures) => put_figures(figures),
     }
 }
@@ -38,7 +38,7 @@ fn put_planned(answer: Planned) {
 // What planning halves answered.
 fn put_halves(answer: HalvesPlanned) {
     match answer {
-        HalvesPlanned::Refused(number, place) => put_refusal(number, place),
+        HalvesPlanned::Refused(refusal) => put_refusal(refusal),
         HalvesPlanned::Made(figures, seconds) => {
             put_figures(figures);
             put_count(seconds as u64);

@@ -29,7 +29,7 @@ const NO_POINT: i32 = 100_016;
 // What extending answered.
 fn put_extended(answer: Extended) {
     match answer {
-        Extended::Refused(number, place) => put_refusal(number, place),
+        Extended::Refused(refusal) => put_refusal(refusal),
         Extended::Points(points) => put_count(points as u64),
     }
 }

@@ -24,6 +24,7 @@ use extending::Extended;
 use halves::HalvesPlanned;
 use openings::Chosen;
 use pack::Packed;
+use packed::Refusal;
 use planner::Figures;
 use planner::Planned;
 use profiles::Finding;
@@ -38,9 +39,14 @@ const AREA: usize = 14_749;
 // The bytes of an order; an order that is refused has none.
 fn pack_order(t0: i32, numbers: &[i32], bytes: &mut [u8]) -> usize {
     match pack::pack(t0, numbers, bytes) {
-        Packed::Refused(_, _) => 0,
+        Packed::Refused(_) => 0,
         Packed::Bytes(written) => written,
     }
+}
+
+// Whether a refusal is this one at this place; none of the orders compared has a field out of range.
+fn says(refusal: Refusal, number: u32, place: usize) -> bool {
+    refusal.number == number && refusal.place == place && refusal.field == 0
 }
 
 // Whether a call left the work area as it should, full of one number, and what is past it as it was.
@@ -74,7 +80,7 @@ fn plan_agrees(numbers: &[i32], t0: i32, best: Best, expected: &[i32]) -> bool {
     let mut starts = [MARK; 12];
     let mut work = [MARK; 14_750];
     let agrees = match planner::plan(front_bytes(&bytes, size), &mut starts, &mut work) {
-        Planned::Refused(number, place) => !best.found && number == 11 && place == 0,
+        Planned::Refused(refusal) => !best.found && says(refusal, 11, 0),
         Planned::Made(figures) => figures_agree(figures, numbers, t0, best),
     };
     agrees && same(&starts, expected) && leaves(&work, 0)
@@ -120,7 +126,7 @@ fn halves_agree(numbers: &[i32], t0: i32, best: Best, expected: &[i32]) -> bool 
     let mut work = [MARK; 14_750];
     let order = front_bytes(&bytes, size);
     let agrees = match halves::plan_halves(order, &mut starts, &mut work) {
-        HalvesPlanned::Refused(number, place) => !best.found && number == 11 && place == 0,
+        HalvesPlanned::Refused(refusal) => !best.found && says(refusal, 11, 0),
         HalvesPlanned::Made(figures, seconds) => {
             halves_figures_agree(figures, seconds, numbers, t0, best)
         }
@@ -137,7 +143,7 @@ fn is_refused(numbers: &[i32], t0: i32, offending: usize) -> bool {
     let mut work = [MARK; 14_750];
     let order = front_bytes(&bytes, size);
     let refused = match halves::plan_halves(order, &mut starts, &mut work) {
-        HalvesPlanned::Refused(number, place) => number == 13 && place == offending,
+        HalvesPlanned::Refused(refusal) => says(refusal, 13, offending),
         HalvesPlanned::Made(_, _) => false,
     };
     refused && all_are(&starts, MARK) && leaves(&work, MARK)
@@ -200,7 +206,7 @@ fn extend_agrees(
     let mut out = [MARK; 604];
     let mut work = [MARK; 14_750];
     let agrees = match extending::extend(profile, bytes, &mut out, &mut work) {
-        Extended::Refused(number, place) => number == refusal && place == 0,
+        Extended::Refused(told) => says(told, refusal, 0),
         Extended::Points(many) => refusal == 0 && many == points,
     };
     agrees && same(&out, expected) && leaves(&work, held_after(refusal))
@@ -280,7 +286,7 @@ pub fn check_lookups(profile: &[i32], counts: &mut [u64]) {
 // Whether the answer to the question is that of what each opening is worth, -1 for nothing.
 fn is_answer(answer: Chosen, one: i32, other: i32) -> bool {
     match answer {
-        Chosen::Refused(number) => number == 11 && one < 0 && other < 0,
+        Chosen::Refused(refusal) => says(refusal, 11, 0) && one < 0 && other < 0,
         Chosen::First => one >= 0 && other <= one,
         Chosen::Second => one < other,
     }

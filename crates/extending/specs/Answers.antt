@@ -1,8 +1,9 @@
--- What the answers of extending say: their numbers, that 11 is never given, the places of refusals, and what an empty profile
--- and the bus-free time of the order do.
+-- What the answers of extending say: their numbers, that 11 is never given, what refusals name, when 6 is given, and what an
+-- empty profile and the bus-free time of the order do.
 use Prim.Native.Nat.{ℕ, _+_, _≤_}
 use mathlib.Core.Path.{_≡_, refl, ap}
 use mathlib.Core.Bool.{not}
+use mathlib.Core.Logic.{_↔_, Iff·trans}
 use mathlib.Core.List.{List, []}
 use native.Mathlib.Omega.{arith}
 use lib.Dec.{ltb}
@@ -12,68 +13,89 @@ use Rattle.seconds.specs.Limits.{mostWeight}
 use Rattle.order.specs.Job.{weightOf}
 use Rattle.profile.specs.Profile.{extend, lastWeight}
 use Rattle.profile.specs.Extending.{extend-empty}
-use Rattle.packed.specs.Judge.{Verdict, fine, refused}
+use Rattle.packed.specs.declared.Refusal.{Refusal}
+use Rattle.packed.specs.Judge.{inField, noRefusal, Verdict, fine, refused, judge}
 use Rattle.packed.specs.Packed.{numbersOf, jobsOf, orderOf}
 use Rattle.packed.specs.Refusals.{headerChecks, jobChecks, weightChecks}
-use Rattle.packed.specs.RefusalPlaces.{PlaceIs, nowhere}
+use Rattle.packed.specs.RefusalPlaces.{BadField, RefusalIs, nowhere, SixIs, six-behind, six-jobs, answer-refusal, answer-says}
 use Rattle.profiles.specs.Numbers.{mostNumbers, holdsProfile}
 use Rattle.cells.specs.Work.{area}
-use Rattle.judge.specs.Told.{stays, up-to-ten, Placed, placed-behind, placed-check, placed-rooms, placed-order}
+use Rattle.judge.specs.Told.{stays, up-to-ten, Named, holds-behind, named-check, named-rooms, named-order, six-rooms}
 use Rattle.extending.specs.Calls.{profileGiven, profileChecks, extendJudged, extendChecks, extendVerdict}
-use Rattle.extending.specs.Calls.{extension, extendedBy, extendedOf, ExtendCall, extendRefusal, extendPlace, pointsWritten}
+use Rattle.extending.specs.Calls.{extension, extendedBy, extendedOf, ExtendCall, extendRefusal, pointsWritten}
 use Rattle.extending.specs.CallLaws.{seven, eight, nine}
 use Rattle.extending.specs.declared.Extended.{Extended}
 
 -- ---- the answer in numbers
 
 module _ (ns : List ℤ) (bytes : List ℕ) (out work : List ℤ) where
-  -- The answer's refusal number and place, and the points written.
-  abbrev Says : ℕ → ℕ → ℕ → Type 0
-  Says refusal place points =
+  -- The answer's refusal, and the points written.
+  abbrev Says : Refusal → ℕ → Type 0
+  Says refusal points =
       let a = extendedOf ns bytes out work in
-      (extendRefusal a ≡ refusal) × (extendPlace a ≡ place) × (pointsWritten a ≡ points)
+      (extendRefusal a ≡ refusal) × (pointsWritten a ≡ points)
 
-  -- Refused: the number and the place of the first check that applies, and no points.
-  pub refused-says : {n p : ℕ} → extendVerdict ns bytes out work ≡ refused n p → Says n p 0
-  refused-says e = rw e (refl, refl, refl)
+  -- Refused: what the first check that applies says, and no points.
+  pub refused-says : {r : Refusal} → extendVerdict ns bytes out work ≡ refused r → Says r 0
+  refused-says e = rw e (refl, refl)
 
   -- Not refused: the points of the extended profile.
-  pub points-say : extendVerdict ns bytes out work ≡ fine → Says 0 0 (length (extension ns bytes))
-  points-say e = rw e (refl, refl, refl)
+  pub points-say : extendVerdict ns bytes out work ≡ fine → Says noRefusal (length (extension ns bytes))
+  points-say e = rw e (refl, refl)
 
   -- No refusal by the checks has a number above 10,
-  extend-ten : {n p : ℕ} → extendVerdict ns bytes out work ≡ refused n p → n ≤ 10
+  extend-ten : {r : Refusal} → extendVerdict ns bytes out work ≡ refused r → r .number ≤ 10
   unfolding extendChecks extendJudged headerChecks jobChecks weightChecks
   extend-ten = up-to-ten (extendChecks ns bytes out work) tt
 
   -- so no outcome that the contract allows is refused with 11, or more.
-  pub extend-never-eleven : {r : Extended} {out′ work′ : List ℤ} → ExtendCall ns bytes out work r out′ work′ → extendRefusal r ≤ 10
+  pub extend-never-eleven : {r : Extended} {out′ work′ : List ℤ} → ExtendCall ns bytes out work r out′ work′ → extendRefusal r .number ≤ 10
   extend-never-eleven h = rw (h .answer) (go (extendVerdict ns bytes out work) refl)
     where
-      go : (v : Verdict) → extendVerdict ns bytes out work ≡ v → extendRefusal (extendedBy v (extension ns bytes)) ≤ 10
+      go : (v : Verdict) → extendVerdict ns bytes out work ≡ v → extendRefusal (extendedBy v (extension ns bytes)) .number ≤ 10
       go fine d = omega arith
-      go (refused n p) d = extend-ten d
+      go (refused s) d = extend-ten d
 
-  -- The place of a check is that of 6 or 7, or else 0,
-  place-judged : Placed (numbersOf bytes) (extendChecks ns bytes out work)
+  -- A refusal by the checks names a place with 6 and 7, and a field with 6;
+  extend-named : Named (numbersOf bytes) (extendChecks ns bytes out work)
   unfolding extendChecks extendJudged weightChecks
-  place-judged =
+  extend-named =
       let zs = numbersOf bytes in
-      let first : Placed zs (seven ns bytes) = λ n p e. placed-order bytes n p (stays (seven ns bytes) (weightChecks 0 zs) e) in
-      let eighth = placed-behind zs (seven ns bytes) (profileChecks ns) first
-      (placed-check zs 8 (not (holdsProfile ns)) refl) in
-      let ninth = placed-behind zs (eight ns bytes) (nine ns bytes) eighth
-      (placed-check zs 9 (ltb mostWeight (lastWeight (profileGiven ns) + weightOf (jobsOf zs))) refl) in
-      placed-rooms zs (extendJudged ns bytes) mostNumbers (length out) area (length work) ninth
+      let first : Named zs (seven ns bytes) = λ r e. named-order bytes r (stays (seven ns bytes) (weightChecks 0 zs) e) in
+      let eighth = holds-behind (RefusalIs zs) (seven ns bytes) (profileChecks ns) first
+      (named-check zs 8 (not (holdsProfile ns)) refl) in
+      let ninth = holds-behind (RefusalIs zs) (eight ns bytes) (nine ns bytes) eighth
+      (named-check zs 9 (ltb mostWeight (lastWeight (profileGiven ns) + weightOf (jobsOf zs))) refl) in
+      named-rooms zs (extendJudged ns bytes) mostNumbers (length out) area (length work) ninth
 
-  -- and so is that of the answer.
-  pub extend-place : let a = extendedOf ns bytes out work in PlaceIs (numbersOf bytes) (extendRefusal a) (extendPlace a)
-  extend-place = go (extendVerdict ns bytes out work) refl
-    where
-      go : (v : Verdict) → extendVerdict ns bytes out work ≡ v
-          → let a = extendedBy v (extension ns bytes) in PlaceIs (numbersOf bytes) (extendRefusal a) (extendPlace a)
-      go fine d = nowhere {n = 0} refl
-      go (refused n p) d = place-judged n p d
+  -- 6 is given with 1 to 5 passed and a job out of range.
+  extend-checks-six : SixIs (numbersOf bytes) (headerChecks bytes) (extendChecks ns bytes out work)
+  unfolding extendChecks extendJudged headerChecks weightChecks
+  extend-checks-six =
+      let zs = numbersOf bytes in
+      let header = headerChecks bytes in
+      six-rooms zs header (extendJudged ns bytes) mostNumbers (length out) area (length work)
+      (six-behind zs header (eight ns bytes) (nine ns bytes) tt
+      (six-behind zs header (seven ns bytes) (profileChecks ns) tt (six-jobs zs header tt)))
+
+  -- What is told by a verdict.
+  abbrev told : Verdict → Refusal
+  told v = extendRefusal (extendedBy v (extension ns bytes))
+
+  -- So the answer's refusal names what it should,
+  pub extend-refusal : RefusalIs (numbersOf bytes) (extendRefusal (extendedOf ns bytes out work))
+  extend-refusal =
+      answer-refusal (numbersOf bytes) told (λ r. refl) (nowhere {n = 0} refl) (extendVerdict ns bytes out work) extend-named
+
+  -- and 6 is given with a place and a field exactly when 1 to 5 are passed, the first job out of range is there, and that is its
+  -- first field that is.
+  pub extend-six : (p f : ℕ) → extendRefusal (extendedOf ns bytes out work) ≡ inField 6 p f
+      ↔ ((judge (headerChecks bytes) ≡ fine) × BadField (numbersOf bytes) p f)
+  extend-six p f =
+      Iff·trans
+      (answer-says (numbersOf bytes) told (λ r. refl) (nowhere {n = 0} refl) (inField 6 p f) (λ e. omega arith)
+      (extendVerdict ns bytes out work))
+      (extend-checks-six p f)
 
 -- ---- what extending does not look at
 

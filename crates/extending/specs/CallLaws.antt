@@ -6,7 +6,8 @@ use mathlib.Core.List.{List, _++_}
 use lib.IntN.{ℤ}
 use lib.ListN.{length}
 use Rattle.profile.specs.Profile.{lastWeight}
-use Rattle.packed.specs.Judge.{Check, fine, refused, judge}
+use Rattle.packed.specs.declared.Refusal.{Refusal}
+use Rattle.packed.specs.Judge.{plainly, Check, fine, refused, judge}
 use Rattle.packed.specs.Packed.{numbersOf}
 use Rattle.packed.specs.Refusals.{headerChecks, jobChecks, weightChecks, roomChecks}
 use Rattle.profiles.specs.Numbers.{mostNumbers, holdsProfile}
@@ -54,10 +55,10 @@ module _ (ns : List ℤ) (bytes : List ℕ) where
 
   module _ (out work : List ℤ) where
     -- A refusal changes no buffer.
-    extend-refused : {n p : ℕ} → extendVerdict ns bytes out work ≡ refused n p → ExtendCall ns bytes out work (Refused n p) out work
+    extend-refused : {r : Refusal} → extendVerdict ns bytes out work ≡ refused r → ExtendCall ns bytes out work (Refused r) out work
     extend-refused e = record { answer = rw e; written = rw e; area = rw e }
 
-    before-room : {n p : ℕ} → judge (extendJudged ns bytes) ≡ refused n p → ExtendCall ns bytes out work (Refused n p) out work
+    before-room : {r : Refusal} → judge (extendJudged ns bytes) ≡ refused r → ExtendCall ns bytes out work (Refused r) out work
     unfolding extendChecks
     before-room e =
         extend-refused
@@ -65,33 +66,33 @@ module _ (ns : List ℤ) (bytes : List ℕ) where
         (stays (extendJudged ns bytes) (roomChecks mostNumbers (length out)) e))
 
     -- By 1 to 7,
-    pub extend-stopped : (n p : ℕ) → verdictOf (judge seven) ≡ Stopped n p → ExtendCall ns bytes out work (Refused n p) out work
+    pub extend-stopped : (r : Refusal) → verdictOf (judge seven) ≡ Stopped r → ExtendCall ns bytes out work (Refused r) out work
     unfolding extendJudged
-    extend-stopped n p e =
-        before-room (stays eight nine (stays seven (profileChecks ns) (refusal-told _ n p e)))
+    extend-stopped r e =
+        before-room (stays eight nine (stays seven (profileChecks ns) (refusal-told _ r e)))
 
     module _ (passed : judge seven ≡ fine) where
       -- by 8,
-      pub extend-not-valid : holdsProfile ns ≡ false → ExtendCall ns bytes out work (Refused 8 0) out work
+      pub extend-not-valid : holdsProfile ns ≡ false → ExtendCall ns bytes out work (Refused (plainly 8)) out work
       unfolding extendJudged
       extend-not-valid e =
           before-room (stays eight nine (told-next seven (profileChecks ns) passed ∙ rw e))
 
       -- by 9,
-      pub extend-too-heavy : (n p : ℕ) {before : ℕ} → holdsProfile ns ≡ true → before ≡ lastWeight (pointsOf ns)
-          → verdictOf (judge (weightChecks before (numbersOf bytes))) ≡ Stopped n p
-          → ExtendCall ns bytes out work (Refused n p) out work
-      extend-too-heavy n p valid e f = before-room (nine-told passed valid e ∙ refusal-told _ n p f)
+      pub extend-too-heavy : (r : Refusal) {before : ℕ} → holdsProfile ns ≡ true → before ≡ lastWeight (pointsOf ns)
+          → verdictOf (judge (weightChecks before (numbersOf bytes))) ≡ Stopped r
+          → ExtendCall ns bytes out work (Refused r) out work
+      extend-too-heavy r valid e f = before-room (nine-told passed valid e ∙ refusal-told _ r f)
 
     module _ (passed : judge (extendJudged ns bytes) ≡ fine) where
       -- by the room for a profile,
-      pub extend-no-room : length out < mostNumbers → ExtendCall ns bytes out work (Refused 10 0) out work
+      pub extend-no-room : length out < mostNumbers → ExtendCall ns bytes out work (Refused (plainly 10)) out work
       unfolding extendChecks
       extend-no-room h = extend-refused (no-room (extendJudged ns bytes) passed mostNumbers (length out) area (length work) h)
 
       module _ (places : mostNumbers ≤ length out) where
         -- or by that for the rows.
-        pub extend-no-space : length work < area → ExtendCall ns bytes out work (Refused 10 0) out work
+        pub extend-no-space : length work < area → ExtendCall ns bytes out work (Refused (plainly 10)) out work
         unfolding extendChecks
         extend-no-space h =
             extend-refused (no-space (extendJudged ns bytes) passed mostNumbers (length out) area (length work) places h)

@@ -8,7 +8,8 @@ use lib.IntN.{ℤ}
 use lib.ListN.{length}
 use Rattle.order.specs.Job.{Point}
 use Rattle.profile.specs.Profile.{extend, lastWeight}
-use Rattle.packed.specs.Judge.{Check, Verdict, fine, refused, judge, check}
+use Rattle.packed.specs.declared.Refusal.{Refusal}
+use Rattle.packed.specs.Judge.{noRefusal, Check, Verdict, fine, refused, judge, check}
 use Rattle.packed.specs.Packed.{numbersOf, orderOf}
 use Rattle.packed.specs.Refusals.{headerChecks, jobChecks, weightChecks, roomChecks}
 use Rattle.profiles.specs.Numbers.{mostNumbers, alternating, profileIn, holdsProfile, writtenOver}
@@ -46,12 +47,12 @@ extension ns bytes = extend (profileGiven ns) (orderOf bytes .jobs)
 
 -- The answer by the verdict and that profile.
 abbrev pub extendedBy : Verdict → List Point → Extended
-extendedBy (refused n p) ps = Refused n p
+extendedBy (refused r) ps = Refused r
 extendedBy fine ps = Points (length ps)
 
 -- The numbers at exit: the profile's are written over the front.
 abbrev pub outBy : Verdict → List Point → List ℤ → List ℤ
-outBy (refused n p) ps out = out
+outBy (refused r) ps out = out
 outBy fine ps out = writtenOver (alternating ps) out
 
 -- Both of any numbers, bytes, room and work area,
@@ -72,17 +73,13 @@ pub record ExtendCall
   pub written : out′ ≡ outAfter ns bytes out work
   pub area : work′ ≡ extendWorkAfter ns bytes out work
 
--- ---- the numbers for each case; all but the refusal and its place are 0 in a refused answer (R26)
+-- ---- the numbers for each case; all but those of the refusal are 0 in a refused answer (R26)
 
--- The answer of extending: refusal number, place and points written.
-abbrev pub extendRefusal : Extended → ℕ
-extendRefusal (Refused n p) = n
-extendRefusal (Points n) = 0
-
-abbrev pub extendPlace : Extended → ℕ
-extendPlace (Refused n p) = p
-extendPlace (Points n) = 0
+-- The answer of extending: its refusal, and the points written.
+abbrev pub extendRefusal : Extended → Refusal
+extendRefusal (Refused r) = r
+extendRefusal (Points n) = noRefusal
 
 abbrev pub pointsWritten : Extended → ℕ
-pointsWritten (Refused n p) = 0
+pointsWritten (Refused r) = 0
 pointsWritten (Points n) = n

@@ -11,6 +11,8 @@ use filling::start_profile;
 use judge::Verdict;
 use judge::judge_jobs;
 use judge::judge_weight;
+use packed::Refusal;
+use packed::plainly;
 use profiles::MOST_NUMBERS;
 use profiles::valid;
 ghost use mathlib.Core.Path.{_≡_};
@@ -21,9 +23,9 @@ ghost use Rattle.packed.specs.Refusals.{headerChecks, jobChecks};
 ghost use Rattle.extending.specs.Calls.{extendJudged, ExtendCall};
 ghost use Rattle.extending.specs.Extending.{CanExtend, ExtendedIn};
 
-// What extending answers: a refusal with its number and place, or how many points were written.
+// What extending answers: a refusal, or how many points were written.
 pub enum Extended {
-    Refused(u32, usize),
+    Refused(Refusal),
     Points(usize),
 }
 
@@ -51,10 +53,10 @@ fn extend_with_room(profile: &[i32], bytes: &[u8], out: &mut [i32], work: &mut [
         (now (out .exit)) (now (work .exit)) ⌝ }
 {
     if out.len() < MOST_NUMBERS {
-        return Extended::Refused(10, 0);
+        return Extended::Refused(plainly(10));
     }
     if work.len() < AREA {
-        return Extended::Refused(10, 0);
+        return Extended::Refused(plainly(10));
     }
     let points = extend_by_rows(profile, bytes, out, work);
     clear(work);
@@ -69,11 +71,11 @@ fn extend_profile(profile: &[i32], bytes: &[u8], out: &mut [i32], work: &mut [i3
         (now (out .exit)) (now (work .exit)) ⌝ }
 {
     if !valid(profile) {
-        return Extended::Refused(8, 0);
+        return Extended::Refused(plainly(8));
     }
     let before = last_weight(profile);
     match judge_weight(bytes, before as u32) {
-        Verdict::Refused(number, place) => Extended::Refused(number, place),
+        Verdict::Refused(refusal) => Extended::Refused(refusal),
         Verdict::Fine => extend_with_room(profile, bytes, out, work),
     }
 }
@@ -85,7 +87,7 @@ pub fn extend(profile: &[i32], bytes: &[u8], out: &mut [i32], work: &mut [i32]) 
         (now (out .exit)) (now (work .exit)) ⌝ }
 {
     match judge_jobs(bytes) {
-        Verdict::Refused(number, place) => Extended::Refused(number, place),
+        Verdict::Refused(refusal) => Extended::Refused(refusal),
         Verdict::Fine => extend_profile(profile, bytes, out, work),
     }
 }

@@ -1,7 +1,7 @@
 // One job of an order, from and to eight bytes and six numbers, and the header from and to four
 // bytes. A record is one number, read and written in the nesting of its layout. Assumes nothing.
 ghost use mathlib.Core.Path.{_≡_};
-ghost use mathlib.Core.Bool.{true};
+ghost use mathlib.Core.Bool.{true, cond};
 ghost use mathlib.Core.List.{_++_};
 ghost use Prim.Native.Nat.{_+_, _≤_, _<_};
 ghost use lib.IntN.{pos, natAbs};
@@ -11,7 +11,7 @@ ghost use Rattle.seconds.specs.Ranges.{InTime, isBetween, isTime};
 ghost use Rattle.seconds.specs.Twos.{bitsTo, toBits};
 ghost use Rattle.packed.specs.Layout.{decode, encode, numberOf, bytesOf, jobLayout};
 ghost use Rattle.packed.specs.Packed.{headerOf, packedHeader};
-ghost use Rattle.packed.specs.Refusals.{weightTest, fieldsWithin};
+ghost use Rattle.packed.specs.Refusals.{weightTest, fieldsWithin, badField};
 ghost use Rattle.fields.specs.Fields.{fieldsOf, headerFields, WordIn, WordRoom, JobRoom, HeaderRoom};
 
 // A job's six numbers.
@@ -236,15 +236,22 @@ fn weight_within(critical: bool, weight: i32) -> bool
     between(1, 50, weight)
 }
 
-// Whether each number of a job is within its limits.
-pub fn within(job: Job) -> bool
-    ensures { λ r. ⌜ r ≡ fieldsWithin (fieldsOf job) ⌝ }
+// A field by its figure where its test is not passed, else the one that is named of those behind it.
+fn field_or(passed: bool, field: u32, later: u32) -> u32
+    ensures { λ r. ⌜ r ≡ cond passed later field ⌝ }
 {
-    let number = between(0, 63, job.number);
-    let critical = between(0, 1, job.critical);
-    let weight = weight_within(job.critical == 1, job.weight);
-    let ready = is_time(job.ready);
-    let length = between(1, 10000, job.length);
-    let deadline = is_time(job.deadline);
-    number & critical & weight & ready & length & deadline
+    if passed { later } else { field }
+}
+
+// The first number of a job that is out of range, 1 for its number to 6 for its deadline; 0 if none is. The last field is tested
+// first, so that the first that is out of range is named.
+pub fn bad_field(job: Job) -> u32
+    ensures { λ r. ⌜ r ≡ badField (fieldsOf job) ⌝ }
+{
+    let mut bad = field_or(is_time(job.deadline), 6, 0);
+    bad = field_or(between(1, 10000, job.length), 5, bad);
+    bad = field_or(is_time(job.ready), 4, bad);
+    bad = field_or(weight_within(job.critical == 1, job.weight), 3, bad);
+    bad = field_or(between(0, 1, job.critical), 2, bad);
+    field_or(between(0, 63, job.number), 1, bad)
 }

@@ -7,4 +7,4 @@ use Rattle.cells.specs.Area.{cleared}
 -- What the rows take is cleared once all checks are passed; a refusal by them leaves the work area as it was.
 abbrev pub workBy : Verdict → List ℤ → List ℤ
 workBy fine work = cleared work
-workBy (refused n p) work = work
+workBy (refused r) work = work

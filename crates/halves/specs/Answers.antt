@@ -3,7 +3,7 @@
 use Prim.Native.Nat.{ℕ, _*_, _<_}
 use mathlib.Core.Path.{_≡_, refl, sym, ap, _∙_}
 use mathlib.Core.Bool.{true, true≢false}
-use mathlib.Core.Logic.{_↔_, _≢_, _⊎_, inl, inr, ⊎-elim}
+use mathlib.Core.Logic.{_↔_, Iff·trans, _≢_, _⊎_, inl, inr, ⊎-elim}
 use mathlib.Core.List.{List, _++_}
 use mathlib.Core.Option.{Option, none, some, Option·map}
 use native.Mathlib.Omega.{arith}
@@ -16,26 +16,28 @@ use Rattle.seconds.specs.Limits.{secondsPerWeight}
 use Rattle.order.specs.Job.{Job, Order}
 use Rattle.order.specs.Halves.{offendsAt, secondsLost}
 use Rattle.order.specs.HalvesLaws.{Offends, offends-is, offends-below, OfHalves, of-halves}
-use Rattle.plan.specs.Plan.{Ended, plan, Answer, answerOf, planAnswer}
-use Rattle.packed.specs.Judge.{Check, Verdict, fine, refused, judge}
-use Rattle.packed.specs.JudgeLaws.{stages-fine, refused-fine, judge-tells}
+use Rattle.plan.specs.Plan.{Ended, plan, answerOf, planAnswer}
+use Rattle.packed.specs.declared.Refusal.{Refusal}
+use Rattle.packed.specs.Judge.{inField, atPlace, plainly, Check, Verdict, fine, refused, judge}
+use Rattle.packed.specs.JudgeLaws.{stages-fine, refused-fine, refused-same, judge-tells}
 use Rattle.packed.specs.Packed.{countOf, numbersOf, jobCount, orderOf, jobsIn}
 use Rattle.packed.specs.PackedLaws.{numbers-count}
 use Rattle.packed.specs.PlacesLaws.{IsFirst, first-unique}
-use Rattle.packed.specs.Refusals.{firstOffending, orderChecks, halvesChecks, roomChecks}
+use Rattle.packed.specs.Refusals.{firstOffending, headerChecks, orderChecks, halvesChecks, roomChecks}
 use Rattle.packed.specs.RefusalLaws.{offending-is-first, halves-fine}
-use Rattle.packed.specs.RefusalPlaces.{PlaceIs, nowhere, halves-tell}
+use Rattle.packed.specs.RefusalPlaces.{BadField, RefusalIs, bad, repeated, offending, nowhere, halves-tell}
+use Rattle.packed.specs.RefusalPlaces.{SixIs, six-behind, six-order, answer-refusal, answer-says}
 use Rattle.fields.specs.Places.{jobs-count}
 use Rattle.cells.specs.Work.{area}
 use Rattle.filling.specs.After.{workBy}
-use Rattle.judge.specs.Told.{stays, told-next, Placed, placed-behind, placed-rooms, placed-order}
+use Rattle.judge.specs.Told.{stays, told-next, Named, holds-behind, named-rooms, named-order, six-rooms}
 use Rattle.planner.specs.Calls.{planChecks, planVerdict, plannedBy, startsBy, plannedOf, startsAfter, planWorkAfter, PlanCall}
 use Rattle.planner.specs.Calls.{PlanNumbers, planNumbers}
-use Rattle.planner.specs.Answers.{refusedWith, plannedWith, NoneFeasible, plan-ten, plan-eleven}
+use Rattle.planner.specs.Answers.{refusedWith, plannedWith, told, passed-told, NoneFeasible, plan-ten, plan-eleven}
 use Rattle.planner.specs.declared.Planned.{Planned}
 use Rattle.planner.specs.declared.Planned.the-variants as planned
 use Rattle.halves.specs.Calls.{planHalvesChecks, halvesVerdict, lostIn, lostSeconds, withSeconds, halvesOf, HalvesCall}
-use Rattle.halves.specs.Calls.{HalvesNumbers, halvesNumbers}
+use Rattle.halves.specs.Calls.{halvesNumbers}
 use Rattle.halves.specs.CallLaws.{lost-sixty, verdict-as-plan}
 use Rattle.halves.specs.declared.HalvesPlanned.{HalvesPlanned}
 use Rattle.halves.specs.declared.HalvesPlanned.the-variants.{Refused, Made}
@@ -56,7 +58,7 @@ module _ (bytes : List ℕ) where
     pub before : (k : ℕ) → k < p → ¬ Offends jobs k
 
   -- Check 13 says so.
-  check-thirteen : (p : ℕ) → judge (halvesChecks (numbersOf bytes)) ≡ refused 13 p
+  check-thirteen : (p : ℕ) → judge (halvesChecks (numbersOf bytes)) ≡ refused (atPlace 13 p)
       ↔ (Offends jobs p × ((k : ℕ) → k < p → ¬ Offends jobs k))
   unfolding halvesChecks orderOf
   check-thirteen p = (there, back)
@@ -70,17 +72,17 @@ module _ (bytes : List ℕ) where
       f : IsFirst (offendsAt (jobsIn bytes)) 0 n (firstOffending zs)
       f = offending-is-first zs
 
-      there : judge (halvesChecks zs) ≡ refused 13 p → Offends (jobsIn bytes) p × ((k : ℕ) → k < p → ¬ Offends (jobsIn bytes) k)
+      there : judge (halvesChecks zs) ≡ refused (atPlace 13 p) → Offends (jobsIn bytes) p × ((k : ℕ) → k < p → ¬ Offends (jobsIn bytes) k)
       there e = cases (ltb (firstOffending zs) n)
-          (λ b. let told : refused 13 (firstOffending zs) ≡ refused 13 p = rw b at e in
-          let here : firstOffending zs ≡ p = cc in
+          (λ b. let told : refused (atPlace 13 (firstOffending zs)) ≡ refused (atPlace 13 p) = rw b at e in
+          let here : firstOffending zs ≡ p = ap (λ (r : Refusal). r .place) (refused-same told) in
           rw (← here) (
             offends-is (jobsIn bytes) (firstOffending zs) .0 (f .passes (ltb-true _ _ b)),
             λ k h o. true≢false (sym (offends-is (jobsIn bytes) k .1 o) ∙ f .before k (omega arith) h),
           ))
           (λ b. absurd (refused-fine (sym (rw b at e))))
 
-      back : Offends (jobsIn bytes) p × ((k : ℕ) → k < p → ¬ Offends (jobsIn bytes) k) → judge (halvesChecks zs) ≡ refused 13 p
+      back : Offends (jobsIn bytes) p × ((k : ℕ) → k < p → ¬ Offends (jobsIn bytes) k) → judge (halvesChecks zs) ≡ refused (atPlace 13 p)
       back h =
           let yes : offendsAt (jobsIn bytes) p ≡ true = offends-is (jobsIn bytes) p .1 (h .0) in
           let within : p < n = cases (ltb p n) (λ b. ltb-true p n b)
@@ -96,28 +98,28 @@ module _ (bytes : List ℕ) where
           rw (same, lt-ltb p n within)
 
 -- It has no other number.
-only-thirteen : (zs : List ℤ) {n p : ℕ} → judge (halvesChecks zs) ≡ refused n p → judge (halvesChecks zs) ≡ refused 13 p
+only-thirteen : (zs : List ℤ) {r : Refusal} → judge (halvesChecks zs) ≡ refused r
+    → judge (halvesChecks zs) ≡ refused (atPlace 13 (r .place))
 unfolding halvesChecks
-only-thirteen zs {n} {p} e =
-    let is : n ≡ 13 = judge-tells (λ n p. n ≡ 13) (halvesChecks zs) ((λ h. refl), tt) e in
-    rw is at e
+only-thirteen zs {r} e =
+    e ∙ ap refused (judge-tells (λ (s : Refusal). s ≡ atPlace 13 (s .place)) (halvesChecks zs) ((λ h. refl), tt) e)
 
 -- ---- the answer in numbers
 
 -- Planning's numbers stay, whatever the seconds.
 seconds-beside : (s : ℕ) (p : Planned) → halvesNumbers (withSeconds s p) .plan ≡ planNumbers p
-seconds-beside s (planned.Refused n q) = refl
+seconds-beside s (planned.Refused r) = refl
 seconds-beside s (planned.Made f) = refl
 
 module _ (bytes : List ℕ) (starts work : List ℤ) where
-  -- Refused by a check: the number and the place of the first that applies, and no seconds.
-  pub refused-says : {n p : ℕ} → halvesVerdict bytes starts work ≡ refused n p
-      → halvesNumbers (halvesOf bytes starts work) ≡ record { plan = refusedWith n p; secondsLost = 0 }
+  -- Refused by a check: what the first that applies says, and no seconds.
+  pub refused-says : {r : Refusal} → halvesVerdict bytes starts work ≡ refused r
+      → halvesNumbers (halvesOf bytes starts work) ≡ record { plan = refusedWith r; secondsLost = 0 }
   refused-says e = rw e
 
   -- Past the checks: 11 where there is no plan,
   pub no-plan-says : halvesVerdict bytes starts work ≡ fine → plan (t0 bytes) (jobs bytes) ≡ none
-      → halvesNumbers (halvesOf bytes starts work) ≡ record { plan = refusedWith 11 0; secondsLost = 0 }
+      → halvesNumbers (halvesOf bytes starts work) ≡ record { plan = refusedWith (plainly 11); secondsLost = 0 }
   no-plan-says e is = rw (e, is)
 
   -- else the numbers of the plan, and the seconds that it loses.
@@ -147,129 +149,156 @@ module _ (bytes : List ℕ) (starts work : List ℤ) where
       stages-fine order halves .0 (stages-fine (order ++ halves) places .0 (rooms .0) .0) .1
 
   -- Refused by the order's own checks, the verdict is planning's; past them, refused by 13, it is that.
-  stopped-early : {n p : ℕ} → judge order ≡ refused n p → halvesVerdict bytes starts work ≡ planVerdict bytes starts work
+  stopped-early : {r : Refusal} → judge order ≡ refused r → halvesVerdict bytes starts work ≡ planVerdict bytes starts work
   unfolding planHalvesChecks planChecks
   stopped-early e =
       stays (order ++ halves ++ places) space (stays (order ++ halves) places (stays order halves e))
       ∙ sym (stays (order ++ places) space (stays order places e))
 
-  stopped-by-thirteen : {n p : ℕ} → judge order ≡ fine → judge halves ≡ refused n p → halvesVerdict bytes starts work ≡ refused n p
+  stopped-by-thirteen : {r : Refusal} → judge order ≡ fine → judge halves ≡ refused r → halvesVerdict bytes starts work ≡ refused r
   unfolding planHalvesChecks
   stopped-by-thirteen e f =
       stays (order ++ halves ++ places) space (stays (order ++ halves) places (told-next order halves e ∙ f))
 
   -- So the verdict is planning's, or the order is accepted and check 13 refuses it.
   either-verdict : (halvesVerdict bytes starts work ≡ planVerdict bytes starts work)
-      ⊎ ((judge order ≡ fine) × ((p : ℕ) × (judge halves ≡ refused 13 p)))
+      ⊎ ((judge order ≡ fine) × ((p : ℕ) × (judge halves ≡ refused (atPlace 13 p))))
   either-verdict = go (judge order) refl (judge halves) refl
     where
       go : (v : Verdict) → judge order ≡ v → (w : Verdict) → judge halves ≡ w
           → (halvesVerdict bytes starts work ≡ planVerdict bytes starts work)
-          ⊎ ((judge order ≡ fine) × ((p : ℕ) × (judge halves ≡ refused 13 p)))
-      go (refused n p) e w f = inl (stopped-early e)
+          ⊎ ((judge order ≡ fine) × ((p : ℕ) × (judge halves ≡ refused (atPlace 13 p))))
+      go (refused r) e w f = inl (stopped-early e)
       go fine e fine f = inl (verdict-as-plan bytes starts work e f)
-      go fine e (refused n p) f = inr (e, (p, only-thirteen (numbersOf bytes) f))
+      go fine e (refused r) f = inr (e, (r .place, only-thirteen (numbersOf bytes) f))
 
   -- It is 13 exactly then.
-  verdict-thirteen : {p : ℕ} → halvesVerdict bytes starts work ≡ refused 13 p
-      ↔ ((judge order ≡ fine) × (judge halves ≡ refused 13 p))
+  verdict-thirteen : {p : ℕ} → halvesVerdict bytes starts work ≡ refused (atPlace 13 p)
+      ↔ ((judge order ≡ fine) × (judge halves ≡ refused (atPlace 13 p)))
   verdict-thirteen {p} = (λ e. there e either-verdict, λ h. stopped-by-thirteen (h .0) (h .1))
     where
-      there : halvesVerdict bytes starts work ≡ refused 13 p
+      there : halvesVerdict bytes starts work ≡ refused (atPlace 13 p)
           → (halvesVerdict bytes starts work ≡ planVerdict bytes starts work)
-          ⊎ ((judge order ≡ fine) × ((q : ℕ) × (judge halves ≡ refused 13 q)))
-          → (judge order ≡ fine) × (judge halves ≡ refused 13 p)
+          ⊎ ((judge order ≡ fine) × ((q : ℕ) × (judge halves ≡ refused (atPlace 13 q))))
+          → (judge order ≡ fine) × (judge halves ≡ refused (atPlace 13 p))
       there e (inl same) = absurd (omega (arith, plan-ten bytes starts work (sym same ∙ e)))
       there e (inr h) = (h .0, h .1 .1 ∙ sym (stopped-by-thirteen (h .0) (h .1 .1)) ∙ e)
 
-  -- Every refusal by the checks has its place.
-  halves-placed : Placed (numbersOf bytes) (planHalvesChecks bytes starts work)
+  -- Every refusal by the checks names what it should.
+  halves-named : Named (numbersOf bytes) (planHalvesChecks bytes starts work)
   unfolding planHalvesChecks
-  halves-placed =
+  halves-named =
       let zs = numbersOf bytes in
-      placed-rooms zs (order ++ halves) (countOf bytes) (length starts) area (length work)
-      (placed-behind zs order halves (placed-order bytes) (λ n p. judge-tells (PlaceIs zs) halves (halves-tell zs)))
+      named-rooms zs (order ++ halves) (countOf bytes) (length starts) area (length work)
+      (holds-behind (RefusalIs zs) order halves (named-order bytes) (λ r. judge-tells (RefusalIs zs) halves (halves-tell zs)))
+
+  -- 6 is given with 1 to 5 passed and a job out of range.
+  halves-checks-six : SixIs (numbersOf bytes) (headerChecks bytes) (planHalvesChecks bytes starts work)
+  unfolding planHalvesChecks halvesChecks
+  halves-checks-six =
+      let zs = numbersOf bytes in
+      six-rooms zs (headerChecks bytes) (order ++ halves) (countOf bytes) (length starts) area (length work)
+      (six-behind zs (headerChecks bytes) order halves tt (six-order bytes))
 
 -- ---- every outcome that the contract allows
 
 module _ (bytes : List ℕ) (starts work : List ℤ) {r : HalvesPlanned} {starts′ work′ : List ℤ}
     (call : HalvesCall bytes starts work r starts′ work′) where
-  -- Its refusal is 13 exactly when its verdict is.
-  answer-thirteen : (p : ℕ) → ((halvesNumbers r .plan .refusal ≡ 13) × (halvesNumbers r .plan .place ≡ p))
-      ↔ (halvesVerdict bytes starts work ≡ refused 13 p)
-  answer-thirteen p =
-      (λ h. there (halvesVerdict bytes starts work) (planAnswer (orderOf bytes)) (sym (numbers .0) ∙ h .0) (sym (numbers .1) ∙ h .1), back)
-    where
-      said : Verdict → Option Answer → HalvesPlanned
-      said v a = withSeconds (lostSeconds (orderOf bytes)) (plannedBy v a)
+  -- The refusal of the answer is what planning tells by the verdict.
+  refusal-told : halvesNumbers r .plan .refusal ≡ told bytes starts work (halvesVerdict bytes starts work)
+  refusal-told =
+      ap (λ (h : HalvesPlanned). halvesNumbers h .plan .refusal) (call .answer)
+      ∙ ap (λ (n : PlanNumbers). n .refusal)
+      (seconds-beside (lostSeconds (orderOf bytes)) (plannedBy (halvesVerdict bytes starts work) (planAnswer (orderOf bytes))))
 
-      numbers : (halvesNumbers r .plan .refusal ≡ halvesNumbers (halvesOf bytes starts work) .plan .refusal)
-          × (halvesNumbers r .plan .place ≡ halvesNumbers (halvesOf bytes starts work) .plan .place)
-      numbers = (
-        ap (λ (h : HalvesPlanned). halvesNumbers h .plan .refusal) (call .answer),
-        ap (λ (h : HalvesPlanned). halvesNumbers h .plan .place) (call .answer),
-      )
+  -- It names what it should,
+  pub halves-refusal : RefusalIs (numbersOf bytes) (halvesNumbers r .plan .refusal)
+  halves-refusal =
+      rw refusal-told
+      (answer-refusal (numbersOf bytes) (told bytes starts work) (λ s. refl) (passed-told bytes starts work .0)
+      (halvesVerdict bytes starts work) (halves-named bytes starts work))
 
-      there : (v : Verdict) (a : Option Answer) → halvesNumbers (said v a) .plan .refusal ≡ 13
-          → halvesNumbers (said v a) .plan .place ≡ p → v ≡ refused 13 p
-      there fine none e f = absurd (omega arith)
-      there fine (some a) e f = absurd (omega arith)
-      there (refused n q) a e f = λ i. refused (e i) (f i)
+  -- and is one that planning never tells past its checks exactly when the verdict is.
+  answer-is : (s : Refusal) → s .number ≢ 11 → s .number ≢ 0
+      → halvesNumbers r .plan .refusal ≡ s ↔ (halvesVerdict bytes starts work ≡ refused s)
+  answer-is s eleven zero =
+      rw refusal-told
+      (answer-says (numbersOf bytes) (told bytes starts work) (λ t. refl) (passed-told bytes starts work .0) s
+      (passed-told bytes starts work .1 (s .number) eleven zero) (halvesVerdict bytes starts work))
 
-      back : halvesVerdict bytes starts work ≡ refused 13 p
-          → (halvesNumbers r .plan .refusal ≡ 13) × (halvesNumbers r .plan .place ≡ p)
-      back e = let says = refused-says bytes starts work e in
-          (numbers .0 ∙ ap (λ (h : HalvesNumbers). h .plan .refusal) says, numbers .1 ∙ ap (λ (h : HalvesNumbers). h .plan .place) says)
+  answer-thirteen : (p : ℕ) → halvesNumbers r .plan .refusal ≡ atPlace 13 p ↔ (halvesVerdict bytes starts work ≡ refused (atPlace 13 p))
+  answer-thirteen p = answer-is (atPlace 13 p) (λ e. omega arith) (λ e. omega arith)
+
+  -- 6 with a place and a field exactly when 1 to 5 are passed, the first job out of range is there, and that is its first field
+  -- that is.
+  pub halves-six : (p f : ℕ) → halvesNumbers r .plan .refusal ≡ inField 6 p f
+      ↔ ((judge (headerChecks bytes) ≡ fine) × BadField (numbersOf bytes) p f)
+  halves-six p f =
+      Iff·trans (answer-is (inField 6 p f) (λ e. omega arith) (λ e. omega arith)) (halves-checks-six bytes starts work p f)
 
   -- 13 with a place exactly when the order is accepted by 1 to 9 and that place is the first that offends, whatever the buffers.
-  pub thirteen : (p : ℕ) → ((halvesNumbers r .plan .refusal ≡ 13) × (halvesNumbers r .plan .place ≡ p)) ↔ FirstOffends bytes p
+  pub thirteen : (p : ℕ) → halvesNumbers r .plan .refusal ≡ atPlace 13 p ↔ FirstOffends bytes p
   thirteen p = (there, back)
     where
-      there : (halvesNumbers r .plan .refusal ≡ 13) × (halvesNumbers r .plan .place ≡ p) → FirstOffends bytes p
+      there : halvesNumbers r .plan .refusal ≡ atPlace 13 p → FirstOffends bytes p
       there h =
           let v = verdict-thirteen bytes starts work .0 (answer-thirteen p .0 h) in
           let c = check-thirteen bytes p .0 (v .1) in
           record { order = v .0; offends = c .0; before = c .1 }
 
-      back : FirstOffends bytes p → (halvesNumbers r .plan .refusal ≡ 13) × (halvesNumbers r .plan .place ≡ p)
+      back : FirstOffends bytes p → halvesNumbers r .plan .refusal ≡ atPlace 13 p
       back h =
           answer-thirteen p .1
           (verdict-thirteen bytes starts work .1 (h .order, check-thirteen bytes p .1 (h .offends, h .before)))
 
+  -- It always has a place.
+  thirteen-at : halvesNumbers r .plan .refusal .number ≡ 13
+      → halvesNumbers r .plan .refusal ≡ atPlace 13 (halvesNumbers r .plan .refusal .place)
+  thirteen-at = has-place halves-refusal
+    where
+      has-place : {s : Refusal} → RefusalIs (numbersOf bytes) s → s .number ≡ 13 → s ≡ atPlace 13 (s .place)
+      has-place (bad b) e = absurd (omega arith)
+      has-place (repeated i l) e = absurd (omega arith)
+      has-place (offending i l) e = refl
+      has-place (nowhere h) e = absurd (true≢false (rw e at h))
+
   -- So it is never given for an order of halves,
-  pub halves-never-thirteen : OfHalves (jobs bytes) → halvesNumbers r .plan .refusal ≢ 13
+  pub halves-never-thirteen : OfHalves (jobs bytes) → halvesNumbers r .plan .refusal .number ≢ 13
   halves-never-thirteen h e =
-      let o = thirteen (halvesNumbers r .plan .place) .0 (e, refl) .offends in
+      let o = thirteen (halvesNumbers r .plan .refusal .place) .0 (thirteen-at e) .offends in
       true≢false (sym (offends-is _ _ .1 o) ∙ of-halves (jobs bytes) .0 h _)
 
   -- and always for any other order that passes 1 to 9.
-  pub others-thirteen : judge (orderChecks bytes) ≡ fine → ¬ OfHalves (jobs bytes) → halvesNumbers r .plan .refusal ≡ 13
+  pub others-thirteen : judge (orderChecks bytes) ≡ fine → ¬ OfHalves (jobs bytes) → halvesNumbers r .plan .refusal .number ≡ 13
   unfolding orderOf
   others-thirteen accepted other = go (judge (halvesChecks (numbersOf bytes))) refl
     where
-      go : (v : Verdict) → judge (halvesChecks (numbersOf bytes)) ≡ v → halvesNumbers r .plan .refusal ≡ 13
+      go : (v : Verdict) → judge (halvesChecks (numbersOf bytes)) ≡ v → halvesNumbers r .plan .refusal .number ≡ 13
       go fine e = absurd (other (halves-fine (numbersOf bytes) .0 e))
-      go (refused n p) e =
-          answer-thirteen p .1 (verdict-thirteen bytes starts work .1 (accepted, only-thirteen (numbersOf bytes) e)) .0
+      go (refused s) e =
+          ap (λ (t : Refusal). t .number)
+          (answer-thirteen (s .place) .1 (verdict-thirteen bytes starts work .1 (accepted, only-thirteen (numbersOf bytes) e)))
 
   -- In short: 13 exactly when the order is accepted by 1 to 9 and some place offends.
-  pub thirteen-if-some : halvesNumbers r .plan .refusal ≡ 13
+  pub thirteen-if-some : halvesNumbers r .plan .refusal .number ≡ 13
       ↔ ((judge (orderChecks bytes) ≡ fine) × ((k : ℕ) × Offends (jobs bytes) k))
   thirteen-if-some = (
-    λ e. let f = thirteen (halvesNumbers r .plan .place) .0 (e, refl) in (f .order, (halvesNumbers r .plan .place, f .offends)),
+    λ e. let p = halvesNumbers r .plan .refusal .place in
+        let f = thirteen p .0 (thirteen-at e) in (f .order, (p, f .offends)),
     λ h. others-thirteen (h .0)
         (λ all. true≢false (sym (offends-is (jobs bytes) (h .1 .0) .1 (h .1 .1)) ∙ of-halves (jobs bytes) .0 all (h .1 .0))),
   )
 
   -- Where 13 is not given, the answer's numbers and both buffers are planning's own.
   module _ {q : Planned} {starts″ work″ : List ℤ} (plan-call : PlanCall bytes starts work q starts″ work″) where
-    verdict-same : halvesNumbers r .plan .refusal ≢ 13 → halvesVerdict bytes starts work ≡ planVerdict bytes starts work
+    verdict-same : halvesNumbers r .plan .refusal .number ≢ 13 → halvesVerdict bytes starts work ≡ planVerdict bytes starts work
     verdict-same not-thirteen =
         ⊎-elim (λ same. same)
-        (λ h. absurd (not-thirteen (answer-thirteen (h .1 .0) .1 (verdict-thirteen bytes starts work .1 (h .0, h .1 .1)) .0)))
+        (λ h. absurd (not-thirteen (ap (λ (t : Refusal). t .number)
+        (answer-thirteen (h .1 .0) .1 (verdict-thirteen bytes starts work .1 (h .0, h .1 .1))))))
         (either-verdict bytes starts work)
 
-    pub as-plan : halvesNumbers r .plan .refusal ≢ 13
+    pub as-plan : halvesNumbers r .plan .refusal .number ≢ 13
         → (halvesNumbers r .plan ≡ planNumbers q) × (starts′ ≡ starts″) × (work′ ≡ work″)
     as-plan not-thirteen =
         let v = verdict-same not-thirteen in
@@ -285,7 +314,7 @@ module _ (bytes : List ℕ) (starts work : List ℤ) {r : HalvesPlanned} {starts
   -- ---- refusal 11
 
   -- Exactly when the order is of halves and planning finds no feasible choice.
-  pub halves-eleven : halvesNumbers r .plan .refusal ≡ 11 ↔ (OfHalves (jobs bytes) × NoneFeasible bytes starts work)
+  pub halves-eleven : halvesNumbers r .plan .refusal .number ≡ 11 ↔ (OfHalves (jobs bytes) × NoneFeasible bytes starts work)
   unfolding orderOf
   halves-eleven = (there, back)
     where
@@ -293,25 +322,25 @@ module _ (bytes : List ℕ) (starts work : List ℤ) {r : HalvesPlanned} {starts
           (planWorkAfter bytes starts work)
       plan-call = record { answer = refl; written = refl; area = refl }
 
-      of : judge (orderChecks bytes) ≡ fine → halvesNumbers r .plan .refusal ≡ 11 → OfHalves (jobs bytes)
+      of : judge (orderChecks bytes) ≡ fine → halvesNumbers r .plan .refusal .number ≡ 11 → OfHalves (jobs bytes)
       of order e = go (judge (halvesChecks (numbersOf bytes))) refl
         where
           go : (v : Verdict) → judge (halvesChecks (numbersOf bytes)) ≡ v → OfHalves (jobs bytes)
           go fine f = halves-fine (numbersOf bytes) .0 f
-          go (refused n p) f =
+          go (refused s) f =
               let no : ¬ OfHalves (jobs bytes) = λ h. refused-fine (sym f ∙ halves-fine (numbersOf bytes) .1 h) in
               absurd (omega (arith, e, others-thirteen order no))
 
-      there : halvesNumbers r .plan .refusal ≡ 11 → OfHalves (jobs bytes) × NoneFeasible bytes starts work
+      there : halvesNumbers r .plan .refusal .number ≡ 11 → OfHalves (jobs bytes) × NoneFeasible bytes starts work
       there e =
           let same = as-plan plan-call (λ f. omega (arith, e, f)) in
-          let none = plan-eleven bytes starts work plan-call .0 (sym (ap (λ (n : PlanNumbers). n .refusal) (same .0)) ∙ e) in
+          let none = plan-eleven bytes starts work plan-call .0 (sym (ap (λ (n : PlanNumbers). n .refusal .number) (same .0)) ∙ e) in
           (of (none .order) e, none)
 
-      back : OfHalves (jobs bytes) × NoneFeasible bytes starts work → halvesNumbers r .plan .refusal ≡ 11
+      back : OfHalves (jobs bytes) × NoneFeasible bytes starts work → halvesNumbers r .plan .refusal .number ≡ 11
       back h =
           let same = as-plan plan-call (halves-never-thirteen (h .0)) in
-          ap (λ (n : PlanNumbers). n .refusal) (same .0) ∙ plan-eleven bytes starts work plan-call .1 (h .1)
+          ap (λ (n : PlanNumbers). n .refusal .number) (same .0) ∙ plan-eleven bytes starts work plan-call .1 (h .1)
 
   -- ---- the seconds lost
 
@@ -330,20 +359,6 @@ module _ (bytes : List ℕ) (starts work : List ℤ) {r : HalvesPlanned} {starts
 
       go : (v : Verdict) → halvesVerdict bytes starts work ≡ v → (m : Option Ended) → plan (t0 bytes) (jobs bytes) ≡ m
           → halvesNumbers (said v m) .secondsLost ≡ secondsPerWeight * halvesNumbers (said v m) .plan .lostWeight
-      go (refused n p) d m is = refl
+      go (refused s) d m is = refl
       go fine d none is = refl
       go fine d (some e) is = lost-sixty bytes (passed-halves bytes starts work d) e is
-
-  -- ---- the place
-
-  -- The place of 6, 7 and 13 is the first that they are about, else it is 0.
-  pub halves-place : PlaceIs (numbersOf bytes) (halvesNumbers r .plan .refusal) (halvesNumbers r .plan .place)
-  halves-place =
-      rw (call .answer) (go (halvesVerdict bytes starts work) refl (planAnswer (orderOf bytes)))
-    where
-      go : (v : Verdict) → halvesVerdict bytes starts work ≡ v → (a : Option Answer)
-          → let n = halvesNumbers (withSeconds (lostSeconds (orderOf bytes)) (plannedBy v a)) .plan in
-          PlaceIs (numbersOf bytes) (n .refusal) (n .place)
-      go fine d none = nowhere {n = 11} refl
-      go fine d (some a) = nowhere {n = 0} refl
-      go (refused n p) d a = halves-placed bytes starts work n p d

@@ -6,7 +6,7 @@ use lib.IntN.{ℤ, pos}
 use Rattle.seconds.specs.Twos.{bitsTo, toBits}
 use Rattle.packed.specs.Layout.{decode, encode, numberOf, bytesOf}
 use Rattle.packed.specs.Places.{part, flat, each, first}
-use Rattle.packed.specs.Judge.{refused}
+use Rattle.packed.specs.Judge.{atPlace, plainly, refused}
 use Rattle.packed.specs.Packed.{headerWord, headerOf, countOf, t0Of, spareOf, recordAt, jobWord, jobFields, numbersOf}
 use Rattle.packed.specs.Packed.{jobCount, fieldsAt, packedHeader, packedJob, packOrder, jobOf, jobsOf}
 use Rattle.packed.specs.Refusals.{fieldsWithin, firstBad, numberAt, firstRepeat, firstOffending, headerChecks, jobChecks}
@@ -24,13 +24,13 @@ tooHeavy =
     ++ alone 46 1 60
 
 -- With no room at all: 9, and 13 for one of them.
-pub nine-before-thirteen : halvesVerdict (packOrder (pos 0) tooHeavy) [] [] ≡ refused 9 0
+pub nine-before-thirteen : halvesVerdict (packOrder (pos 0) tooHeavy) [] [] ≡ refused (plainly 9)
 unfolding bitsTo toBits decode encode numberOf bytesOf part flat each first headerWord headerOf countOf t0Of spareOf
     recordAt jobWord jobFields numbersOf jobCount fieldsAt packedHeader packedJob packOrder jobOf jobsOf fieldsWithin
     firstBad numberAt firstRepeat firstOffending headerChecks jobChecks weightChecks halvesChecks planHalvesChecks
 nine-before-thirteen = refl
 
-pub thirteen-before-ten : halvesVerdict (packOrder (pos 0) (alone 36 1 60)) [] [] ≡ refused 13 0
+pub thirteen-before-ten : halvesVerdict (packOrder (pos 0) (alone 36 1 60)) [] [] ≡ refused (atPlace 13 0)
 unfolding bitsTo toBits decode encode numberOf bytesOf part flat each first headerWord headerOf countOf t0Of spareOf
     recordAt jobWord jobFields numbersOf jobCount fieldsAt packedHeader packedJob packOrder jobOf jobsOf fieldsWithin
     firstBad numberAt firstRepeat firstOffending headerChecks jobChecks weightChecks halvesChecks planHalvesChecks

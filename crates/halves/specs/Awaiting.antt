@@ -42,10 +42,10 @@ pub record CanSearch (bytes : List ℕ) (n : ℕ) (awaited : List ℕ) : Type 0 
 
 -- The weights that a plan keeps and loses are together at most the most weight of an order.
 abbrev pub Light : Planned → Type 0
-Light (planned.Refused n p) = Unit {0}
+Light (planned.Refused r) = Unit {0}
 Light (planned.Made f) = f .«kept_weight» + f .«lost_weight» ≤ mostWeight
 
 -- So many seconds for each weight lost.
 abbrev pub secondsAdded : Planned → HalvesPlanned
-secondsAdded (planned.Refused n p) = Refused n p
+secondsAdded (planned.Refused r) = Refused r
 secondsAdded (planned.Made f) = Made f (secondsPerWeight * f .«lost_weight»)

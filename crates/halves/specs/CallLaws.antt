@@ -16,7 +16,8 @@ use Rattle.order.specs.HalvesLaws.{seconds-lost}
 use Rattle.profile.specs.Profile.{startPoint}
 use Rattle.plan.specs.Plan.{Ended, plan, answerOf, planAnswer}
 use Rattle.plan.specs.PlanIs.{plan-is}
-use Rattle.packed.specs.Judge.{Check, Verdict as Judged, fine, refused, judge, orElse}
+use Rattle.packed.specs.declared.Refusal.{Refusal}
+use Rattle.packed.specs.Judge.{atPlace, Check, Verdict as Judged, fine, refused, judge, orElse}
 use Rattle.packed.specs.JudgeLaws.{judge-append, stages-fine}
 use Rattle.packed.specs.Packed.{countOf, t0Of, numbersOf, jobCount, orderOf, jobsIn}
 use Rattle.packed.specs.Refusals.{firstOffending, orderChecks, halvesChecks, roomChecks}
@@ -40,7 +41,7 @@ use Rattle.halves.specs.declared.HalvesPlanned.the-variants.{Refused, Ma
 
 -- By the place that was found.
 pub offending-told : (zs : List ℤ) (place n : ℕ) → place ≡ firstOffending zs → n ≡ jobCount zs → place < n
-    → Stopped 13 place ≡ verdictOf (judge (halvesChecks zs))
+    → Stopped (atPlace 13 place) ≡ verdictOf (judge (halvesChecks zs))
 unfolding halvesChecks
 offending-told zs place n e c h = rw (← e, ← c, lt-ltb place n h)
 
@@ -70,16 +71,16 @@ module _ (bytes : List ℕ) (starts work : List ℤ) where
   judged = orderChecks bytes ++ halvesChecks (numbersOf bytes)
 
   -- A refusal changes no buffer.
-  halves-refused : {n p : ℕ} → halvesVerdict bytes starts work ≡ refused n p → HalvesCall bytes starts work (Refused n p) starts work
+  halves-refused : {r : Refusal} → halvesVerdict bytes starts work ≡ refused r → HalvesCall bytes starts work (Refused r) starts work
   halves-refused e = record { answer = rw e; written = rw e; area = rw e }
 
   -- By the checks of the order and by 13.
-  pub halves-stopped : (n p : ℕ) → verdictOf (judge judged) ≡ Stopped n p → HalvesCall bytes starts work (Refused n p) starts work
+  pub halves-stopped : (r : Refusal) → verdictOf (judge judged) ≡ Stopped r → HalvesCall bytes starts work (Refused r) starts work
   unfolding planHalvesChecks
-  halves-stopped n p e =
+  halves-stopped r e =
       halves-refused
       (stays (judged ++ roomChecks (countOf bytes) (length starts)) (roomChecks area (length work))
-      (stays judged (roomChecks (countOf bytes) (length starts)) (refusal-told _ n p e)))
+      (stays judged (roomChecks (countOf bytes) (length starts)) (refusal-told _ r e)))
 
   -- The rooms are judged alike behind whatever is passed.
   rooms-judged : (cs : List Check) → judge cs ≡ fine
@@ -105,7 +106,7 @@ module _ (bytes : List ℕ) (starts work : List ℤ) where
       plan-light = go r refl
         where
           go : (p : Planned) → r ≡ p → Light p
-          go (planned.Refused n p) e = tt
+          go (planned.Refused s) e = tt
           go (planned.Made f) e =
               omega (arith, plan-fits bytes starts work call f e .weights, order-fine bytes .0 order .light)
 
@@ -131,7 +132,7 @@ module _ (bytes : List ℕ) (starts work : List ℤ) where
           added : (v : Judged) (m : Option Ended) → plan t js ≡ m
               → secondsAdded (plannedBy v (Option·map (answerOf t js) m))
               ≡ withSeconds (lostIn o m) (plannedBy v (Option·map (answerOf t js) m))
-          added (refused n p) m e = refl
+          added (refused s) m e = refl
           added fine none e = refl
           added fine (some e) is =
               ap (λ (s : ℕ). Made (figuresOf (answerOf t js e)) s) (sym (lost-sixty bytes halves e is))

@@ -40,7 +40,7 @@ lostSeconds o = lostIn o (plan (o .t0) (o .jobs))
 
 -- An answer of planning, and the seconds lost where it is a plan.
 abbrev pub withSeconds : ℕ → Planned → HalvesPlanned
-withSeconds s (planned.Refused n p) = Refused n p
+withSeconds s (planned.Refused r) = Refused r
 withSeconds s (planned.Made f) = Made f s
 
 -- The answer, and both buffers at exit, of any bytes, starts and work area: planning's, by these checks.
@@ -60,7 +60,7 @@ pub record HalvesCall (bytes : List ℕ) (starts work : List ℤ) (r : HalvesPla
   pub written : starts′ ≡ halvesStartsAfter bytes starts work
   pub area : work′ ≡ halvesWorkAfter bytes starts work
 
--- ---- the numbers for each case (R35); all but the refusal and its place are 0 in a refused answer (R26)
+-- ---- the numbers for each case (R35); all but those of the refusal are 0 in a refused answer (R26)
 
 -- Planning's, and the seconds lost.
 pub record HalvesNumbers : Type 0 where
@@ -68,5 +68,5 @@ pub record HalvesNumbers : Type 0 where
   pub secondsLost : ℕ
 
 abbrev pub halvesNumbers : HalvesPlanned → HalvesNumbers
-halvesNumbers (Refused n p) = record { plan = planNumbers (planned.Refused n p); secondsLost = 0 }
+halvesNumbers (Refused r) = record { plan = planNumbers (planned.Refused r); secondsLost = 0 }
 halvesNumbers (Made f s) = record { plan = planNumbers (planned.Made f); secondsLost = s }

@@ -5,6 +5,8 @@ use fields::header_at;
 use fields::job_at;
 use judge::Verdict;
 use judge::judge_order;
+use packed::Refusal;
+use packed::at_place;
 use planner::Figures;
 use planner::Planned;
 use planner::plan_order;
@@ -18,9 +20,9 @@ ghost use Rattle.judge.specs.Verdicts.{verdictOf};
 ghost use Rattle.halves.specs.Awaiting.{CanTake, offendsBy, awaitedAfter, CanSearch, Light, secondsAdded};
 ghost use Rattle.halves.specs.Calls.{HalvesCall};
 
-// What planning halves answers: a refusal with its number and place, or a plan and the optional seconds lost.
+// What planning halves answers: a refusal, or a plan and the optional seconds lost.
 pub enum HalvesPlanned {
-    Refused(u32, usize),
+    Refused(Refusal),
     Made(Figures, u32),
 }
 
@@ -84,7 +86,7 @@ fn judge_halves(bytes: &[u8]) -> Verdict
     let mut awaited = [0u8; NUMBERS];
     let place = first_offending(bytes, n, &mut awaited);
     if place < n {
-        return Verdict::Refused(13, place);
+        return Verdict::Refused(at_place(13, place));
     }
     Verdict::Fine
 }
@@ -95,7 +97,7 @@ fn judge_order_of_halves(bytes: &[u8]) -> Verdict
         r ≡ verdictOf (judge (orderChecks (now (bytes .entry)) ++ halvesChecks (numbersOf (now (bytes .entry))))) ⌝ }
 {
     match judge_order(bytes, 0) {
-        Verdict::Refused(number, place) => Verdict::Refused(number, place),
+        Verdict::Refused(refusal) => Verdict::Refused(refusal),
         Verdict::Fine => judge_halves(bytes),
     }
 }
@@ -107,7 +109,7 @@ fn add_seconds(planned: Planned) -> HalvesPlanned
     ensures { λ r. ⌜ r ≡ secondsAdded planned ⌝ }
 {
     match planned {
-        Planned::Refused(number, place) => HalvesPlanned::Refused(number, place),
+        Planned::Refused(refusal) => HalvesPlanned::Refused(refusal),
         Planned::Made(figures) => {
             let seconds = PER_WEIGHT * figures.lost_weight;
             HalvesPlanned::Made(figures, seconds)
@@ -122,7 +124,7 @@ pub fn plan_halves(bytes: &[u8], starts: &mut [i32], work: &mut [i32]) -> Halves
         HalvesCall (now (bytes .entry)) (now (starts .entry)) (now (work .entry)) r (now (starts .exit)) (now (work .exit)) ⌝ }
 {
     match judge_order_of_halves(bytes) {
-        Verdict::Refused(number, place) => HalvesPlanned::Refused(number, place),
+        Verdict::Refused(refusal) => HalvesPlanned::Refused(refusal),
         Verdict::Fine => add_seconds(plan_order(bytes, starts, work)),
     }
 }

@@ -1,5 +1,5 @@
 -- What the definitions say at the named inputs, by computation, as far as it depends on the bytes: the orders that they
--- mean, and that all checks are passed.
+-- mean, and that all checks are passed, or which is not.
 use Prim.Native.Nat.{ℕ, suc}
 use mathlib.Core.Path.{_≡_, refl, _∙_}
 use mathlib.Core.Bool.{true, false}
@@ -9,12 +9,12 @@ use lib.ListN.{length, getD, length-replicate}
 use Rattle.seconds.specs.Limits.{rest}
 use Rattle.seconds.specs.Twos.{bitsTo, toBits}
 use Rattle.order.specs.Job.{Order, oneRate}
-use Rattle.packed.specs.Judge.{fine}
+use Rattle.packed.specs.Judge.{inField, fine, refused}
 use Rattle.packed.specs.Layout.{decode, encode, numberOf, bytesOf}
 use Rattle.packed.specs.Places.{part, flat, each, first}
 use Rattle.packed.specs.Packed.{headerWord, headerOf, countOf, t0Of, spareOf, recordAt, jobWord, jobFields, numbersOf}
 use Rattle.packed.specs.Packed.{jobCount, fieldsAt, packedHeader, packedJob, packOrder, jobOf, jobsOf, orderOf}
-use Rattle.packed.specs.Refusals.{fieldsWithin, firstBad, numberAt, firstRepeat, firstOffending, headerChecks, jobChecks, weightChecks}
+use Rattle.packed.specs.Refusals.{fieldsWithin, badField, firstBad, numberAt, firstRepeat, firstOffending, headerChecks, jobChecks, weightChecks}
 use Rattle.packed.specs.Refusals.{halvesChecks}
 use Rattle.profiles.specs.Numbers.{mostNumbers}
 use Rattle.cells.specs.Work.{area, cleared, clearedTo}
@@ -28,7 +28,7 @@ use Rattle.report.specs.Report.{textRoom, printed}
 use Rattle.report.specs.AsPrinted.{morningBytes, morningText, morning-printed}
 use Rattle.worked.specs.Examples.{morning}
 use Rattle.worked.specs.Halves.{twoChecks}
-use Rattle.hollow.specs.Named.{ones, front, room, rows, oneJobBytes, start, page}
+use Rattle.hollow.specs.Named.{ones, front, room, rows, refusedBytes, oneJobBytes, start, page}
 
 -- P4 as an order.
 abbrev pub oneJob : Order
@@ -50,6 +50,7 @@ checked =
 -- With room for a profile and for the rows,
 pub record Accepted (out work : List ℤ) : Type 0 where
   pub plan-morning : planVerdict morningBytes (ones 5) work ≡ fine
+  pub plan-refused : planVerdict refusedBytes (ones 5) work ≡ refused (inField 6 2 5)
   pub plan-one-job : planVerdict oneJobBytes (ones 1) work ≡ fine
   pub halves-checked : halvesVerdict twoChecks (ones 4) work ≡ fine
   pub halves-one-job : halvesVerdict oneJobBytes (ones 1) work ≡ fine
@@ -64,11 +65,12 @@ pub record Accepted (out work : List ℤ) : Type 0 where
 with-room : (out work : List ℤ) → length out ≡ mostNumbers → length work ≡ area → Accepted out work
 unfolding rest bitsTo toBits decode encode numberOf bytesOf part flat each first headerWord headerOf countOf t0Of spareOf
     recordAt jobWord jobFields numbersOf jobCount fieldsAt packedHeader packedJob packOrder jobOf jobsOf orderOf fieldsWithin
-    firstBad numberAt firstRepeat firstOffending headerChecks jobChecks weightChecks halvesChecks planChecks planHalvesChecks
+    badField firstBad numberAt firstRepeat firstOffending headerChecks jobChecks weightChecks halvesChecks planChecks planHalvesChecks
     extendJudged extendChecks choosingChecks ones
 with-room out work d e =
     record {
       plan-morning = rw e;
+      plan-refused = refl;
       plan-one-job = rw e;
       halves-checked = rw e;
       halves-one-job = rw e;

@@ -54,15 +54,15 @@ use Rattle.hollow.specs.Contract.{Contract, answering, writing, over}
 -- ---- which answers are refusals
 
 abbrev planRefused : Planned → Bool
-planRefused (planned.Refused n p) = true
+planRefused (planned.Refused r) = true
 planRefused (planned.Made f) = false
 
 abbrev halvesRefused : HalvesPlanned → Bool
-halvesRefused (halved.Refused n p) = true
+halvesRefused (halved.Refused r) = true
 halvesRefused (halved.Made f s) = false
 
 abbrev extendRefused : Extended → Bool
-extendRefused (extended.Refused n p) = true
+extendRefused (extended.Refused r) = true
 extendRefused (extended.Points n) = false
 
 abbrev joinRefused : Joined → Bool
@@ -76,11 +76,11 @@ lookupRefused (finding.Found w) = false
 lookupRefused finding.NotFound = false
 
 abbrev unpackRefused : Unpacked → Bool
-unpackRefused (unpacked.Refused n p) = true
+unpackRefused (unpacked.Refused r) = true
 unpackRefused (unpacked.Jobs n t0) = false
 
 abbrev packRefused : Packed → Bool
-packRefused (packed.Refused n p) = true
+packRefused (packed.Refused r) = true
 packRefused (packed.Bytes n) = false
 
 abbrev openRefused : Opened → Bool
@@ -88,7 +88,7 @@ openRefused (opened.Refused n) = true
 openRefused (opened.Accepted count) = false
 
 abbrev stepRefused : Read → Bool
-stepRefused (read.Refused n p) = true
+stepRefused (read.Refused r) = true
 stepRefused (read.Job job) = false
 stepRefused read.End = false
 
@@ -97,7 +97,7 @@ heatRefused heating.TooCold = true
 heatRefused (heating.Seconds l) = false
 
 abbrev questionRefused : Chosen → Bool
-questionRefused (chosen.Refused n) = true
+questionRefused (chosen.Refused r) = true
 questionRefused chosen.First = false
 questionRefused chosen.Second = false
 

@@ -1,6 +1,6 @@
 -- The hollow versions of planning, planning halves and extending that are tried beside those that every call has: an extension that
--- handles the first job and passes the rest by, a profile that comes back unextended, an invented point total, and invented
--- seconds lost.
+-- handles the first job and passes the rest by, a profile that comes back unextended, an invented point total, an invented field,
+-- and invented seconds lost.
 -- Definitions only.
 use Prim.Native.Nat.{ℕ}
 use mathlib.Core.Path.{_≡_}
@@ -9,6 +9,7 @@ use lib.IntN.{ℤ}
 use lib.ListN.{take}
 use Rattle.order.specs.Job.{Job, Point}
 use Rattle.profile.specs.Profile.{extend, betterOf}
+use Rattle.packed.specs.Judge.{inField}
 use Rattle.packed.specs.Packed.{orderOf}
 use Rattle.planner.specs.Calls.{plannedOf, startsAfter, planWorkAfter}
 use Rattle.extending.specs.Calls.{profileGiven, extendVerdict, extendedBy, outBy, extendWorkAfter}
@@ -56,7 +57,7 @@ extendingBy ext x =
 
 -- A plan's answer with another point total.
 abbrev pub withPoints : ℕ → Planned → Planned
-withPoints n (Refused m p) = Refused m p
+withPoints n (Refused r) = Refused r
 withPoints n (Made f) =
     Made
     (record {
@@ -75,11 +76,25 @@ planningWith total x = (
   (startsAfter (x .0) (x .1) (x .2), planWorkAfter (x .0) (x .1) (x .2)),
 )
 
+-- ---- fields
+
+-- A plan's answer whose refusal names another field.
+abbrev pub withField : ℕ → Planned → Planned
+withField f (Refused r) = Refused (inField (r .number) (r .place) f)
+withField f (Made g) = Made g
+
+-- Planning as it should be, but for the field.
+abbrev pub planningNaming : (PlanInput → ℕ) → PlanInput → Planned × (List ℤ × List ℤ)
+planningNaming field x = (
+  withField (field x) (plannedOf (x .0) (x .1) (x .2)),
+  (startsAfter (x .0) (x .1) (x .2), planWorkAfter (x .0) (x .1) (x .2)),
+)
+
 -- ---- seconds lost
 
 -- An answer of planning halves with other seconds.
 abbrev pub withLost : ℕ → HalvesPlanned → HalvesPlanned
-withLost s (halved.Refused n p) = halved.Refused n p
+withLost s (halved.Refused r) = halved.Refused r
 withLost s (halved.Made f t) = halved.Made f s
 
 -- Planning halves as it should be, but for the seconds.

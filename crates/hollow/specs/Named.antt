@@ -1,10 +1,10 @@
--- The inputs at which hollow versions are tried: P1, P2, P4 and P9 of the rules and the README's order of halves, with lent buffers that hold a 1 everywhere,
--- so that what is written or cleared shows. Definitions only.
+-- The inputs at which hollow versions are tried: P1, P2, P4 and P9 of the rules, the README's order of halves and its refused one,
+-- with lent buffers that hold a 1 everywhere, so that what is written or cleared shows. Definitions only.
 use Prim.Native.Nat.{ℕ}
 use mathlib.Core.List.{List, [], _∷_}
 use denote.Ref.{RefT}
 use lib.IntN.{ℤ, pos, negsuc}
-use lib.ListN.{getD, replicate}
+use lib.ListN.{getD, set, replicate}
 use Rattle.packed.specs.Packed.{numbersOf}
 use Rattle.profiles.specs.Numbers.{mostNumbers}
 use Rattle.point_records.specs.declared.Point.{Point}
@@ -38,6 +38,10 @@ rows = ones area
 abbrev pub oneJobBytes : List ℕ
 oneJobBytes = 0x04 ∷ 0x00 ∷ 0x00 ∷ 0x00 ∷ 0x02 ∷ 0x00 ∷ 0x00 ∷ 0x00 ∷ 0x00 ∷ 0x28 ∷ 0x00 ∷ 0x0A ∷ []
 
+-- P1 with a length of 10,001 for the job at place 2.
+abbrev pub refusedBytes : List ℕ
+refusedBytes = set (set morningBytes 24 0x9C) 25 0x44
+
 -- The profile (-600, 0), which P1 extends to its own.
 abbrev pub start : List ℤ
 start = negsuc 599 ∷ pos 0 ∷ []
@@ -52,9 +56,12 @@ point t w = record { time = pos t; weight = pos w }
 
 -- ---- what the calls are given
 
--- Planning P1, and P4.
+-- Planning P1, the refused order, and P4.
 abbrev pub planMorning : PlanInput
 planMorning = (morningBytes, ones 5, rows)
+
+abbrev pub planRefused : PlanInput
+planRefused = (refusedBytes, ones 5, rows)
 
 abbrev pub planOneJob : PlanInput
 planOneJob = (oneJobBytes, ones 1, rows)

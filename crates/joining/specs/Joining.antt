@@ -131,7 +131,7 @@ points-accepted P A out work {n} e = go (extendVerdict P A out work) refl e
         let judged = extendJudged P A in
         let places = roomChecks mostNumbers (length out) in
         stages-fine judged places .0 (stages-fine (judged ++ places) (roomChecks area (length work)) .0 f .0) .0
-    go (refused m p) f h = let z : _≡_ {A = ℕ} 0 1 = cc in absurd (omega arith)
+    go (refused r) f h = let z : _≡_ {A = ℕ} 0 1 = cc in absurd (omega arith)
 
 -- So, with room, a call is accepted exactly where the order is accepted after the profile.
 pub accepted-after : {P : List ℤ} {A : List ℕ} (e : Extending P A) → Accepted e ↔ AcceptedAfter P A

@@ -25,7 +25,7 @@ use Rattle.packed.specs.PlacesLaws.{each-end, first-on, first-here, first-end}
 use Rattle.packed.specs.Judge.{fine, judge}
 use Rattle.packed.specs.Packed.{headerOf, countOf, numbersOf, jobCount, fieldsAt, theWeight, jobAt, jobsOf}
 use Rattle.packed.specs.PackedLaws.{numbers-count, fields-of-numbers, whole-count}
-use Rattle.packed.specs.Refusals.{headerChecks, fieldsWithin, badAt, firstBad, numberAt}
+use Rattle.packed.specs.Refusals.{headerChecks, fieldsWithin, badField, badAt, firstBad, numberAt}
 use Rattle.packed.specs.RefusalLaws.{header-fine}
 use Rattle.packed.specs.Steps.{bad-from-0, weights-on}
 use Rattle.fields.specs.Fields.{fieldsOf, headerFields}
@@ -48,7 +48,8 @@ casts w greatest z b l h = rw (kept greatest z b l) (omega (signed, abs-is z))
 
 -- ---- on the way
 
--- No job before the place is out of range; their numbers are gathered, and their weights summed, at most 50 each.
+-- No job before the place is out of range; their numbers are gathered, and their weights summed, at most 50 each. Where the search
+-- has ended, the field is the first of the job there that is out of range.
 pub record Passing (zs : List ℤ) (numbers : List ℕ) (jobs : Gathered) : Type 0 where
   pub counted : jobs .count ≡ jobCount zs
   pub room : jobs .count ≤ 48
@@ -56,13 +57,14 @@ pub record Passing (zs : List ℤ) (numbers : List ℕ) (jobs : Gathered) : Type
   pub few : jobs .end ≤ jobs .count
   pub long : length numbers ≡ 48
   pub search : firstBad zs ≡ first (badAt zs) (jobs .place) (jobs .end)
+  pub named : jobs .end < jobs .count → jobs .field ≡ badField (fieldsAt zs (jobs .end))
   pub gathered : (i : ℕ) → i < jobs .place → numberAt zs i ≡ pos (getD numbers i 0)
   pub light : jobs .weight ≤ 50 * jobs .place
   pub sum : jobs .weight + weightOf (each (jobAt zs) (jobs .place) (jobs .count)) ≡ weightOf (jobsOf zs)
 
 -- From the first place.
 pub passing-starts : (zs : List ℤ) (count : ℕ) (numbers : List ℕ) → count ≡ jobCount zs → count ≤ 48 → length numbers ≡ 48
-    → Passing zs numbers (record { count = count; place = 0; end = count; weight = 0 })
+    → Passing zs numbers (record { count = count; place = 0; end = count; weight = 0; field = 0 })
 unfolding jobsOf
 passing-starts zs count numbers c m l =
     record {
@@ -72,6 +74,7 @@ passing-starts zs count numbers c m l =
       few = omega arith;
       long = l;
       search = bad-from-0 zs ∙ ap (first (badAt zs) 0) (sym c);
+      named = λ h. absurd (omega arith);
       gathered = λ i h. absurd (omega arith);
       light = omega arith;
       sum = rw c (zero-add (weightOf (each (jobAt zs) 0 (jobCount zs))));
@@ -111,7 +114,13 @@ module _ {zs : List ℤ} {numbers : List ℕ} {jobs : Gathered} {j : Job} (t : T
 
   -- Within its limits: on to the next place.
   goes-on : fieldsWithin (fieldsOf j) ≡ true → Passing zs (set numbers (jobs .place) (natAbs (j .number)))
-      (record { count = jobs .count; place = jobs .place + 1; end = jobs .end; weight = jobs .weight + natAbs (j .weight) })
+      (record {
+        count = jobs .count;
+        place = jobs .place + 1;
+        end = jobs .end;
+        weight = jobs .weight + natAbs (j .weight);
+        field = jobs .field;
+      })
   goes-on w =
       let b = t .before in
       let f = job-facts j .0 w in
@@ -125,6 +134,7 @@ module _ {zs : List ℤ} {numbers : List ℕ} {jobs : Gathered} {j : Job} (t : T
         long = length-set numbers (jobs .place) (natAbs (j .number)) ∙ b .long;
         search = b .search
             ∙ first-on (badAt zs) (jobs .place) (jobs .end) (t .more) (ap not (ap fieldsWithin (sym (t .read)) ∙ w));
+        named = b .named;
         gathered = gather-on zs numbers (jobs .place) (natAbs (j .number)) (can-take-in .room) (number-noted w) (b .gathered);
         light = omega (signed, b .light, f .weight, abs-is (j .weight));
         sum = omega (arith, weights-on zs (jobs .place) (jobs .count) (omega (arith, t .more, b .few)), e, b .sum);
@@ -132,7 +142,14 @@ module _ {zs : List ℤ} {numbers : List ℕ} {jobs : Gathered} {j : Job} (t : T
 
   -- Out of range: the first such.
   ends-here : fieldsWithin (fieldsOf j) ≡ false
-      → Passing zs numbers (record { count = jobs .count; place = jobs .place; end = jobs .place; weight = jobs .weight })
+      → Passing zs numbers
+      (record {
+        count = jobs .count;
+        place = jobs .place;
+        end = jobs .place;
+        weight = jobs .weight;
+        field = badField (fieldsOf j);
+      })
   ends-here w =
       let b = t .before in
       let here = first-here (badAt zs) (jobs .place) (jobs .end) (t .more) (ap not (ap fieldsWithin (sym (t .read)) ∙ w)) in
@@ -143,6 +160,7 @@ module _ {zs : List ℤ} {numbers : List ℕ} {jobs : Gathered} {j : Job} (t : T
         few = omega (arith, t .more, b .few);
         long = b .long;
         search = b .search ∙ here ∙ sym (first-end (badAt zs) (jobs .place));
+        named = λ h. ap badField (t .read);
         gathered = b .gathered;
         light = b .light;
         sum = b .sum;
@@ -169,6 +187,7 @@ passing-ends zs numbers jobs h p =
       counted = p .counted;
       room = omega (arith, p .room, p .long);
       first-bad = sym (p .search ∙ rw e (first-end (badAt zs) (jobs .place)));
+      named = λ h. p .named (omega arith) ∙ ap (λ k. badField (fieldsAt zs k)) e;
       gathered = p .gathered;
       weighed = λ all.
           let last : jobs .place ≡ jobs .count = omega (arith, p .few, p .going) in
@@ -182,7 +201,7 @@ passing-ends zs numbers jobs h p =
 -- In bytes that have passed 1 to 5.
 module _ (bytes : List ℕ) {numbers : List ℕ} (passed : judge (headerChecks bytes) ≡ fine) where
   pub there-starts : (h : Header) → headerFields h ≡ headerOf bytes → length numbers ≡ 48
-      → Passing (numbersOf bytes) numbers (record { count = h .count; place = 0; end = h .count; weight = 0 })
+      → Passing (numbersOf bytes) numbers (record { count = h .count; place = 0; end = h .count; weight = 0; field = 0 })
   there-starts h e long =
       let f = header-fine bytes .0 passed in
       let r = header-read bytes h e in
@@ -208,7 +227,7 @@ given-count zs all = sym (whole-count zs (length zs / 6) (all .whole))
 
 module _ (zs : List ℤ) {numbers : List ℕ} (all : AllGiven zs (length zs / 6)) where
   pub given-starts : length numbers ≡ 48
-      → Passing zs numbers (record { count = length zs / 6; place = 0; end = length zs / 6; weight = 0 })
+      → Passing zs numbers (record { count = length zs / 6; place = 0; end = length zs / 6; weight = 0; field = 0 })
   given-starts long = passing-starts zs (length zs / 6) numbers (given-count zs all) (all .few) long
 
   module _ {jobs : Gathered} (more : jobs .place < jobs .end) (before : Passing zs numbers jobs) where

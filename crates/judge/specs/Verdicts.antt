@@ -9,9 +9,9 @@ use lib.IntN.{ℤ, pos, natAbs}
 use lib.ListN.{length, getD, take, set}
 use Rattle.seconds.specs.Limits.{mostWeight}
 use Rattle.order.specs.Job.{weightOf}
-use Rattle.packed.specs.Judge.{Verdict as Judged, fine, refused, judge, check, checkAt}
-use Rattle.packed.specs.Packed.{jobCount, jobsOf}
-use Rattle.packed.specs.Refusals.{fieldsWithin, numberAt, firstBad}
+use Rattle.packed.specs.Judge.{Verdict as Judged, fine, refused, judge, check, checkAt, checkField}
+use Rattle.packed.specs.Packed.{jobCount, fieldsAt, jobsOf}
+use Rattle.packed.specs.Refusals.{fieldsWithin, badField, numberAt, firstBad}
 use Rattle.fields.specs.Fields.{fieldsOf}
 use Rattle.fields.specs.declared.Job.{Job}
 use Rattle.judge.specs.Repeats.{firstAgain}
@@ -22,7 +22,7 @@ use Rattle.judge.specs.declared.Verdict.the-variants.{Fine, Refused}
 -- What the code answers for a verdict.
 abbrev pub verdictOf : Judged → Verdict
 verdictOf fine = Fine
-verdictOf (refused n p) = Refused n p
+verdictOf (refused r) = Refused r
 
 -- The numbers are those of so many jobs, at most 48.
 pub record AllGiven (zs : List ℤ) (count : ℕ) : Type 0 where
@@ -31,11 +31,23 @@ pub record AllGiven (zs : List ℤ) (count : ℕ) : Type 0 where
 
 -- ---- what is gathered of the jobs
 
--- A job within its limits is gathered, and the search goes on behind it; else it ends before it.
+-- A job within its limits is gathered, and the search goes on behind it; else it ends before it, and its bad field is named.
 abbrev pub takenIn : Job → Gathered → Gathered
 takenIn j jobs = cond (fieldsWithin (fieldsOf j))
-    (record { count = jobs .count; place = jobs .place + 1; end = jobs .end; weight = jobs .weight + natAbs (j .weight) })
-    (record { count = jobs .count; place = jobs .place; end = jobs .place; weight = jobs .weight })
+    (record {
+      count = jobs .count;
+      place = jobs .place + 1;
+      end = jobs .end;
+      weight = jobs .weight + natAbs (j .weight);
+      field = jobs .field;
+    })
+    (record {
+      count = jobs .count;
+      place = jobs .place;
+      end = jobs .place;
+      weight = jobs .weight;
+      field = badField (fieldsOf j);
+    })
 
 -- The number of a gathered job is noted at its place.
 abbrev pub notedIn : Job → ℕ → List ℕ → List ℕ
@@ -52,19 +64,22 @@ pub record CanGather (There : Type 0) (numbers : List ℕ) : Type 0 where
   pub there : There
   pub room : length numbers ≡ 48
 
--- All jobs were counted, the first out of range stands at the place, the numbers of those before it are gathered, and so are the
--- weights where none is out of range.
+-- All jobs were counted, the first out of range stands at the place, the field is its first that is, the numbers of those before
+-- it are gathered, and so are the weights where none is out of range.
 pub record Found (zs : List ℤ) (numbers : List ℕ) (jobs : Gathered) : Type 0 where
   pub counted : jobs .count ≡ jobCount zs
   pub room : jobs .count ≤ length numbers
   pub first-bad : jobs .place ≡ firstBad zs
+  pub named : jobs .place < jobs .count → jobs .field ≡ badField (fieldsAt zs (jobs .place))
   pub gathered : (k : ℕ) → k < jobs .place → numberAt zs k ≡ pos (getD numbers k 0)
   pub weighed : jobs .count ≤ jobs .place → jobs .weight ≡ weightOf (jobsOf zs)
 
 -- 6 and 7 of gathered jobs.
 abbrev pub foundIn : List ℕ → Gathered → Judged
 foundIn numbers jobs =
-    judge (checkAt 6 (jobs .place) (jobs .count) ∷ checkAt 7 (firstAgain (take (jobs .count) numbers)) (jobs .count) ∷ [])
+    judge (checkField 6 (jobs .place) (jobs .count) (jobs .field)
+    ∷ checkAt 7 (firstAgain (take (jobs .count) numbers)) (jobs .count)
+    ∷ [])
 
 -- 9 of a weight that is there before, and the weight of all jobs.
 abbrev pub sumJudged : ℕ → ℕ → Judged

@@ -11,20 +11,26 @@ ghost use Rattle.judge.specs.Repeats.{firstAgain};
 ghost use Rattle.judge.specs.Verdicts.{verdictOf, AllGiven, CanTakeIn, takenIn, notedIn, CanGather, Found};
 ghost use Rattle.judge.specs.Verdicts.{foundIn, sumJudged};
 use fields::Job;
+use packed::Refusal;
+use packed::at_place;
+use packed::in_field;
+use packed::plainly;
 
-// Not refused; or refused, with the number and the place of R24.
+// Not refused; or refused, with what R24 says.
 pub enum Verdict {
     Fine,
-    Refused(u32, usize),
+    Refused(Refusal),
 }
 
 // What is gathered of so many jobs: those before a place are within their limits, and their weights are
-// summed. The search goes on up to the end, which is the place where the job there is out of range.
+// summed. The search goes on up to the end, which is the place where the job there is out of range; the field
+// is then the first of that job that is.
 struct Gathered {
     count: usize,
     place: usize,
     end: usize,
     weight: u32,
+    field: u32,
 }
 
 // The most jobs and the most weight of an order.
@@ -57,23 +63,23 @@ pub fn judge_header(bytes: &[u8]) -> Verdict
     ensures { λ r. ⌜ r ≡ verdictOf (judge (headerChecks (now (bytes .entry)))) ⌝ }
 {
     if bytes.len() < 4 {
-        return Verdict::Refused(1, 0);
+        return Verdict::Refused(plainly(1));
     }
     let header = fields::header_at(bytes);
     let count = header.count;
     let t0 = header.t0;
     let spare = header.spare;
     if spare != 0 {
-        return Verdict::Refused(2, 0);
+        return Verdict::Refused(plainly(2));
     }
     if count > MOST_JOBS {
-        return Verdict::Refused(3, 0);
+        return Verdict::Refused(plainly(3));
     }
     if bytes.len() != 4 + 8 * count {
-        return Verdict::Refused(4, 0);
+        return Verdict::Refused(plainly(4));
     }
     if !fields::is_time(t0) {
-        return Verdict::Refused(5, 0);
+        return Verdict::Refused(plainly(5));
     }
     Verdict::Fine
 }
@@ -85,12 +91,14 @@ fn take_in(job: Job, jobs: Gathered, numbers: &mut [u8]) -> Gathered
     ensures notes { λ _. ⌜ now (numbers .exit) ≡ notedIn job (jobs .place) (now (numbers .entry)) ⌝ }
 {
     let place = jobs.place;
-    if !fields::within(job) {
+    let field = fields::bad_field(job);
+    if field != 0 {
         return Gathered {
             count: jobs.count,
             place: place,
             end: place,
             weight: jobs.weight,
+            field: field,
         };
     }
     let number = job.number;
@@ -104,6 +112,7 @@ fn take_in(job: Job, jobs: Gathered, numbers: &mut [u8]) -> Gathered
         place: next,
         end: jobs.end,
         weight: total,
+        field: jobs.field,
     }
 }
 
@@ -119,6 +128,7 @@ fn gather(bytes: &[u8], numbers: &mut [u8]) -> Gathered
         place: 0,
         end: count,
         weight: 0,
+        field: 0,
     };
     while jobs.place < jobs.end {
         let job = fields::job_at(bytes, 4 + 8 * jobs.place);
@@ -138,6 +148,7 @@ fn gather_given(given: &[i32], numbers: &mut [u8]) -> Gathered
         place: 0,
         end: count,
         weight: 0,
+        field: 0,
     };
     while jobs.place < jobs.end {
         let job = fields::job_from(given, 6 * jobs.place);
@@ -154,11 +165,11 @@ fn judge_found(numbers: &[u8], jobs: Gathered) -> Verdict
     let bad = jobs.place;
     let count = jobs.count;
     if bad < count {
-        return Verdict::Refused(6, bad);
+        return Verdict::Refused(in_field(6, bad, jobs.field));
     }
     let again = first_repeat(&numbers[..count]);
     if again < count {
-        return Verdict::Refused(7, again);
+        return Verdict::Refused(at_place(7, again));
     }
     Verdict::Fine
 }
@@ -168,7 +179,7 @@ fn judge_sum(before: u32, weight: u32) -> Verdict
     ensures { λ r. ⌜ r ≡ verdictOf (sumJudged before weight) ⌝ }
 {
     if before as u64 + weight as u64 > MOST_WEIGHT {
-        return Verdict::Refused(9, 0);
+        return Verdict::Refused(plainly(9));
     }
     Verdict::Fine
 }
@@ -180,7 +191,7 @@ fn judge_gathered(numbers: &[u8], jobs: Gathered, before: u32) -> Verdict
 {
     let weight = jobs.weight;
     match judge_found(numbers, jobs) {
-        Verdict::Refused(number, place) => Verdict::Refused(number, place),
+        Verdict::Refused(refusal) => Verdict::Refused(refusal),
         Verdict::Fine => judge_sum(before, weight),
     }
 }
@@ -190,7 +201,7 @@ pub fn judge_jobs(bytes: &[u8]) -> Verdict
     ensures { λ r. ⌜ r ≡ verdictOf (judge (headerChecks (now (bytes .entry)) ++ jobChecks (numbersOf (now (bytes .entry))))) ⌝ }
 {
     match judge_header(bytes) {
-        Verdict::Refused(number, place) => Verdict::Refused(number, place),
+        Verdict::Refused(refusal) => Verdict::Refused(refusal),
         Verdict::Fine => {
             let mut numbers = [0u8; MOST_JOBS];
             let jobs = gather(bytes, &mut numbers);
@@ -215,7 +226,7 @@ pub fn judge_order(bytes: &[u8], before: u32) -> Verdict
         ++ weightChecks before (numbersOf (now (bytes .entry))))) ⌝ }
 {
     match judge_header(bytes) {
-        Verdict::Refused(number, place) => Verdict::Refused(number, place),
+        Verdict::Refused(refusal) => Verdict::Refused(refusal),
         Verdict::Fine => {
             let mut numbers = [0u8; MOST_JOBS];
             let jobs = gather(bytes, &mut numbers);
@@ -229,13 +240,13 @@ fn judge_list(t0: i32, given: &[i32]) -> Verdict
     ensures { λ r. ⌜ r ≡ verdictOf (judge (listChecks t0 (now (given .entry)))) ⌝ }
 {
     if given.len() > 6 * MOST_JOBS {
-        return Verdict::Refused(3, 0);
+        return Verdict::Refused(plainly(3));
     }
     if given.len() % 6 != 0 {
-        return Verdict::Refused(4, 0);
+        return Verdict::Refused(plainly(4));
     }
     if !fields::is_time(t0) {
-        return Verdict::Refused(5, 0);
+        return Verdict::Refused(plainly(5));
     }
     Verdict::Fine
 }
@@ -245,7 +256,7 @@ pub fn judge_numbers(t0: i32, given: &[i32]) -> Verdict
     ensures { λ r. ⌜ r ≡ verdictOf (judge (numberChecks t0 (now (given .entry)))) ⌝ }
 {
     match judge_list(t0, given) {
-        Verdict::Refused(number, place) => Verdict::Refused(number, place),
+        Verdict::Refused(refusal) => Verdict::Refused(refusal),
         Verdict::Fine => {
             let mut numbers = [0u8; MOST_JOBS];
             let jobs = gather_given(given, &mut numbers);

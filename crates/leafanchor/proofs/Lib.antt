@@ -3,3 +3,4 @@ pub mod ByHand
 pub mod Determined
 pub mod Part
 pub mod UpToTwelve
+pub mod NamedFields

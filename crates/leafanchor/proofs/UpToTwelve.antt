@@ -12,6 +12,7 @@ use lib.Dec.{T, ltb}
 use lib.IntN.{ℤ}
 use lib.ListN.{length}
 use borrow.Table.Steps.{cases}
+use Rattle.packed.specs.declared.Refusal.{Refusal}
 use Rattle.packed.specs.Judge.{Check, Verdict, fine, refused, judge}
 use Rattle.packed.specs.Packed.{countOf, orderOf}
 use Rattle.packed.specs.Refusals.{headerChecks, listChecks, jobChecks, weightChecks, unpackChecks, packChecks}
@@ -61,12 +62,12 @@ use Rattle.leafanchor.proofs.leafanchor_choose.Reads as choose
 
 -- Checks up to 10 give a number up to 12, where it is so past them.
 by-verdict : (cs : List Check) → T (upToTen cs) → (number : Verdict → ℕ) → number fine ≤ 12
-    → ((n p : ℕ) → number (refused n p) ≡ n) → number (judge cs) ≤ 12
+    → ((r : Refusal) → number (refused r) ≡ r .number) → number (judge cs) ≤ 12
 by-verdict cs low number past told = go (judge cs) refl
   where
     go : (v : Verdict) → judge cs ≡ v → number v ≤ 12
     go fine e = past
-    go (refused n p) e = omega (arith, told n p, up-to-ten cs low e)
+    go (refused r) e = omega (arith, told r, up-to-ten cs low e)
 
 -- ---- each answer
 
@@ -84,42 +85,42 @@ better-low joined.NotValid = omega arith
 better-low joined.NoRoom = omega arith
 better-low (joined.Points n) = omega arith
 
-unpack-low : (bytes : List ℕ) (room : ℕ) → unpackRefusal (unpackOf bytes room) ≤ 12
+unpack-low : (bytes : List ℕ) (room : ℕ) → unpackRefusal (unpackOf bytes room) .number ≤ 12
 unfolding headerChecks jobChecks weightChecks
 unpack-low bytes room =
-    by-verdict (unpackChecks bytes room) tt (λ v. unpackRefusal (unpackedBy bytes v)) (omega arith) (λ n p. refl)
+    by-verdict (unpackChecks bytes room) tt (λ v. unpackRefusal (unpackedBy bytes v) .number) (omega arith) (λ r. refl)
 
-pack-low : (t0 : ℤ) (zs : List ℤ) (room : ℕ) → packRefusal (packOf t0 zs room) ≤ 12
+pack-low : (t0 : ℤ) (zs : List ℤ) (room : ℕ) → packRefusal (packOf t0 zs room) .number ≤ 12
 unfolding listChecks jobChecks weightChecks
-pack-low t0 zs room = by-verdict (packChecks t0 zs room) tt (λ v. packRefusal (packedBy t0 zs v)) (omega arith) (λ n p. refl)
+pack-low t0 zs room = by-verdict (packChecks t0 zs room) tt (λ v. packRefusal (packedBy t0 zs v) .number) (omega arith) (λ r. refl)
 
 open-low : (bytes : List ℕ) → openRefusal (openOf bytes) ≤ 12
 unfolding headerChecks
-open-low bytes = by-verdict (headerChecks bytes) tt (λ v. openRefusal (openedBy (countOf bytes) v)) (omega arith) (λ n p. refl)
+open-low bytes = by-verdict (headerChecks bytes) tt (λ v. openRefusal (openedBy (countOf bytes) v)) (omega arith) (λ r. refl)
 
-step-low : (bytes : List ℕ) (place : ℕ) → readRefusal (stepOf bytes place .answer) ≤ 12
+step-low : (bytes : List ℕ) (place : ℕ) → readRefusal (stepOf bytes place .answer) .number ≤ 12
 unfolding headerChecks
 step-low bytes place =
-    by-verdict (stepChecks bytes place) tt (λ v. readRefusal (steppedBy bytes place v .answer))
-    (cases (ltb place (countOf bytes)) (λ e. rw e (omega arith)) (λ e. rw e (omega arith))) (λ n p. refl)
+    by-verdict (stepChecks bytes place) tt (λ v. readRefusal (steppedBy bytes place v .answer) .number)
+    (cases (ltb place (countOf bytes)) (λ e. rw e (omega arith)) (λ e. rw e (omega arith))) (λ r. refl)
 
-extend-low : (ns : List ℤ) (bytes : List ℕ) (out work : List ℤ) → extendRefusal (extendedOf ns bytes out work) ≤ 12
+extend-low : (ns : List ℤ) (bytes : List ℕ) (out work : List ℤ) → extendRefusal (extendedOf ns bytes out work) .number ≤ 12
 unfolding extendChecks extendJudged headerChecks jobChecks weightChecks
 extend-low ns bytes out work =
-    by-verdict (extendChecks ns bytes out work) tt (λ v. extendRefusal (extendedBy v (extension ns bytes))) (omega arith)
-    (λ n p. refl)
+    by-verdict (extendChecks ns bytes out work) tt (λ v. extendRefusal (extendedBy v (extension ns bytes)) .number) (omega arith)
+    (λ r. refl)
 
-made-low : (a : Option Answer) → planNumbers (plannedBy fine a) .refusal ≤ 12
+made-low : (a : Option Answer) → planNumbers (plannedBy fine a) .refusal .number ≤ 12
 made-low none = omega arith
 made-low (some a) = omega arith
 
-plan-low : (bytes : List ℕ) (starts work : List ℤ) → planNumbers (plannedOf bytes starts work) .refusal ≤ 12
+plan-low : (bytes : List ℕ) (starts work : List ℤ) → planNumbers (plannedOf bytes starts work) .refusal .number ≤ 12
 unfolding planChecks headerChecks jobChecks weightChecks
 plan-low bytes starts work =
-    by-verdict (planChecks bytes starts work) tt (λ v. planNumbers (plannedBy v (planAnswer (orderOf bytes))) .refusal)
-    (made-low (planAnswer (orderOf bytes))) (λ n p. refl)
+    by-verdict (planChecks bytes starts work) tt (λ v. planNumbers (plannedBy v (planAnswer (orderOf bytes))) .refusal .number)
+    (made-low (planAnswer (orderOf bytes))) (λ r. refl)
 
-won-low : (a b : Option ℕ) → refusalOf (byWorth true a b) ≤ 12
+won-low : (a b : Option ℕ) → refusalOf (byWorth true a b) .number ≤ 12
 won-low none none = omega arith
 won-low (some v) none = omega arith
 won-low none (some w) = omega arith
@@ -127,11 +128,11 @@ won-low (some v) (some w) = cases (ltb w v)
     (λ e. rw e (omega arith))
     (λ e. cases (ltb v w) (λ f. rw (e, f) (omega arith)) (λ f. rw (e, f) (omega arith)))
 
-choose-low : (first second : List ℕ) (t : ℤ) (work : List ℤ) → refusalOf (chosenOf first second t work) ≤ 12
+choose-low : (first second : List ℕ) (t : ℤ) (work : List ℤ) → refusalOf (chosenOf first second t work) .number ≤ 12
 unfolding choosingChecks headerChecks jobChecks weightChecks
 choose-low first second t work =
-    by-verdict (choosingChecks first second work) tt (λ v. refusalOf (chosenBy v (winnerBy toFirst first second t)))
-    (won-low (openingWorth first t) (openingWorth second t)) (λ n p. refl)
+    by-verdict (choosingChecks first second work) tt (λ v. refusalOf (chosenBy v (winnerBy toFirst first second t)) .number)
+    (won-low (openingWorth first t) (openingWorth second t)) (λ r. refl)
 
 -- ---- every outcome of each call
 

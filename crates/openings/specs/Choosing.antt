@@ -11,7 +11,8 @@ use lib.ListN.{length, drop}
 use denote.Ref.{RefT, now}
 use Rattle.profile.specs.Profile.{worth, orderProfile}
 use Rattle.packed.specs.Layout.{headerBytes}
-use Rattle.packed.specs.Judge.{Check, Verdict, fine, refused, judge}
+use Rattle.packed.specs.declared.Refusal.{Refusal}
+use Rattle.packed.specs.Judge.{plainly, noRefusal, withoutPlace, Check, Verdict, fine, refused, judge}
 use Rattle.packed.specs.Packed.{orderOf}
 use Rattle.packed.specs.Refusals.{roomChecks, orderChecks}
 use Rattle.cells.specs.Area.{area, cleared}
@@ -27,7 +28,7 @@ openingWorth bytes t = worth (orderProfile (orderOf bytes)) t
 -- The winner by what each is worth. With no point an opening loses to one that has one; 11 where neither has one. The heavier
 -- wins; where both are worth the same, the first wins if `even` says so.
 abbrev pub byWorth : Bool → Option ℕ → Option ℕ → Chosen
-byWorth even none none = Refused 11
+byWorth even none none = Refused (plainly 11)
 byWorth even (some v) none = First
 byWorth even none (some w) = Second
 byWorth even (some v) (some w) = cond (ltb w v) First (cond (ltb v w) Second (cond even First Second))
@@ -53,15 +54,15 @@ choosingChecks first second work = orderChecks first ++ orderChecks second ++ ro
 abbrev pub choosingVerdict : List ℕ → List ℕ → List ℤ → Verdict
 choosingVerdict first second work = judge (choosingChecks first second work)
 
--- The answer by the verdict and by which of the two wins: a refusal has no place.
+-- The answer by the verdict and by which of the two wins: a refusal has no place, since it would not say of which opening.
 abbrev pub chosenBy : Verdict → Chosen → Chosen
-chosenBy (refused n p) won = Refused n
+chosenBy (refused r) won = Refused (withoutPlace r)
 chosenBy fine won = won
 
 -- The work area by both: a refusal by these checks leaves it as it was; past them what the rows take is cleared, with 11 too.
 abbrev pub workBy : Verdict → Chosen → List ℤ → List ℤ
-workBy (refused n p) won work = work
-workBy fine (Refused n) work = cleared work
+workBy (refused r) won work = work
+workBy fine (Refused r) work = cleared work
 workBy fine First work = cleared work
 workBy fine Second work = cleared work
 
@@ -81,7 +82,7 @@ pub record Asked (first second : List ℕ) (t : ℤ) (work : List ℤ) (r : Chos
 
 -- Its bytes: all but the header of the winner, none where refused.
 abbrev pub partOf : Chosen → List ℕ → List ℕ → List ℕ
-partOf (Refused n) first second = []
+partOf (Refused r) first second = []
 partOf First first second = drop headerBytes first
 partOf Second first second = drop headerBytes second
 
@@ -91,7 +92,7 @@ pastHeader place = (place .0, headerBytes + place .1)
 
 -- Where it begins: behind the header of the winner, where the first begins if refused.
 abbrev pub placeOf : Chosen → ℕ × ℕ → ℕ × ℕ → ℕ × ℕ
-placeOf (Refused n) first second = first
+placeOf (Refused r) first second = first
 placeOf First first second = pastHeader first
 placeOf Second first second = pastHeader second
 
@@ -103,14 +104,14 @@ pub record Handed (first second : RefT (List ℕ)) (t : ℤ) (work : List ℤ) (
 
 -- ---- the numbers for each case (R18)
 
--- The refusal number; 0 if there is a winner.
-abbrev pub refusalOf : Chosen → ℕ
-refusalOf (Refused n) = n
-refusalOf First = 0
-refusalOf Second = 0
+-- The refusal; none if there is a winner.
+abbrev pub refusalOf : Chosen → Refusal
+refusalOf (Refused r) = r
+refusalOf First = noRefusal
+refusalOf Second = noRefusal
 
 -- The winner; 0 if refused.
 abbrev pub winnerOf : Chosen → ℕ
-winnerOf (Refused n) = 0
+winnerOf (Refused r) = 0
 winnerOf First = 1
 winnerOf Second = 2

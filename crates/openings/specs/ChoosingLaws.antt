@@ -1,6 +1,6 @@
 -- The calls stage by stage, as the code goes through their checks: each refusal, and what is left when all are passed.
 use Prim.Native.Nat.{ℕ, _≤_, _<_}
-use mathlib.Core.Path.{_≡_, refl, sym, ap, ap₂, _∙_}
+use mathlib.Core.Path.{_≡_, refl, sym, ap₂, _∙_}
 use mathlib.Core.Bool.{true}
 use mathlib.Core.List.{List, _++_}
 use native.Mathlib.Omega.{arith}
@@ -10,7 +10,8 @@ use lib.ListN.{length}
 use denote.Ref.{RefT, now}
 use borrow.Author.Tests.{lt-ltb, le-ltb}
 use borrow.Table.Steps.{cases}
-use Rattle.packed.specs.Judge.{Verdict as Judged, fine, refused, judge}
+use Rattle.packed.specs.declared.Refusal.{Refusal}
+use Rattle.packed.specs.Judge.{plainly, withoutPlace, Verdict as Judged, fine, refused, judge}
 use Rattle.packed.specs.JudgeLaws.{stages-fine}
 use Rattle.packed.specs.Refusals.{roomChecks, orderChecks}
 use Rattle.packed.specs.Accepted.{order-fine}
@@ -19,7 +20,7 @@ use Rattle.cells.specs.Keeping.{cleared-same}
 use Rattle.cells.specs.declared.Found.{Found}
 use Rattle.cells.specs.declared.Found.the-variants.{At}
 use Rattle.judge.specs.Verdicts.{verdictOf}
-use Rattle.judge.specs.Told.{told-refused, told-next}
+use Rattle.judge.specs.Told.{refusal-told, stays, told-next}
 use Rattle.judge.specs.declared.Verdict.the-variants.{Refused as Stopped}
 use Rattle.openings.specs.Choosing.{byWorth, toFirst, winnerBy, choosingChecks, choosingVerdict, chosenBy, workBy}
 use Rattle.openings.specs.Choosing.{chosenOf, Asked, partOf, placeOf, Handed, winnerOf}
@@ -43,33 +44,30 @@ second-wins {v = v} {w = w} e f h = rw (e, f, lt-ltb v w h, le-ltb w v (omega ar
 
 -- Past the checks the work area is cleared, whatever the answer.
 pub cleared-past : (won : Chosen) (work : List ℤ) → workBy fine won work ≡ cleared work
-cleared-past (Refused n) work = refl
+cleared-past (Refused r) work = refl
 cleared-past First work = refl
 cleared-past Second work = refl
 
 module _ (first second : List ℕ) (t : ℤ) (work : List ℤ) where
-  -- A refusal by these checks gives its number and leaves the work area as it was.
-  by-verdict : (v : Judged) {n p : ℕ} → choosingVerdict first second work ≡ v → verdictOf v ≡ Stopped n p
-      → Asked first second t work (Refused n) work
-  by-verdict fine e f = let z : _≡_ {A = ℕ} 0 1 = cc in absurd (omega arith)
-  by-verdict (refused m q) e f = record { answer = rw e (cc); area = rw e }
+  -- A refusal by these checks is given without its place, and leaves the work area as it was.
+  by-verdict : {r : Refusal} → choosingVerdict first second work ≡ refused r → Asked first second t work (Refused (withoutPlace r)) work
+  by-verdict e = record { answer = rw e; area = rw e }
 
-  orders-refused : {n p : ℕ} → verdictOf (judge (orderChecks first ++ orderChecks second)) ≡ Stopped n p
-      → Asked first second t work (Refused n) work
+  orders-refused : {r : Refusal} → judge (orderChecks first ++ orderChecks second) ≡ refused r
+      → Asked first second t work (Refused (withoutPlace r)) work
   unfolding choosingChecks
-  orders-refused e =
-      by-verdict (choosingVerdict first second work) refl
-      (told-refused (orderChecks first ++ orderChecks second) (roomChecks area (length work)) _ _ e)
+  orders-refused e = by-verdict (stays (orderChecks first ++ orderChecks second) (roomChecks area (length work)) e)
 
   -- The first order is refused,
-  pub first-refused : {n p : ℕ} → verdictOf (judge (orderChecks first)) ≡ Stopped n p
-      → Asked first second t work (Refused n) work
-  first-refused e = orders-refused (told-refused (orderChecks first) (orderChecks second) _ _ e)
+  pub first-refused : (r : Refusal) → verdictOf (judge (orderChecks first)) ≡ Stopped r
+      → Asked first second t work (Refused (withoutPlace r)) work
+  first-refused r e = orders-refused (stays (orderChecks first) (orderChecks second) (refusal-told _ r e))
 
   -- or the second is,
-  pub second-refused : {n p : ℕ} → judge (orderChecks first) ≡ fine → verdictOf (judge (orderChecks second)) ≡ Stopped n p
-      → Asked first second t work (Refused n) work
-  second-refused passed e = orders-refused (ap verdictOf (told-next (orderChecks first) (orderChecks second) passed) ∙ e)
+  pub second-refused : (r : Refusal) → judge (orderChecks first) ≡ fine → verdictOf (judge (orderChecks second)) ≡ Stopped r
+      → Asked first second t work (Refused (withoutPlace r)) work
+  second-refused r passed e =
+      orders-refused (told-next (orderChecks first) (orderChecks second) passed ∙ refusal-told _ r e)
 
   module _ (both : CanCompare first second) where
     both-fine : judge (orderChecks first ++ orderChecks second) ≡ fine
@@ -80,8 +78,8 @@ module _ (first second : List ℕ) (t : ℤ) (work : List ℤ) where
     room-told = told-next (orderChecks first ++ orderChecks second) (roomChecks area (length work)) both-fine
 
     -- or the work area is too short.
-    pub no-room : length work < area → Asked first second t work (Refused 10) work
-    no-room h = by-verdict (refused 10 0) (room-told ∙ rw (lt-ltb (length work) area h)) refl
+    pub no-room : length work < area → Asked first second t work (Refused (plainly 10)) work
+    no-room h = by-verdict {r = plainly 10} (room-told ∙ rw (lt-ltb (length work) area h))
 
     -- Past all of them both are weighed, the winner is told, and the work area cleared.
     pub compared : {one other : Found} {after left end : List ℤ} {r : Chosen} → area ≤ length work
@@ -100,7 +98,7 @@ module _ (first second : List ℕ) (t : ℤ) (work : List ℤ) where
 -- A winner is told only past the checks.
 won-fine : (v : Judged) (won : Chosen) → 0 < winnerOf (chosenBy v won) → v ≡ fine
 won-fine fine won h = refl
-won-fine (refused n p) won h = absurd (omega arith)
+won-fine (refused r) won h = absurd (omega arith)
 
 module _ (first second : RefT (List ℕ)) (t : ℤ) (work : List ℤ) {q : Chosen} {left : List ℤ}
     (asked : Asked (now first) (now second) t work q left)

@@ -10,7 +10,8 @@ use Rattle.packed.specs.Layout.{decode, encode, numberOf, bytesOf}
 use Rattle.packed.specs.Places.{part, flat, each, first}
 use Rattle.packed.specs.Packed.{headerWord, headerOf, countOf, t0Of, spareOf, recordAt, jobWord, jobFields}
 use Rattle.packed.specs.Packed.{numbersOf, jobCount, fieldsAt, packedHeader, packedJob, packOrder, jobOf, jobsOf, orderOf}
-use Rattle.packed.specs.Refusals.{fieldsWithin, firstBad, numberAt, firstRepeat, headerChecks, jobChecks, weightChecks}
+use Rattle.packed.specs.Judge.{inField, plainly}
+use Rattle.packed.specs.Refusals.{fieldsWithin, badField, firstBad, numberAt, firstRepeat, headerChecks, jobChecks, weightChecks}
 use Rattle.openings.specs.Choosing.{toFirst, winnerBy, choosingChecks, chosenOf}
 use Rattle.openings.specs.declared.Chosen.{Chosen}
 use Rattle.openings.specs.declared.Chosen.the-variants.{Refused, First, Second}
@@ -31,6 +32,13 @@ hopeless = opening 1 0 10 9
 
 abbrev idle : List ℕ
 idle = packOrder (pos 7) []
+
+-- Two that are out of range, in the length and in the weight.
+abbrev tooLong : List ℕ
+tooLong = opening 0 10 10001 10
+
+abbrev weightless : List ℕ
+weightless = opening 0 0 10 10
 
 -- When the bus is free again after an end.
 abbrev free : ℕ → ℤ
@@ -59,19 +67,23 @@ edges =
     ∷ edge (winnerBy toFirst hopeless idle (pos 7)) Second
     ∷ edge (winnerBy toFirst idle hopeless (pos 7)) First
     -- 11: neither has a point yet, or ever
-    ∷ edge (winnerBy toFirst hopeless idle (pos 6)) (Refused 11)
-    ∷ edge (winnerBy toFirst slow quick (negsuc 0)) (Refused 11)
-    ∷ edge (winnerBy toFirst hopeless hopeless (pos 100)) (Refused 11)
+    ∷ edge (winnerBy toFirst hopeless idle (pos 6)) (Refused (plainly 11))
+    ∷ edge (winnerBy toFirst slow quick (negsuc 0)) (Refused (plainly 11))
+    ∷ edge (winnerBy toFirst hopeless hopeless (pos 100)) (Refused (plainly 11))
     -- the first order's refusals, then the second's, then 10
-    ∷ edge (chosenOf (255 ∷ 0 ∷ 0 ∷ 1 ∷ []) [] (pos 0) []) (Refused 2)
-    ∷ edge (chosenOf idle [] (pos 0) []) (Refused 1)
-    ∷ edge (chosenOf idle (255 ∷ 0 ∷ 0 ∷ 1 ∷ []) (pos 0) []) (Refused 2)
-    ∷ edge (chosenOf idle idle (pos 0) []) (Refused 10)
+    ∷ edge (chosenOf (255 ∷ 0 ∷ 0 ∷ 1 ∷ []) [] (pos 0) []) (Refused (plainly 2))
+    ∷ edge (chosenOf idle [] (pos 0) []) (Refused (plainly 1))
+    ∷ edge (chosenOf idle (255 ∷ 0 ∷ 0 ∷ 1 ∷ []) (pos 0) []) (Refused (plainly 2))
+    ∷ edge (chosenOf idle idle (pos 0) []) (Refused (plainly 10))
+    -- 6 with the field of the first order that is refused, and no place
+    ∷ edge (chosenOf tooLong weightless (pos 0) []) (Refused (inField 6 0 5))
+    ∷ edge (chosenOf weightless tooLong (pos 0) []) (Refused (inField 6 0 3))
+    ∷ edge (chosenOf idle tooLong (pos 0) []) (Refused (inField 6 0 5))
     ∷ []
 
 -- Every edge is where R17, R24 and R25 have it.
 pub edges-hold : map (λ (e : Edge). e .asked) edges ≡ map (λ (e : Edge). e .told) edges
 unfolding decode encode numberOf bytesOf bitsTo toBits part flat each first headerWord headerOf countOf t0Of spareOf
     recordAt jobWord jobFields numbersOf jobCount fieldsAt packedHeader packedJob packOrder jobOf jobsOf orderOf
-    fieldsWithin firstBad numberAt firstRepeat headerChecks jobChecks weightChecks choosingChecks rest
+    fieldsWithin badField firstBad numberAt firstRepeat headerChecks jobChecks weightChecks choosingChecks rest
 edges-hold = refl

@@ -1,10 +1,10 @@
 -- What it is to win, in the words of the rules: the winner is worth the greater of both, equal goes to the first, and 11 is
--- given exactly when the other checks are passed and neither opening has a point by the time.
+-- given exactly when the other checks are passed and neither opening has a point by the time; and what a refusal names.
 use Prim.Native.Nat.{ℕ, _≤_}
 use mathlib.Core.Path.{_≡_, refl, sym, ap, _∙_}
 use mathlib.Core.Bool.{Bool, true, false, cond}
 use mathlib.Core.List.{List, _++_}
-use mathlib.Core.Logic.{_↔_}
+use mathlib.Core.Logic.{_↔_, _≢_, _⊎_, inl, inr, ⊎-elim, Iff·trans}
 use mathlib.Core.Option.{Option, none, some}
 use native.Mathlib.Omega.{arith}
 use lib.Dec.{ltb}
@@ -13,21 +13,23 @@ use lib.ListN.{length, drop}
 use borrow.Table.Steps.{cases}
 use Rattle.seconds.specs.Signed.{signed}
 use Rattle.profile.specs.Profile.{greater}
-use Rattle.packed.specs.Judge.{Verdict as Judged, fine, refused, judge}
-use Rattle.packed.specs.JudgeLaws.{stages-fine}
+use Rattle.packed.specs.declared.Refusal.{Refusal}
+use Rattle.packed.specs.Judge.{inField, Verdict as Judged, fine, refused, judge, orElse}
+use Rattle.packed.specs.JudgeLaws.{judge-append, stages-fine}
 use Rattle.packed.specs.Layout.{headerBytes}
 use Rattle.packed.specs.Places.{flat}
-use Rattle.packed.specs.Packed.{countOf, recordAt}
+use Rattle.packed.specs.Packed.{countOf, numbersOf, recordAt}
 use Rattle.packed.specs.PackedLaws.{flat-records}
 use Rattle.packed.specs.Refusals.{headerChecks, jobChecks, weightChecks, roomChecks, orderChecks}
 use Rattle.packed.specs.RefusalLaws.{room-fine}
+use Rattle.packed.specs.RefusalPlaces.{BadField, no-field, six-stays, six-order}
 use Rattle.packed.specs.Accepted.{order-fine}
 use Rattle.cells.specs.Work.{area, cleared}
-use Rattle.judge.specs.Told.{up-to-ten}
+use Rattle.judge.specs.Told.{stays, told-next, up-to-ten, Holds, holds-behind, named-check, named-order}
 use Rattle.openings.specs.Choosing.{openingWorth, byWorth, Tie, toFirst, winnerBy, choosingChecks, choosingVerdict}
-use Rattle.openings.specs.Choosing.{chosenBy, Asked, refusalOf}
+use Rattle.openings.specs.Choosing.{chosenBy, chosenOf, Asked, refusalOf}
 use Rattle.openings.specs.ChoosingLaws.{cleared-past}
-use Rattle.openings.specs.AnswerSays.{won-by, neither-won}
+use Rattle.openings.specs.AnswerSays.{won-by, neither-won, no-six, plain}
 use Rattle.openings.specs.declared.Chosen.{Chosen}
 use Rattle.openings.specs.declared.Chosen.the-variants.{Refused, First, Second}
 
@@ -35,7 +37,7 @@ use Rattle.openings.specs.declared.Chosen.the-variants.{Refused, First, 
 
 -- What the winner is worth, of what each is worth; nothing without a winner.
 abbrev pub wonWorth : Chosen → Option ℕ → Option ℕ → Option ℕ
-wonWorth (Refused n) a b = none
+wonWorth (Refused r) a b = none
 wonWorth First a b = a
 wonWorth Second a b = b
 
@@ -75,7 +77,7 @@ pub record NeitherInTime (first second : List ℕ) (t : ℤ) (work : List ℤ) :
 
 module _ (first second : List ℕ) (t : ℤ) (work : List ℤ) where
   -- The checks give 1 to 10,
-  checks-most : {n p : ℕ} → choosingVerdict first second work ≡ refused n p → n ≤ 10
+  checks-most : {r : Refusal} → choosingVerdict first second work ≡ refused r → r .number ≤ 10
   unfolding choosingChecks headerChecks jobChecks weightChecks
   checks-most = up-to-ten (choosingChecks first second work) tt
 
@@ -93,11 +95,14 @@ module _ (first second : List ℕ) (t : ℤ) (work : List ℤ) where
 
   -- Every outcome of the question that its contract allows has refusal 11 exactly when neither opening has a point by the time,
   module _ {r : Chosen} {work′ : List ℤ} (asked : Asked first second t work r work′) where
-    pub asked-eleven : refusalOf r ≡ 11 ↔ NeitherInTime first second t work
-    asked-eleven = (λ e. there (choosingVerdict first second work) refl (ap refusalOf (sym (asked .answer)) ∙ e), back)
+    pub asked-eleven : refusalOf r .number ≡ 11 ↔ NeitherInTime first second t work
+    asked-eleven = (λ e. there (choosingVerdict first second work) refl (ap number (sym (asked .answer)) ∙ e), back)
       where
+        number : Chosen → ℕ
+        number c = refusalOf c .number
+
         there : (v : Judged) → choosingVerdict first second work ≡ v
-            → refusalOf (chosenBy v (winnerBy toFirst first second t)) ≡ 11 → NeitherInTime first second t work
+            → refusalOf (chosenBy v (winnerBy toFirst first second t)) .number ≡ 11 → NeitherInTime first second t work
         there fine d e =
             let passed = checks-passed .0 d in
             let late = neither-won (won-by (openingWorth first t) (openingWorth second t)) e in
@@ -108,19 +113,101 @@ module _ (first second : List ℕ) (t : ℤ) (work : List ℤ) where
               first-late = late .0;
               second-late = late .1;
             }
-        there (refused n p) d e = absurd (omega (arith, checks-most d))
+        there (refused s) d e = absurd (omega (arith, checks-most d))
 
-        back : NeitherInTime first second t work → refusalOf r ≡ 11
+        back : NeitherInTime first second t work → refusalOf r .number ≡ 11
         back h =
-            ap refusalOf (asked .answer)
+            ap number (asked .answer)
             ∙ rw (checks-passed .1 (h .one, h .other, h .room), h .first-late, h .second-late)
 
     -- and the work area is cleared then too.
-    pub eleven-clears : refusalOf r ≡ 11 → work′ ≡ cleared work
+    pub eleven-clears : refusalOf r .number ≡ 11 → work′ ≡ cleared work
     eleven-clears e =
         let h = asked-eleven .0 e in
         asked .area
         ∙ rw (checks-passed .1 (h .one, h .other, h .room)) (cleared-past (winnerBy toFirst first second t) work)
+
+-- ---- 6, and what a refusal names
+
+-- Some job of an order that passes 1 to 5 is out of range; of the first such job this is the first field that is.
+abbrev pub BadIn : List ℕ → ℕ → Type 0
+BadIn bytes f = (judge (headerChecks bytes) ≡ fine) × ((p : ℕ) × BadField (numbersOf bytes) p f)
+
+module _ (first second : List ℕ) (t : ℤ) (work : List ℤ) where
+  -- The checks give it for the first order, or for the second where the first is accepted.
+  verdict-six : (p f : ℕ) → choosingVerdict first second work ≡ refused (inField 6 p f)
+      ↔ ((judge (orderChecks first) ≡ refused (inField 6 p f))
+      ⊎ ((judge (orderChecks first) ≡ fine) × (judge (orderChecks second) ≡ refused (inField 6 p f))))
+  unfolding choosingChecks
+  verdict-six p f =
+      let orders = orderChecks first ++ orderChecks second in
+      Iff·trans (six-stays orders (roomChecks area (length work)) tt p f) (there, back)
+    where
+      go : (v : Judged) → judge (orderChecks first) ≡ v → orElse v (judge (orderChecks second)) ≡ refused (inField 6 p f)
+          → (judge (orderChecks first) ≡ refused (inField 6 p f))
+          ⊎ ((judge (orderChecks first) ≡ fine) × (judge (orderChecks second) ≡ refused (inField 6 p f)))
+      go fine d e = inr (d, e)
+      go (refused r) d e = inl (d ∙ e)
+
+      there : judge (orderChecks first ++ orderChecks second) ≡ refused (inField 6 p f)
+          → (judge (orderChecks first) ≡ refused (inField 6 p f))
+          ⊎ ((judge (orderChecks first) ≡ fine) × (judge (orderChecks second) ≡ refused (inField 6 p f)))
+      there e = go (judge (orderChecks first)) refl (sym (judge-append (orderChecks first) (orderChecks second)) ∙ e)
+
+      back : (judge (orderChecks first) ≡ refused (inField 6 p f))
+          ⊎ ((judge (orderChecks first) ≡ fine) × (judge (orderChecks second) ≡ refused (inField 6 p f)))
+          → judge (orderChecks first ++ orderChecks second) ≡ refused (inField 6 p f)
+      back (inl e) = stays (orderChecks first) (orderChecks second) e
+      back (inr h) = told-next (orderChecks first) (orderChecks second) (h .0) ∙ h .1
+
+  -- The checks name no field but with 6.
+  verdict-field : Holds (λ r. r .number ≢ 6 → r .field ≡ 0) (choosingChecks first second work)
+  unfolding choosingChecks
+  verdict-field =
+      let P : Refusal → Type 0 = λ r. r .number ≢ 6 → r .field ≡ 0 in
+      holds-behind P (orderChecks first ++ orderChecks second) (roomChecks area (length work))
+      (holds-behind P (orderChecks first) (orderChecks second) (λ r e. no-field (named-order first r e)) (λ r e. no-field (named-order second r e)))
+      (λ r e. no-field (named-check (numbersOf first) 10 (ltb (length work) area) refl r e))
+
+  module _ {r : Chosen} {work′ : List ℤ} (asked : Asked first second t work r work′) where
+    -- Every outcome that the contract allows has 6 with a field exactly when that is the first bad field of the first order, or of
+    -- the second where the first is accepted.
+    pub asked-six : (f : ℕ) → refusalOf r ≡ inField 6 0 f ↔ (BadIn first f ⊎ ((judge (orderChecks first) ≡ fine) × BadIn second f))
+    asked-six f =
+        (λ e. there (choosingVerdict first second work) refl (ap refusalOf (sym (asked .answer)) ∙ e), λ h. ap refusalOf (asked .answer) ∙ back h)
+      where
+        either : (p : ℕ) → choosingVerdict first second work ≡ refused (inField 6 p f)
+            → BadIn first f ⊎ ((judge (orderChecks first) ≡ fine) × BadIn second f)
+        either p e =
+            ⊎-elim (λ a. let b = six-order first p f .0 a in inl (b .0, (p, b .1)))
+            (λ h. let b = six-order second p f .0 (h .1) in inr (h .0, (b .0, (p, b .1)))) (verdict-six p f .0 e)
+
+        there : (v : Judged) → choosingVerdict first second work ≡ v
+            → refusalOf (chosenBy v (winnerBy toFirst first second t)) ≡ inField 6 0 f
+            → BadIn first f ⊎ ((judge (orderChecks first) ≡ fine) × BadIn second f)
+        there fine d e = absurd (no-six (won-by (openingWorth first t) (openingWorth second t)) (ap (λ (s : Refusal). s .number) e))
+        there (refused s) d e =
+            let is : s ≡ inField 6 (s .place) f = λ i. inField (e i .number) (s .place) (e i .field) in
+            either (s .place) (d ∙ ap refused is)
+
+        told : {p : ℕ} → choosingVerdict first second work ≡ refused (inField 6 p f) → refusalOf (chosenOf first second t work) ≡ inField 6 0 f
+        told e = rw e
+
+        back : BadIn first f ⊎ ((judge (orderChecks first) ≡ fine) × BadIn second f)
+            → refusalOf (chosenOf first second t work) ≡ inField 6 0 f
+        back (inl b) = told (verdict-six (b .1 .0) f .1 (inl (six-order first (b .1 .0) f .1 (b .0, b .1 .1))))
+        back (inr h) =
+            let b = h .1 in
+            told (verdict-six (b .1 .0) f .1 (inr (h .0, six-order second (b .1 .0) f .1 (b .0, b .1 .1))))
+
+    -- With any other number it names no field, and it never names a place.
+    pub asked-names : (refusalOf r .number ≢ 6 → refusalOf r .field ≡ 0) × (refusalOf r .place ≡ 0)
+    asked-names = rw (asked .answer) (go (choosingVerdict first second work) refl)
+      where
+        go : (v : Judged) → choosingVerdict first second work ≡ v → let s = refusalOf (chosenBy v (winnerBy toFirst first second t)) in
+            (s .number ≢ 6 → s .field ≡ 0) × (s .place ≡ 0)
+        go fine d = plain (won-by (openingWorth first t) (openingWorth second t))
+        go (refused s) d = (verdict-field s d, refl)
 
 -- ---- the part
 

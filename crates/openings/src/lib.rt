@@ -10,14 +10,18 @@ use fields::header_at;
 use filling::fill_rows;
 use judge::Verdict;
 use judge::judge_order;
+use packed::Refusal;
+use packed::plainly;
+use packed::without_place;
 ghost use mathlib.Core.Path.{_≡_};
 ghost use mathlib.Core.Bool.{true};
 ghost use Rattle.openings.specs.Choosing.{byWorth, Asked, Handed};
 ghost use Rattle.openings.specs.Weighing.{weightIn, CanWeigh, WeighedIn, CanCompare};
 
-// What the question answers: a refusal with its number, or which of the two openings wins.
+// What the question answers: a refusal, without its place since it does not say of which opening it would be; or which of the
+// two openings wins.
 pub enum Chosen {
-    Refused(u32),
+    Refused(Refusal),
     First,
     Second,
 }
@@ -41,7 +45,7 @@ fn winner(first: Found, second: Found) -> Chosen
 {
     match first {
         Found::Nothing => match second {
-            Found::Nothing => Chosen::Refused(11),
+            Found::Nothing => Chosen::Refused(plainly(11)),
             Found::At(_, _) => Chosen::Second,
         },
         Found::At(weight, _) => match second {
@@ -64,7 +68,7 @@ fn compare(first: &[u8], second: &[u8], t: i32, work: &mut [i32]) -> Chosen
     ensures { λ r. ⌜ Asked (now (first .entry)) (now (second .entry)) t (now (work .entry)) r (now (work .exit)) ⌝ }
 {
     if work.len() < AREA {
-        return Chosen::Refused(10);
+        return Chosen::Refused(plainly(10));
     }
     let one = weigh(first, t, work);
     let other = weigh(second, t, work);
@@ -72,14 +76,14 @@ fn compare(first: &[u8], second: &[u8], t: i32, work: &mut [i32]) -> Chosen
     winner(one, other)
 }
 
-// The question: which of two openings wins at a time, or the number of the refusal.
+// The question: which of two openings wins at a time, or the refusal.
 pub fn question(first: &[u8], second: &[u8], t: i32, work: &mut [i32]) -> Chosen
     ensures { λ r. ⌜ Asked (now (first .entry)) (now (second .entry)) t (now (work .entry)) r (now (work .exit)) ⌝ }
 {
     match judge_order(first, 0) {
-        Verdict::Refused(number, _) => Chosen::Refused(number),
+        Verdict::Refused(refusal) => Chosen::Refused(without_place(refusal)),
         Verdict::Fine => match judge_order(second, 0) {
-            Verdict::Refused(number, _) => Chosen::Refused(number),
+            Verdict::Refused(refusal) => Chosen::Refused(without_place(refusal)),
             Verdict::Fine => compare(first, second, t, work),
         },
     }

@@ -4,7 +4,8 @@ use Prim.Native.Nat.{ℕ}
 use mathlib.Core.List.{List, _++_}
 use lib.IntN.{ℤ}
 use lib.ListN.{length, drop}
-use Rattle.packed.specs.Judge.{Verdict, fine, refused, judge}
+use Rattle.packed.specs.declared.Refusal.{Refusal}
+use Rattle.packed.specs.Judge.{noRefusal, Verdict, fine, refused, judge}
 use Rattle.packed.specs.Packed.{packOrder}
 use Rattle.packed.specs.Refusals.{packChecks}
 use Rattle.pack.specs.declared.Packed.{Packed}
@@ -13,12 +14,12 @@ use Rattle.pack.specs.declared.Packed.the-variants.{Refused, Bytes}
 -- The answer for a verdict on a bus-free time and numbers.
 abbrev pub packedBy : ℤ → List ℤ → Verdict → Packed
 packedBy t0 numbers fine = Bytes (length (packOrder t0 numbers))
-packedBy t0 numbers (refused n p) = Refused n p
+packedBy t0 numbers (refused r) = Refused r
 
 -- The lent bytes after the call: with no refusal the packed order stands in front, and the rest stays.
 abbrev pub bytesBy : ℤ → List ℤ → List ℕ → Verdict → List ℕ
 bytesBy t0 numbers bytes fine = packOrder t0 numbers ++ drop (length (packOrder t0 numbers)) bytes
-bytesBy t0 numbers bytes (refused n p) = bytes
+bytesBy t0 numbers bytes (refused r) = bytes
 
 -- Both, of any numbers: the answer with room for so many bytes,
 abbrev pub packOf : ℤ → List ℤ → ℕ → Packed
@@ -28,17 +29,12 @@ packOf t0 numbers room = packedBy t0 numbers (judge (packChecks t0 numbers room)
 abbrev pub bytesAfter : ℤ → List ℤ → List ℕ → List ℕ
 bytesAfter t0 numbers bytes = bytesBy t0 numbers bytes (judge (packChecks t0 numbers (length bytes)))
 
--- The refusal number that stands for each case,
-abbrev pub refusalOf : Packed → ℕ
-refusalOf (Refused n p) = n
-refusalOf (Bytes n) = 0
-
--- the place,
-abbrev pub placeOf : Packed → ℕ
-placeOf (Refused n p) = p
-placeOf (Bytes n) = 0
+-- The refusal that stands for each case,
+abbrev pub refusalOf : Packed → Refusal
+refusalOf (Refused r) = r
+refusalOf (Bytes n) = noRefusal
 
 -- and the bytes written.
 abbrev pub bytesWritten : Packed → ℕ
-bytesWritten (Refused n p) = 0
+bytesWritten (Refused r) = 0
 bytesWritten (Bytes n) = n

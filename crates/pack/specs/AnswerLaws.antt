@@ -6,7 +6,8 @@ use native.Mathlib.Omega.{arith}
 use lib.IntN.{ℤ}
 use lib.ListN.{length, drop}
 use borrow.Author.Tests.{lt-ltb}
-use Rattle.packed.specs.Judge.{Verdict as Judged, fine, refused, judge, orElse}
+use Rattle.packed.specs.declared.Refusal.{Refusal}
+use Rattle.packed.specs.Judge.{plainly, Verdict as Judged, fine, refused, judge, orElse}
 use Rattle.packed.specs.JudgeLaws.{judge-append}
 use Rattle.packed.specs.Packed.{jobCount, packedHeader, packOrder}
 use Rattle.packed.specs.PackedLaws.{length-packed}
@@ -39,10 +40,10 @@ module _ (t0 : ℤ) (numbers : List ℤ) (was : List ℕ) where
   by-stages = judge-append (numberChecks t0 numbers) (roomChecks (4 + 8 * jobCount numbers) (length was))
 
   -- The numbers are no order.
-  pub packs-refused : (n p : ℕ) → verdictOf (judge (numberChecks t0 numbers)) ≡ Said n p → Packs (Refused n p) was
-  packs-refused n p e =
-      let said : judge (numberChecks t0 numbers) ≡ refused n p = refusal-told (judge (numberChecks t0 numbers)) n p e in
-      packs-by (refused n p) (by-stages ∙ rw said)
+  pub packs-refused : (r : Refusal) → verdictOf (judge (numberChecks t0 numbers)) ≡ Said r → Packs (Refused r) was
+  packs-refused r e =
+      let said : judge (numberChecks t0 numbers) ≡ refused r = refusal-told (judge (numberChecks t0 numbers)) r e in
+      packs-by (refused r) (by-stages ∙ rw said)
 
   -- They are one, and there is room.
   pub packs-order : judge (numberChecks t0 numbers) ≡ fine → 4 + 8 * jobCount numbers ≤ length was
@@ -52,9 +53,10 @@ module _ (t0 : ℤ) (numbers : List ℤ) (was : List ℕ) where
   -- They are one, and are packed by the count of jobs that the code takes.
   module _ (order : judge (numberChecks t0 numbers) ≡ fine) where
     -- There is too little room.
-    pub packs-no-room : length was < 4 + 8 * (length numbers / 6) → Packs (Refused 10 0) was
+    pub packs-no-room : length was < 4 + 8 * (length numbers / 6) → Packs (Refused (plainly 10)) was
     unfolding jobCount
-    packs-no-room l = packs-by (refused 10 0) (by-stages ∙ rw (order, lt-ltb (length was) (4 + 8 * (length numbers / 6)) l))
+    packs-no-room l =
+        packs-by (refused (plainly 10)) (by-stages ∙ rw (order, lt-ltb (length was) (4 + 8 * (length numbers / 6)) l))
 
     -- There is room
     module _ (room : 4 + 8 * (length numbers / 6) ≤ length was) where

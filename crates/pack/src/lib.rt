@@ -5,10 +5,12 @@ ghost use lib.ListN.{length};
 ghost use Rattle.pack.specs.Answer.{packOf, bytesAfter};
 ghost use Rattle.pack.specs.Writing.{Packable, firstRecords};
 use judge::Verdict;
+use packed::Refusal;
+use packed::plainly;
 
-// What packing gives: a refusal with its number and place, or the number of bytes written.
+// What packing gives: a refusal, or the number of bytes written.
 pub enum Packed {
-    Refused(u32, usize),
+    Refused(Refusal),
     Bytes(usize),
 }
 
@@ -32,12 +34,12 @@ pub fn pack(t0: i32, numbers: &[i32], bytes: &mut [u8]) -> Packed
     ensures lent { λ r. ⌜ now (bytes .exit) ≡ bytesAfter t0 (now (numbers .entry)) (now (bytes .entry)) ⌝ }
 {
     match judge::judge_numbers(t0, numbers) {
-        Verdict::Refused(number, place) => Packed::Refused(number, place),
+        Verdict::Refused(refusal) => Packed::Refused(refusal),
         Verdict::Fine => {
             let count = numbers.len() / 6;
             let written = 4 + 8 * count;
             if bytes.len() < written {
-                return Packed::Refused(10, 0);
+                return Packed::Refused(plainly(10));
             }
             fields::put_header(bytes, count, t0);
             write_jobs(numbers, count, bytes);

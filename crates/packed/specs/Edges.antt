@@ -11,8 +11,8 @@ use Rattle.packed.specs.Layout.{decode, encode, numberOf, bytesOf}
 use Rattle.packed.specs.Places.{part, flat, each, first}
 use Rattle.packed.specs.Packed.{headerWord, headerOf, countOf, t0Of, spareOf, recordAt, jobWord, jobFields}
 use Rattle.packed.specs.Packed.{numbersOf, jobCount, fieldsAt, packedHeader, packedJob, packOrder, jobOf, jobsOf}
-use Rattle.packed.specs.Judge.{Verdict, fine, refused, judge}
-use Rattle.packed.specs.Refusals.{fieldsWithin, firstBad, numberAt, firstRepeat, firstOffending, headerChecks}
+use Rattle.packed.specs.Judge.{inField, atPlace, plainly, Verdict, fine, refused, judge}
+use Rattle.packed.specs.Refusals.{fieldsWithin, badField, firstBad, numberAt, firstRepeat, firstOffending, headerChecks}
 use Rattle.packed.specs.Refusals.{listChecks, jobChecks, weightChecks, halvesChecks, numberChecks, unpackChecks, packChecks}
 
 -- A job ready at 0 with the deadline 100: its number, mark, weight and length.
@@ -26,6 +26,10 @@ weighing number weight = job number (pos 0) (pos weight) (pos 10)
 -- One with these times.
 abbrev timed : ℤ → ℤ → List ℤ
 timed ready deadline = pos 0 ∷ pos 0 ∷ pos 1 ∷ ready ∷ pos 1 ∷ deadline ∷ []
+
+-- One of these six numbers.
+abbrev six : ℤ → ℤ → ℤ → ℤ → ℤ → ℤ → List ℤ
+six number mark weight ready long deadline = number ∷ mark ∷ weight ∷ ready ∷ long ∷ deadline ∷ []
 
 -- Six jobs of weight 50.
 abbrev heavySix : List ℤ
@@ -61,76 +65,92 @@ edge a b = record { asked = a; told = b }
 abbrev pub edges : List Edge
 edges =
     -- 1: three bytes, and four
-    edge (unpacking (0 ∷ 0 ∷ 0 ∷ [])) (refused 1 0)
+    edge (unpacking (0 ∷ 0 ∷ 0 ∷ [])) (refused (plainly 1))
     ∷ edge (unpacking (0 ∷ 0 ∷ 0 ∷ 0 ∷ [])) fine
     -- 2 before 3, 3 before 4, and a record that is missing
-    ∷ edge (unpacking (255 ∷ 0 ∷ 0 ∷ 1 ∷ [])) (refused 2 0)
-    ∷ edge (unpacking (196 ∷ 0 ∷ 0 ∷ 0 ∷ [])) (refused 3 0)
-    ∷ edge (unpacking (192 ∷ 0 ∷ 0 ∷ 0 ∷ [])) (refused 4 0)
+    ∷ edge (unpacking (255 ∷ 0 ∷ 0 ∷ 1 ∷ [])) (refused (plainly 2))
+    ∷ edge (unpacking (196 ∷ 0 ∷ 0 ∷ 0 ∷ [])) (refused (plainly 3))
+    ∷ edge (unpacking (192 ∷ 0 ∷ 0 ∷ 0 ∷ [])) (refused (plainly 4))
     -- in packing: 289 numbers, 287, and 288 of jobs out of range
-    ∷ edge (packing (replicate 289 (pos 0))) (refused 3 0)
-    ∷ edge (packing (replicate 287 (pos 0))) (refused 4 0)
-    ∷ edge (packing (replicate 288 (pos 0))) (refused 6 0)
+    ∷ edge (packing (replicate 289 (pos 0))) (refused (plainly 3))
+    ∷ edge (packing (replicate 287 (pos 0))) (refused (plainly 4))
+    ∷ edge (packing (replicate 288 (pos 0))) (refused (inField 6 0 3))
     -- 5: the bus free at 100,000, at 100,001, and at -100,001
     ∷ edge (unpacking (1 ∷ 0x86 ∷ 0xA0 ∷ 0 ∷ [])) fine
-    ∷ edge (unpacking (1 ∷ 0x86 ∷ 0xA1 ∷ 0 ∷ [])) (refused 5 0)
-    ∷ edge (judge (packChecks (negsuc 100000) [] 4)) (refused 5 0)
+    ∷ edge (unpacking (1 ∷ 0x86 ∷ 0xA1 ∷ 0 ∷ [])) (refused (plainly 5))
+    ∷ edge (judge (packChecks (negsuc 100000) [] 4)) (refused (plainly 5))
     -- 6: lengths, in packing and in unpacking
     ∷ edge (packing (weighing 1 1 ++ job 2 (pos 0) (pos 1) (pos 10000))) fine
-    ∷ edge (packing (weighing 1 1 ++ job 2 (pos 0) (pos 1) (pos 10001))) (refused 6 1)
-    ∷ edge (packing (weighing 1 1 ++ job 2 (pos 0) (pos 1) (pos 0))) (refused 6 1)
-    ∷ edge (unpacking (packOrder (pos 0) (weighing 1 1 ++ job 2 (pos 0) (pos 1) (pos 10001)))) (refused 6 1)
+    ∷ edge (packing (weighing 1 1 ++ job 2 (pos 0) (pos 1) (pos 10001))) (refused (inField 6 1 5))
+    ∷ edge (packing (weighing 1 1 ++ job 2 (pos 0) (pos 1) (pos 0))) (refused (inField 6 1 5))
+    ∷ edge (unpacking (packOrder (pos 0) (weighing 1 1 ++ job 2 (pos 0) (pos 1) (pos 10001)))) (refused (inField 6 1 5))
     -- numbers and marks
     ∷ edge (packing (job 63 (pos 1) (pos 0) (pos 1))) fine
-    ∷ edge (packing (job 64 (pos 1) (pos 0) (pos 1))) (refused 6 0)
-    ∷ edge (packing (job 2 (pos 2) (pos 1) (pos 1))) (refused 6 0)
-    ∷ edge (packing (job 2 (negsuc 0) (pos 0) (pos 1))) (refused 6 0)
+    ∷ edge (packing (job 64 (pos 1) (pos 0) (pos 1))) (refused (inField 6 0 1))
+    ∷ edge (packing (job 2 (pos 2) (pos 1) (pos 1))) (refused (inField 6 0 2))
+    ∷ edge (packing (job 2 (negsuc 0) (pos 0) (pos 1))) (refused (inField 6 0 2))
     -- weights, critical and not
-    ∷ edge (packing (job 2 (pos 1) (pos 1) (pos 1))) (refused 6 0)
-    ∷ edge (packing (weighing 2 0)) (refused 6 0)
-    ∷ edge (packing (weighing 2 51)) (refused 6 0)
+    ∷ edge (packing (job 2 (pos 1) (pos 1) (pos 1))) (refused (inField 6 0 3))
+    ∷ edge (packing (weighing 2 0)) (refused (inField 6 0 3))
+    ∷ edge (packing (weighing 2 51)) (refused (inField 6 0 3))
     -- ready times and deadlines
     ∷ edge (packing (timed (negsuc 99999) (pos 100000))) fine
-    ∷ edge (packing (timed (negsuc 100000) (pos 100000))) (refused 6 0)
-    ∷ edge (packing (timed (negsuc 99999) (pos 100001))) (refused 6 0)
+    ∷ edge (packing (timed (negsuc 100000) (pos 100000))) (refused (inField 6 0 4))
+    ∷ edge (packing (timed (negsuc 99999) (pos 100001))) (refused (inField 6 0 6))
+    -- the field: the first that is out of range, with a later one out of range too
+    ∷ edge (packing (six (negsuc 0) (pos 0) (pos 1) (pos 0) (pos 1) (pos 0))) (refused (inField 6 0 1))
+    ∷ edge (packing (six (pos 64) (pos 2) (pos 51) (pos 100001) (pos 0) (pos 100001))) (refused (inField 6 0 1))
+    ∷ edge (packing (six (pos 0) (pos 2) (pos 0) (pos 100001) (pos 0) (pos 100001))) (refused (inField 6 0 2))
+    ∷ edge (packing (six (pos 0) (negsuc 0) (pos 51) (pos 0) (pos 1) (pos 0))) (refused (inField 6 0 2))
+    ∷ edge (packing (six (pos 0) (pos 1) (pos 1) (pos 100001) (pos 0) (pos 100001))) (refused (inField 6 0 3))
+    ∷ edge (packing (six (pos 0) (pos 1) (negsuc 0) (pos 0) (pos 1) (pos 0))) (refused (inField 6 0 3))
+    ∷ edge (packing (six (pos 0) (pos 0) (negsuc 0) (pos 0) (pos 1) (pos 0))) (refused (inField 6 0 3))
+    ∷ edge (packing (six (pos 0) (pos 0) (pos 50) (pos 100001) (pos 0) (pos 100001))) (refused (inField 6 0 4))
+    ∷ edge (packing (six (pos 0) (pos 0) (pos 50) (pos 0) (pos 10001) (negsuc 100000))) (refused (inField 6 0 5))
+    ∷ edge (packing (six (pos 0) (pos 0) (pos 50) (pos 0) (negsuc 0) (pos 0))) (refused (inField 6 0 5))
+    ∷ edge (packing (six (pos 0) (pos 0) (pos 50) (pos 0) (pos 1) (negsuc 100000))) (refused (inField 6 0 6))
+    -- that of the first job out of range, and not of another
+    ∷ edge (packing (weighing 1 1 ++ timed (pos 0) (pos 100001) ++ weighing 3 0)) (refused (inField 6 1 6))
+    ∷ edge (unpacking (packOrder (pos 0) (weighing 1 1 ++ weighing 2 0 ++ timed (pos 100001) (pos 0)))) (refused (inField 6 1 3))
+    ∷ edge (unpacking (packOrder (pos 0) (job 2 (pos 1) (pos 1) (pos 10001)))) (refused (inField 6 0 3))
     -- 7: the numbers 4, 9, 4, 9; and not where a job is out of range
-    ∷ edge (packing (weighing 4 1 ++ weighing 9 1 ++ weighing 4 1 ++ weighing 9 1)) (refused 7 2)
-    ∷ edge (packing (weighing 4 1 ++ weighing 4 1 ++ weighing 9 0)) (refused 6 2)
+    ∷ edge (packing (weighing 4 1 ++ weighing 9 1 ++ weighing 4 1 ++ weighing 9 1)) (refused (atPlace 7 2))
+    ∷ edge (packing (weighing 4 1 ++ weighing 4 1 ++ weighing 9 0)) (refused (inField 6 2 3))
     -- 9: six weights of 50, and one more of 1
     ∷ edge (packing heavySix) fine
-    ∷ edge (packing (heavySix ++ weighing 7 1)) (refused 9 0)
+    ∷ edge (packing (heavySix ++ weighing 7 1)) (refused (plainly 9))
     -- 10: room that is just enough, and one short; no jobs at all
     ∷ edge (judge (packChecks (pos 0) [] 4)) fine
-    ∷ edge (judge (packChecks (pos 0) [] 3)) (refused 10 0)
+    ∷ edge (judge (packChecks (pos 0) [] 3)) (refused (plainly 10))
     ∷ edge (judge (unpackChecks (packOrder (pos 0) (weighing 1 1)) 6)) fine
-    ∷ edge (judge (unpackChecks (packOrder (pos 0) (weighing 1 1)) 5)) (refused 10 0)
+    ∷ edge (judge (unpackChecks (packOrder (pos 0) (weighing 1 1)) 5)) (refused (plainly 10))
     -- 13: no jobs, only critical ones, and numbers: 0 and 32, 31 and 63, a critical 32, an optional 31
     ∷ edge (halving []) fine
     ∷ edge (halving (critical 4 ++ critical 9)) fine
     ∷ edge (halving (critical 0 ++ optional 32 1 60)) fine
     ∷ edge (halving (critical 31 ++ optional 63 50 3000)) fine
-    ∷ edge (halving (critical 31 ++ critical 32)) (refused 13 1)
-    ∷ edge (halving (critical 4 ++ optional 31 1 60)) (refused 13 1)
+    ∷ edge (halving (critical 31 ++ critical 32)) (refused (atPlace 13 1))
+    ∷ edge (halving (critical 4 ++ optional 31 1 60)) (refused (atPlace 13 1))
     -- lengths, at 60 seconds for each weight and beside that
-    ∷ edge (halving (critical 4 ++ optional 36 2 119)) (refused 13 1)
+    ∷ edge (halving (critical 4 ++ optional 36 2 119)) (refused (atPlace 13 1))
     ∷ edge (halving (critical 4 ++ optional 36 2 120)) fine
-    ∷ edge (halving (critical 4 ++ optional 36 2 121)) (refused 13 1)
+    ∷ edge (halving (critical 4 ++ optional 36 2 121)) (refused (atPlace 13 1))
     -- no partner, one that is not critical, one that stands behind, and one that is 31 or 33 below
-    ∷ edge (halving (optional 36 1 60)) (refused 13 0)
-    ∷ edge (halving (optional 4 1 60 ++ optional 36 1 60)) (refused 13 0)
-    ∷ edge (halving (critical 5 ++ optional 36 1 60 ++ critical 4)) (refused 13 1)
-    ∷ edge (halving (critical 5 ++ optional 36 1 60)) (refused 13 1)
-    ∷ edge (halving (critical 3 ++ optional 36 1 60)) (refused 13 1)
+    ∷ edge (halving (optional 36 1 60)) (refused (atPlace 13 0))
+    ∷ edge (halving (optional 4 1 60 ++ optional 36 1 60)) (refused (atPlace 13 0))
+    ∷ edge (halving (critical 5 ++ optional 36 1 60 ++ critical 4)) (refused (atPlace 13 1))
+    ∷ edge (halving (critical 5 ++ optional 36 1 60)) (refused (atPlace 13 1))
+    ∷ edge (halving (critical 3 ++ optional 36 1 60)) (refused (atPlace 13 1))
     -- the first of two that offend; after 7 and 9
-    ∷ edge (halving (critical 4 ++ optional 37 1 60 ++ critical 40)) (refused 13 1)
-    ∷ edge (halving (critical 4 ++ optional 36 1 60 ++ optional 36 1 61)) (refused 7 2)
-    ∷ edge (halving (heavySix ++ weighing 7 1)) (refused 9 0)
-    ∷ edge (halving heavySix) (refused 13 0)
+    ∷ edge (halving (critical 4 ++ optional 37 1 60 ++ critical 40)) (refused (atPlace 13 1))
+    ∷ edge (halving (critical 4 ++ optional 36 1 60 ++ optional 36 1 61)) (refused (atPlace 7 2))
+    ∷ edge (halving (heavySix ++ weighing 7 1)) (refused (plainly 9))
+    ∷ edge (halving heavySix) (refused (atPlace 13 0))
     ∷ []
 
 -- Every edge is where the rules have it.
 pub edges-hold : map (λ (e : Edge). e .asked) edges ≡ map (λ (e : Edge). e .told) edges
 unfolding decode encode numberOf bytesOf bitsTo toBits part flat each first headerWord headerOf countOf t0Of spareOf
     recordAt jobWord jobFields numbersOf jobCount fieldsAt packedHeader packedJob packOrder jobOf jobsOf
-    fieldsWithin firstBad numberAt firstRepeat firstOffending headerChecks listChecks jobChecks weightChecks halvesChecks
+    fieldsWithin badField firstBad numberAt firstRepeat firstOffending headerChecks listChecks jobChecks weightChecks halvesChecks
 edges-hold = refl

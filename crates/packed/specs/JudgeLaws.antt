@@ -1,12 +1,13 @@
 -- The laws of judging: stages one behind the other, what it is to be fine, and what a refusal says.
 use Prim.Native.Nat.{ℕ, zero, suc}
-use mathlib.Core.Path.{_≡_, refl, sym, _∙_}
+use mathlib.Core.Path.{_≡_, refl, sym, ap, subst, _∙_}
 use mathlib.Core.Bool.{true, false}
 use mathlib.Core.Logic.{_↔_}
 use mathlib.Core.List.{List, [], _∷_, _++_}
 use native.Mathlib.Omega.{arith}
 use lib.ListN.{getD}
 use borrow.Table.Steps.{cases}
+use Rattle.packed.specs.declared.Refusal.{Refusal}
 use Rattle.packed.specs.Judge.{Check, Verdict, fine, refused, judge, orElse, check}
 
 -- ---- stages
@@ -17,12 +18,12 @@ judge-append [] ds = refl
 judge-append (c ∷ cs) ds = cases (c .applies) (λ e. rw e) (λ e. rw e (judge-append cs ds))
 
 -- A refusal is not fine.
-pub refused-fine : {n p : ℕ} → refused n p ≡ fine → ⊥
+pub refused-fine : {r : Refusal} → refused r ≡ fine → ⊥
 refused-fine e = let z : _≡_ {A = ℕ} 0 1 = cc in omega arith
 
 both-fine : (v w : Verdict) → orElse v w ≡ fine → (v ≡ fine) × (w ≡ fine)
 both-fine fine w e = (refl, e)
-both-fine (refused n p) w e = absurd (refused-fine e)
+both-fine (refused r) w e = absurd (refused-fine e)
 
 -- Two stages are passed exactly when each is.
 pub stages-fine : (cs ds : List Check) → judge (cs ++ ds) ≡ fine ↔ ((judge cs ≡ fine) × (judge ds ≡ fine))
@@ -44,22 +45,27 @@ judge-at (c ∷ cs) h (suc i) = judge-at cs (judge-cons c cs h .1) i
 
 -- ---- refused
 
--- Whichever check applies, P holds of its number and place.
-abbrev pub Tells : (ℕ → ℕ → Type 0) → List Check → Type 0
+-- A verdict's refusal is one.
+pub refused-same : {r s : Refusal} → refused r ≡ refused s → r ≡ s
+refused-same {r} {s} e = ap told e
+  where
+    told : Verdict → Refusal
+    told fine = r
+    told (refused t) = t
+
+-- Whichever check applies, P holds of what it says.
+abbrev pub Tells : (Refusal → Type 0) → List Check → Type 0
 Tells P [] = Unit {0}
-Tells P (c ∷ cs) = (c .applies ≡ true → P (c .number) (c .place)) × Tells P cs
+Tells P (c ∷ cs) = (c .applies ≡ true → P (c .says)) × Tells P cs
 
 -- Two stages that tell it.
-pub tells-append : (P : ℕ → ℕ → Type 0) (cs ds : List Check) → Tells P cs → Tells P ds → Tells P (cs ++ ds)
+pub tells-append : (P : Refusal → Type 0) (cs ds : List Check) → Tells P cs → Tells P ds → Tells P (cs ++ ds)
 tells-append P [] ds f g = g
 tells-append P (c ∷ cs) ds f g = (f .0, tells-append P cs ds (f .1) g)
 
 -- Then P holds of the refusal.
-pub judge-tells : (P : ℕ → ℕ → Type 0) (cs : List Check) {n p : ℕ} → Tells P cs → judge cs ≡ refused n p → P n p
+pub judge-tells : (P : Refusal → Type 0) (cs : List Check) {r : Refusal} → Tells P cs → judge cs ≡ refused r → P r
 judge-tells P [] f h = absurd (refused-fine (sym h))
-judge-tells P (c ∷ cs) {n} {p} f h = cases (c .applies)
-    (λ e. let given : refused (c .number) (c .place) ≡ refused n p = rw e at h in
-    let number : c .number ≡ n = cc in
-    let place : c .place ≡ p = cc in
-    rw (← number, ← place) (f .0 e))
+judge-tells P (c ∷ cs) {r} f h = cases (c .applies)
+    (λ e. subst P (refused-same (rw e at h)) (f .0 e))
     (λ e. judge-tells P cs (f .1) (rw e at h))

@@ -9,6 +9,7 @@ pub mod Judge
 pub mod JudgeLaws
 pub mod Refusals
 pub mod RefusalLaws
+pub mod FieldLaws
 pub mod RefusalPlaces
 pub mod Steps
 pub mod Accepted

@@ -186,10 +186,10 @@ pub record IsFirst (p : ℕ → Bool) (at n r : ℕ) : Type 0 where
   pub before : (k : ℕ) → at ≤ k → k < r → p k ≡ false
 
 -- One that passes is the first itself, and one that does not is passed over.
-first-found : (p : ℕ → Bool) (at n : ℕ) → at ≤ n → (at < n → p at ≡ true) → IsFirst p at n at
+pub first-found : (p : ℕ → Bool) (at n : ℕ) → at ≤ n → (at < n → p at ≡ true) → IsFirst p at n at
 first-found p at n h e = record { from = omega arith; to = h; passes = e; before = λ k a b. absurd (omega arith) }
 
-first-skips : (p : ℕ → Bool) (at n r : ℕ) → p at ≡ false → IsFirst p (suc at) n r → IsFirst p at n r
+pub first-skips : (p : ℕ → Bool) (at n r : ℕ) → p at ≡ false → IsFirst p (suc at) n r → IsFirst p at n r
 first-skips p at n r e f =
     record {
       from = omega arith;

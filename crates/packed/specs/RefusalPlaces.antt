@@ -1,80 +1,217 @@
--- The place that each refusal gives.
-use Prim.Native.Nat.{ℕ, _+_, _*_, _<_}
-use mathlib.Core.Path.{_≡_}
-use mathlib.Core.Bool.{Bool, true, false, not, _&&_, _||_}
+-- The place and the field that each refusal names, and when refusal 6 is given.
+use Prim.Native.Nat.{ℕ, _+_, _*_, _≤_, _<_}
+use mathlib.Core.Path.{_≡_, refl, sym, ap, subst, _∙_}
+use mathlib.Core.Bool.{Bool, true, false, not, true≢false, _&&_, _||_}
+use mathlib.Core.Logic.{_↔_, _≢_, Iff·trans}
 use mathlib.Core.List.{List, [], _∷_, _++_}
+use native.Mathlib.Omega.{arith}
 use lib.Dec.{T, eqb, eqb→eq}
 use lib.Ieee.Bits.{is-true}
 use lib.Ieee.Fits.{and-l, and-r}
 use lib.IntN.{ℤ}
-use borrow.Author.Tests.{ltb-true, not-true}
+use borrow.Author.Tests.{ltb-true, lt-ltb, not-true, eqb-false}
 use Rattle.order.specs.Halves.{offendsAt}
-use Rattle.packed.specs.PlacesLaws.{IsFirst}
-use Rattle.packed.specs.Packed.{countOf, numbersOf, jobCount, jobsOf}
-use Rattle.packed.specs.Judge.{Check, refused, judge}
-use Rattle.packed.specs.JudgeLaws.{Tells, tells-append, judge-tells}
-use Rattle.packed.specs.Refusals.{badAt, repeatedAt, headerChecks, listChecks, jobChecks}
-use Rattle.packed.specs.Refusals.{weightChecks, halvesChecks, roomChecks, unpackChecks, packChecks}
+use Rattle.packed.specs.declared.Refusal.{Refusal}
+use Rattle.packed.specs.LayoutLaws.{AreBytes}
+use Rattle.packed.specs.PlacesLaws.{IsFirst, first-unique}
+use Rattle.packed.specs.Packed.{countOf, numbersOf, jobCount, fieldsAt, jobsOf}
+use Rattle.packed.specs.PackedLaws.{numbers-count, fields-of-numbers}
+use Rattle.packed.specs.Judge.{inField, atPlace, plainly, Check, Verdict, fine, refused, judge, orElse}
+use Rattle.packed.specs.JudgeLaws.{judge-append, Tells, tells-append, judge-tells}
+use Rattle.packed.specs.Refusals.{badField, badAt, firstBad, repeatedAt, headerChecks, listChecks, jobChecks, weightChecks}
+use Rattle.packed.specs.Refusals.{halvesChecks, roomChecks, orderChecks, numberChecks, unpackChecks, packChecks}
 use Rattle.packed.specs.RefusalLaws.{bad-is-first, repeat-is-first, offending-is-first}
+use Rattle.packed.specs.FieldLaws.{FieldIs, field-unique, bad-field-is, bytes-field}
+use Rattle.packed.specs.Steps.{jobs-judge}
+
+-- The first job out of range stands at a place, and this is its first field that is.
+pub record BadField (zs : List ℤ) (p f : ℕ) : Type 0 where
+  pub first : IsFirst (badAt zs) 0 (jobCount zs) p
+  pub there : p < jobCount zs
+  pub field : FieldIs (fieldsAt zs p) f
+
+-- In bytes the field is that of the weight or one behind it.
+pub bytes-bad-field : (bytes : List ℕ) → AreBytes bytes → (p f : ℕ) → BadField (numbersOf bytes) p f → (3 ≤ f) × (f ≤ 6)
+bytes-bad-field bytes all p f b =
+    let there : p < countOf bytes = omega (arith, b .there, numbers-count bytes) in
+    bytes-field bytes all p f (rw (fields-of-numbers bytes p there) at (b .field))
 
 -- The refusals that have a place.
 abbrev pub hasPlace : ℕ → Bool
 hasPlace n = eqb n 6 || (eqb n 7 || eqb n 13)
 
--- With 6 it is the first job out of range, with 7 the first number that stood earlier, with 13 the first job that offends in an
--- order of halves, else 0.
-pub data PlaceIs (zs : List ℤ) : ℕ → ℕ → Type 0 where
-  bad : {p : ℕ} → IsFirst (badAt zs) 0 (jobCount zs) p → p < jobCount zs → PlaceIs zs 6 p
-  repeated : {p : ℕ} → IsFirst (repeatedAt zs) 0 (jobCount zs) p → p < jobCount zs → PlaceIs zs 7 p
-  offending : {p : ℕ} → IsFirst (offendsAt (jobsOf zs)) 0 (jobCount zs) p → p < jobCount zs → PlaceIs zs 13 p
-  nowhere : {n : ℕ} → hasPlace n ≡ false → PlaceIs zs n 0
+-- With 6 it is the first job out of range, and the field is its first that is; with 7 the first number that stood earlier, with
+-- 13 the first job that offends in an order of halves, else 0. No refusal but 6 names a field.
+pub data RefusalIs (zs : List ℤ) : Refusal → Type 0 where
+  bad : {p f : ℕ} → BadField zs p f → RefusalIs zs (inField 6 p f)
+  repeated : {p : ℕ} → IsFirst (repeatedAt zs) 0 (jobCount zs) p → p < jobCount zs → RefusalIs zs (atPlace 7 p)
+  offending : {p : ℕ} → IsFirst (offendsAt (jobsOf zs)) 0 (jobCount zs) p → p < jobCount zs → RefusalIs zs (atPlace 13 p)
+  nowhere : {n : ℕ} → hasPlace n ≡ false → RefusalIs zs (plainly n)
 
--- Checks that have no place.
+-- With 6 a job is out of range, and place and field are as they should be.
+pub six-bad : {zs : List ℤ} {r : Refusal} → RefusalIs zs r → r .number ≡ 6 → BadField zs (r .place) (r .field)
+six-bad (bad b) e = b
+six-bad (repeated i l) e = absurd (omega arith)
+six-bad (offending i l) e = absurd (omega arith)
+six-bad (nowhere none) e = absurd (true≢false (rw e at none))
+
+-- The field is 0 with every other number.
+pub no-field : {zs : List ℤ} {r : Refusal} → RefusalIs zs r → r .number ≢ 6 → r .field ≡ 0
+no-field (bad b) h = absurd (h refl)
+no-field (repeated i l) h = refl
+no-field (offending i l) h = refl
+no-field (nowhere e) h = refl
+
+-- ---- the stages
+
+-- Checks that have no place and no field.
 abbrev unplaced : List Check → Bool
 unplaced [] = true
-unplaced (c ∷ cs) = eqb (c .place) 0 && (not (hasPlace (c .number)) && unplaced cs)
+unplaced (c ∷ cs) =
+    eqb (c .says .place) 0 && (eqb (c .says .field) 0 && (not (hasPlace (c .says .number)) && unplaced cs))
 
-unplaced-tell : (zs : List ℤ) (cs : List Check) → T (unplaced cs) → Tells (PlaceIs zs) cs
+unplaced-tell : (zs : List ℤ) (cs : List Check) → T (unplaced cs) → Tells (RefusalIs zs) cs
 unplaced-tell zs [] t = tt
 unplaced-tell zs (c ∷ cs) t =
-    let place : c .place ≡ 0 = eqb→eq (c .place) 0 (search and-l) in
-    let none : T (not (hasPlace (c .number))) = search (and-l, and-r) in
-    (λ e. rw place (nowhere {n = c .number} (not-true _ (is-true _ none))), unplaced-tell zs cs (search (and-l, and-r)))
+    let place : c .says .place ≡ 0 = eqb→eq (c .says .place) 0 (search and-l) in
+    let field : c .says .field ≡ 0 = eqb→eq (c .says .field) 0 (search (and-l, and-r)) in
+    let none : T (not (hasPlace (c .says .number))) = search (and-l, and-r) in
+    let same : plainly (c .says .number) ≡ c .says = λ i. inField (c .says .number) (sym place i) (sym field i) in (
+      λ e. subst (RefusalIs zs) same (nowhere {n = c .says .number} (not-true _ (is-true _ none))),
+      unplaced-tell zs cs (search (and-l, and-r)),
+    )
 
-jobs-tell : (zs : List ℤ) → Tells (PlaceIs zs) (jobChecks zs)
+-- A place that the search for a job out of range found is that of a bad field.
+bad-found : (zs : List ℤ) {p : ℕ} → IsFirst (badAt zs) 0 (jobCount zs) p → p < jobCount zs
+    → BadField zs p (badField (fieldsAt zs p))
+bad-found zs i l =
+    record { first = i; there = l; field = bad-field-is (fieldsAt zs _) (not-true _ (i .passes l)) }
+
+jobs-tell : (zs : List ℤ) → Tells (RefusalIs zs) (jobChecks zs)
 unfolding jobChecks
-jobs-tell zs =
-    (λ e. bad (bad-is-first zs) (ltb-true _ _ e), (λ e. repeated (repeat-is-first zs) (ltb-true _ _ e), tt))
+jobs-tell zs = (
+  λ e. bad (bad-found zs (bad-is-first zs) (ltb-true _ _ e)),
+  (λ e. repeated (repeat-is-first zs) (ltb-true _ _ e), tt),
+)
 
-pub halves-tell : (zs : List ℤ) → Tells (PlaceIs zs) (halvesChecks zs)
+pub halves-tell : (zs : List ℤ) → Tells (RefusalIs zs) (halvesChecks zs)
 unfolding halvesChecks
 halves-tell zs = (λ e. offending (offending-is-first zs) (ltb-true _ _ e), tt)
 
 -- A stage with no places, then 6, 7, 9 and 10.
 module _ (zs : List ℤ) (cs : List Check) (none : T (unplaced cs)) (need room : ℕ) where
-  jobs-stage : Tells (PlaceIs zs) (cs ++ jobChecks zs)
-  jobs-stage = tells-append (PlaceIs zs) cs (jobChecks zs) (unplaced-tell zs cs none) (jobs-tell zs)
+  jobs-stage : Tells (RefusalIs zs) (cs ++ jobChecks zs)
+  jobs-stage = tells-append (RefusalIs zs) cs (jobChecks zs) (unplaced-tell zs cs none) (jobs-tell zs)
 
-  weight-stage : Tells (PlaceIs zs) (cs ++ jobChecks zs ++ weightChecks 0 zs)
+  weight-stage : Tells (RefusalIs zs) (cs ++ jobChecks zs ++ weightChecks 0 zs)
   unfolding weightChecks
   weight-stage =
-      tells-append (PlaceIs zs) (cs ++ jobChecks zs) (weightChecks 0 zs) jobs-stage (unplaced-tell zs (weightChecks 0 zs) tt)
+      tells-append (RefusalIs zs) (cs ++ jobChecks zs) (weightChecks 0 zs) jobs-stage (unplaced-tell zs (weightChecks 0 zs) tt)
 
-  room-stage : Tells (PlaceIs zs) (cs ++ jobChecks zs ++ weightChecks 0 zs ++ roomChecks need room)
+  room-stage : Tells (RefusalIs zs) (cs ++ jobChecks zs ++ weightChecks 0 zs ++ roomChecks need room)
   room-stage =
-      tells-append (PlaceIs zs) (cs ++ jobChecks zs ++ weightChecks 0 zs) (roomChecks need room) weight-stage
+      tells-append (RefusalIs zs) (cs ++ jobChecks zs ++ weightChecks 0 zs) (roomChecks need room) weight-stage
       (unplaced-tell zs (roomChecks need room) tt)
 
--- The places of unpacking.
-pub unpack-place : (bytes : List ℕ) (room : ℕ) {n p : ℕ} → judge (unpackChecks bytes room) ≡ refused n p
-    → PlaceIs (numbersOf bytes) n p
+-- The refusals of unpacking.
+pub unpack-refusal : (bytes : List ℕ) (room : ℕ) {r : Refusal} → judge (unpackChecks bytes room) ≡ refused r
+    → RefusalIs (numbersOf bytes) r
 unfolding headerChecks
-unpack-place bytes room e =
-    judge-tells (PlaceIs (numbersOf bytes)) (unpackChecks bytes room)
+unpack-refusal bytes room e =
+    judge-tells (RefusalIs (numbersOf bytes)) (unpackChecks bytes room)
     (room-stage (numbersOf bytes) (headerChecks bytes) tt (6 * countOf bytes) room) e
 
--- The places of packing.
-pub pack-place : (t0 : ℤ) (zs : List ℤ) (room : ℕ) {n p : ℕ} → judge (packChecks t0 zs room) ≡ refused n p → PlaceIs zs n p
+-- The refusals of packing.
+pub pack-refusal : (t0 : ℤ) (zs : List ℤ) (room : ℕ) {r : Refusal} → judge (packChecks t0 zs room) ≡ refused r → RefusalIs zs r
 unfolding listChecks
-pack-place t0 zs room e =
-    judge-tells (PlaceIs zs) (packChecks t0 zs room) (room-stage zs (listChecks t0 zs) tt (4 + 8 * jobCount zs) room) e
+pack-refusal t0 zs room e =
+    judge-tells (RefusalIs zs) (packChecks t0 zs room) (room-stage zs (listChecks t0 zs) tt (4 + 8 * jobCount zs) room) e
+
+-- ---- exactly when 6 is given
+
+-- No check of a list is number 6.
+abbrev pub withoutSix : List Check → Bool
+withoutSix [] = true
+withoutSix (c ∷ cs) = not (eqb (c .says .number) 6) && withoutSix cs
+
+six-tells : (cs : List Check) → T (withoutSix cs) → Tells (λ r. r .number ≢ 6) cs
+six-tells [] t = tt
+six-tells (c ∷ cs) t =
+    let h : T (not (eqb (c .says .number) 6)) = search and-l in
+    (λ e. eqb-false _ _ (not-true _ (is-true _ h)), six-tells cs (search and-r))
+
+never-six : (cs : List Check) → T (withoutSix cs) → {p f : ℕ} → judge cs ≡ refused (inField 6 p f) → ⊥
+never-six cs t e = judge-tells (λ r. r .number ≢ 6) cs (six-tells cs t) e refl
+
+-- A stage that has no 6 behind some checks changes nothing of it.
+pub six-stays : (cs ds : List Check) → T (withoutSix ds) → (p f : ℕ)
+    → judge (cs ++ ds) ≡ refused (inField 6 p f) ↔ (judge cs ≡ refused (inField 6 p f))
+six-stays cs ds none p f = (λ e. go (judge cs) refl (sym (judge-append cs ds) ∙ e), λ e. rw (judge-append cs ds, e))
+  where
+    go : (v : Verdict) → judge cs ≡ v → orElse v (judge ds) ≡ refused (inField 6 p f) → judge cs ≡ refused (inField 6 p f)
+    go fine d e = absurd (never-six ds none e)
+    go (refused r) d e = d ∙ e
+
+-- Checks give 6 exactly when a first stage is passed and a job is out of range, with the first such place and its first field.
+abbrev pub SixIs : List ℤ → List Check → List Check → Type 0
+SixIs zs before cs = (p f : ℕ) → judge cs ≡ refused (inField 6 p f) ↔ ((judge before ≡ fine) × BadField zs p f)
+
+-- So do checks with a stage behind them that has no 6.
+pub six-behind : (zs : List ℤ) (before cs ds : List Check) → T (withoutSix ds) → SixIs zs before cs → SixIs zs before (cs ++ ds)
+six-behind zs before cs ds none six p f = Iff·trans (six-stays cs ds none p f) (six p f)
+
+-- 6 and 7 behind a stage that has no 6.
+pub six-jobs : (zs : List ℤ) (before : List Check) → T (withoutSix before) → SixIs zs before (before ++ jobChecks zs)
+six-jobs zs before none p f = (there, back)
+  where
+    found : judge (jobChecks zs) ≡ refused (inField 6 p f) → BadField zs p f
+    found e = six-bad (judge-tells (RefusalIs zs) (jobChecks zs) (jobs-tell zs) e) refl
+
+    go : (v : Verdict) → judge before ≡ v → orElse v (judge (jobChecks zs)) ≡ refused (inField 6 p f)
+        → (judge before ≡ fine) × BadField zs p f
+    go fine d e = (d, found e)
+    go (refused r) d e = absurd (never-six before none (d ∙ e))
+
+    there : judge (before ++ jobChecks zs) ≡ refused (inField 6 p f) → (judge before ≡ fine) × BadField zs p f
+    there e = go (judge before) refl (sym (judge-append before (jobChecks zs)) ∙ e)
+
+    back : (judge before ≡ fine) × BadField zs p f → judge (before ++ jobChecks zs) ≡ refused (inField 6 p f)
+    back h =
+        let b = h .1 in
+        let here : firstBad zs ≡ p = first-unique (badAt zs) 0 (jobCount zs) (firstBad zs) p (bad-is-first zs) (b .first) in
+        let its : badField (fieldsAt zs p) ≡ f =
+        field-unique (fieldsAt zs p) _ f (bad-found zs (b .first) (b .there) .field) (b .field) in
+        rw (judge-append before (jobChecks zs), h .0, jobs-judge zs, here, lt-ltb p (jobCount zs) (b .there), its)
+
+-- 9 behind them.
+six-weighed : (zs : List ℤ) (before : List Check) → T (withoutSix before)
+    → SixIs zs before (before ++ jobChecks zs ++ weightChecks 0 zs)
+unfolding weightChecks
+six-weighed zs before none = six-behind zs before (before ++ jobChecks zs) (weightChecks 0 zs) tt (six-jobs zs before none)
+
+-- Those of an order, in bytes
+pub six-order : (bytes : List ℕ) → SixIs (numbersOf bytes) (headerChecks bytes) (orderChecks bytes)
+unfolding headerChecks
+six-order bytes = six-weighed (numbersOf bytes) (headerChecks bytes) tt
+
+-- and in numbers.
+pub six-numbers : (t0 : ℤ) (zs : List ℤ) → SixIs zs (listChecks t0 zs) (numberChecks t0 zs)
+unfolding listChecks
+six-numbers t0 zs = six-weighed zs (listChecks t0 zs) tt
+
+-- ---- what an answer tells by its verdict
+
+-- A refusal of the checks is the answer's own, and what is told where they are passed names what it should.
+module _ (zs : List ℤ) (told : Verdict → Refusal) (own : (r : Refusal) → told (refused r) ≡ r) (passed : RefusalIs zs (told fine)) where
+  -- Then the answer's refusal names what it should,
+  pub answer-refusal : (v : Verdict) → ((r : Refusal) → v ≡ refused r → RefusalIs zs r) → RefusalIs zs (told v)
+  answer-refusal fine named = passed
+  answer-refusal (refused r) named = rw (own r) (named r refl)
+
+  -- and it is a refusal that is never told past the checks exactly when they give it.
+  pub answer-says : (s : Refusal) → told fine .number ≢ s .number → (v : Verdict) → told v ≡ s ↔ (v ≡ refused s)
+  answer-says s other v = (there v, λ e. rw e (own s))
+    where
+      there : (v : Verdict) → told v ≡ s → v ≡ refused s
+      there fine e = absurd (other (ap (λ (r : Refusal). r .number) e))
+      there (refused r) e = ap refused (sym (own r) ∙ e)

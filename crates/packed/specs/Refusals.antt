@@ -1,7 +1,7 @@
 -- The refusals of orders. Checks 1 to 7, 9, 10 and 13 stand here once each, in stages: a call's refusals are the stages that it
 -- names, one behind the other. Checks 6, 7, 9 and 13 are over the numbers of all jobs, for bytes and for numbers alike.
 -- Definitions only.
-use Prim.Native.Nat.{ℕ, _+_, _*_, _%_}
+use Prim.Native.Nat.{ℕ, suc, _+_, _*_, _%_}
 use mathlib.Core.Bool.{Bool, true, not, cond, _&&_}
 use mathlib.Core.List.{List, [], _∷_, _++_}
 use lib.Dec.{ltb, eqb}
@@ -14,7 +14,7 @@ use Rattle.order.specs.Job.{weightOf}
 use Rattle.order.specs.Halves.{offendsAt}
 use Rattle.packed.specs.Layout.{headerBytes, jobBytes, jobNumbers}
 use Rattle.packed.specs.Places.{first}
-use Rattle.packed.specs.Judge.{Check, check, checkAt}
+use Rattle.packed.specs.Judge.{Check, check, checkAt, checkField}
 use Rattle.packed.specs.Packed.{countOf, t0Of, spareOf, numbersOf, jobCount, fieldsAt, theNumber}
 use Rattle.packed.specs.Packed.{theMark, theWeight, theReady, theLength, theDeadline, isCritical, jobsOf}
 
@@ -44,6 +44,17 @@ allTrue (b ∷ bs) = b && allTrue bs
 unfoldable pub fieldsWithin : List ℤ → Bool
 fieldsWithin zs = allTrue (fieldTests zs)
 
+-- The first test that is not passed, by its place in the list, the first counted as so much; 0 if all are passed.
+abbrev pub firstFailed : ℕ → List Bool → ℕ
+firstFailed at [] = 0
+firstFailed at (b ∷ bs) =
+    let later = firstFailed (suc at) bs in
+    cond b later at
+
+-- The first field of a job that is out of range: 1 is its number, 6 its deadline, 0 none.
+unfoldable pub badField : List ℤ → ℕ
+badField zs = firstFailed 1 (fieldTests zs)
+
 -- ---- all jobs
 
 -- A place whose job is out of range.
@@ -53,6 +64,10 @@ badAt zs k = not (fieldsWithin (fieldsAt zs k))
 -- The first such place.
 unfoldable pub firstBad : List ℤ → ℕ
 firstBad zs = first (badAt zs) 0 (jobCount zs)
+
+-- The first field there that is out of range.
+abbrev pub fieldOfBad : List ℤ → ℕ
+fieldOfBad zs = badField (fieldsAt zs (firstBad zs))
 
 -- The number of the job at a place.
 unfoldable pub numberAt : List ℤ → ℕ → ℤ
@@ -104,7 +119,10 @@ listChecks t0 zs =
 
 -- 6 and 7 on the numbers of all jobs.
 unfoldable pub jobChecks : List ℤ → List Check
-jobChecks zs = checkAt 6 (firstBad zs) (jobCount zs) ∷ checkAt 7 (firstRepeat zs) (jobCount zs) ∷ []
+jobChecks zs =
+    checkField 6 (firstBad zs) (jobCount zs) (fieldOfBad zs)
+    ∷ checkAt 7 (firstRepeat zs) (jobCount zs)
+    ∷ []
 
 -- 9, with the weight that is there before the jobs.
 unfoldable pub weightChecks : ℕ → List ℤ → List Check

@@ -15,34 +15,34 @@ use Rattle.packed.specs.Packed.{countOf, t0Of, spareOf}
 use Rattle.packed.specs.Packed.{jobCount, fieldsAt, jobAt}
 use Rattle.packed.specs.Packed.{theWeight}
 use Rattle.packed.specs.PackedLaws.{job-is}
-use Rattle.packed.specs.Judge.{fine, refused, judge}
-use Rattle.packed.specs.Refusals.{badAt, firstBad}
+use Rattle.packed.specs.Judge.{inField, atPlace, plainly, fine, refused, judge}
+use Rattle.packed.specs.Refusals.{badAt, firstBad, fieldOfBad}
 use Rattle.packed.specs.Refusals.{firstRepeat, headerChecks, listChecks, jobChecks}
 
 -- ---- the checks written out
 
 -- 1 to 5 on bytes.
 pub header-judge : (bytes : List ℕ) → judge (headerChecks bytes)
-    ≡ cond (ltb (length bytes) 4) (refused 1 0)
-    (cond (not (eqb (spareOf bytes) 0)) (refused 2 0)
-    (cond (ltb 48 (countOf bytes)) (refused 3 0)
-    (cond (not (eqb (length bytes) (4 + 8 * countOf bytes))) (refused 4 0)
-    (cond (not (isTime (t0Of bytes))) (refused 5 0) fine))))
+    ≡ cond (ltb (length bytes) 4) (refused (plainly 1))
+    (cond (not (eqb (spareOf bytes) 0)) (refused (plainly 2))
+    (cond (ltb 48 (countOf bytes)) (refused (plainly 3))
+    (cond (not (eqb (length bytes) (4 + 8 * countOf bytes))) (refused (plainly 4))
+    (cond (not (isTime (t0Of bytes))) (refused (plainly 5)) fine))))
 unfolding headerChecks
 header-judge bytes = refl
 
 -- 3 to 5 on a bus-free time and numbers.
 pub list-judge : (t0 : ℤ) (zs : List ℤ) → judge (listChecks t0 zs)
-    ≡ cond (ltb 288 (length zs)) (refused 3 0)
-    (cond (not (eqb (length zs % 6) 0)) (refused 4 0)
-    (cond (not (isTime t0)) (refused 5 0) fine))
+    ≡ cond (ltb 288 (length zs)) (refused (plainly 3))
+    (cond (not (eqb (length zs % 6) 0)) (refused (plainly 4))
+    (cond (not (isTime t0)) (refused (plainly 5)) fine))
 unfolding listChecks
 list-judge t0 zs = refl
 
 -- 6 and 7.
 pub jobs-judge : (zs : List ℤ) → judge (jobChecks zs)
-    ≡ cond (ltb (firstBad zs) (jobCount zs)) (refused 6 (firstBad zs))
-    (cond (ltb (firstRepeat zs) (jobCount zs)) (refused 7 (firstRepeat zs)) fine)
+    ≡ cond (ltb (firstBad zs) (jobCount zs)) (refused (inField 6 (firstBad zs) (fieldOfBad zs)))
+    (cond (ltb (firstRepeat zs) (jobCount zs)) (refused (atPlace 7 (firstRepeat zs))) fine)
 unfolding jobChecks
 jobs-judge zs = refl
 

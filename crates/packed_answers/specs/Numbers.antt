@@ -1,15 +1,16 @@
--- For each answer on a packed order, or on the sampler's byte, the struct that says it: the refusal number and the values of
--- the rules. In a refused answer all but the refusal and its place, and the reader's own place, are 0 (R26). Definitions only.
+-- For each answer on a packed order, or on the sampler's byte, the struct that says it: the refusal and the values of the rules.
+-- In a refused answer all but the refusal, with its place and field, and the reader's own place, are 0 (R26). Definitions only.
 use Prim.Native.Nat.{ℕ}
 use lib.IntN.{pos}
 use Rattle.heat.specs.Answer.{refusalOf as heatRefusal, lengthOf}
 use Rattle.heat.specs.declared.Heating.{Heating}
+use Rattle.packed.specs.declared.Refusal.{Refusal}
 use Rattle.packed.specs.Packed.{theNumber, theMark, theWeight, theReady, theLength, theDeadline}
-use Rattle.unpack.specs.Answer.{refusalOf as unpackRefusal, placeOf as unpackPlace, jobsUnpacked, t0Unpacked}
+use Rattle.unpack.specs.Answer.{refusalOf as unpackRefusal, jobsUnpacked, t0Unpacked}
 use Rattle.unpack.specs.declared.Unpacked.{Unpacked}
-use Rattle.pack.specs.Answer.{refusalOf as packRefusal, placeOf as packPlace, bytesWritten}
+use Rattle.pack.specs.Answer.{refusalOf as packRefusal, bytesWritten}
 use Rattle.pack.specs.declared.Packed.{Packed}
-use Rattle.reader.specs.Reading.{openRefusal, openCount, readRefusal, readPlace, readEnd, readNumbers}
+use Rattle.reader.specs.Reading.{openRefusal, openCount, readRefusal, readEnd, readNumbers}
 use Rattle.reader.specs.declared.Opened.{Opened}
 use Rattle.reader.specs.declared.Moved.{Moved}
 use Rattle.packed_answers.specs.declared.HeatAnswer.{HeatAnswer}
@@ -26,20 +27,25 @@ heatNumbers h = record { refusal = heatRefusal h; seconds = lengthOf h }
 -- ---- packed orders
 
 abbrev pub unpackNumbers : Unpacked → UnpackAnswer
-unpackNumbers u = record { refusal = unpackRefusal u; place = unpackPlace u; jobs = jobsUnpacked u; t0 = t0Unpacked u }
+unpackNumbers u =
+    let r = unpackRefusal u in
+    record { refusal = r .number; place = r .place; field = r .field; jobs = jobsUnpacked u; t0 = t0Unpacked u }
 
 abbrev pub packNumbers : Packed → PackAnswer
-packNumbers p = record { refusal = packRefusal p; place = packPlace p; bytes = bytesWritten p }
+packNumbers p =
+    let r = packRefusal p in
+    record { refusal = r .number; place = r .place; field = r .field; bytes = bytesWritten p }
 
 abbrev pub openNumbers : Opened → OpenAnswer
 openNumbers o = record { refusal = openRefusal o; jobs = openCount o }
 
 -- A step that gives no job, with the place at which the reader then stands.
-abbrev pub noJob : ℕ → ℕ → ℕ → ℕ → StepAnswer
-noJob refusal place end next =
+abbrev pub noJob : Refusal → ℕ → ℕ → StepAnswer
+noJob r end next =
     record {
-      refusal = refusal;
-      place = place;
+      refusal = r .number;
+      place = r .place;
+      field = r .field;
       end = end;
       number = pos 0;
       critical = pos 0;
@@ -54,8 +60,9 @@ noJob refusal place end next =
 abbrev pub stepNumbers : Moved → StepAnswer
 stepNumbers m =
     record {
-      refusal = readRefusal (m .answer);
-      place = readPlace (m .answer);
+      refusal = readRefusal (m .answer) .number;
+      place = readRefusal (m .answer) .place;
+      field = readRefusal (m .answer) .field;
       end = readEnd (m .answer);
       number = theNumber (readNumbers (m .answer));
       critical = theMark (readNumbers (m .answer));

@@ -1,10 +1,12 @@
-// The answers on packed orders, and on the sampler's byte, as structs with C's layout: the refusal number and the values
-// of the rules for each case. Every answer has its struct. Assumes nothing.
+// The answers on packed orders, and on the sampler's byte, as structs with C's layout: the refusal and the values of the rules
+// for each case. Every answer has its struct. Assumes nothing.
 ghost use mathlib.Core.Path.{_≡_};
 ghost use Rattle.packed_answers.specs.Numbers.{heatNumbers, unpackNumbers, packNumbers};
 ghost use Rattle.packed_answers.specs.Numbers.{openNumbers, noJob, stepNumbers};
 use heat::Heating;
 use pack::Packed;
+use packed::Refusal;
+use packed::plainly;
 use reader::Moved;
 use reader::Opened;
 use reader::Read;
@@ -22,6 +24,7 @@ pub struct HeatAnswer {
 pub struct UnpackAnswer {
     pub refusal: u32,
     pub place: usize,
+    pub field: u32,
     pub jobs: usize,
     pub t0: i32,
 }
@@ -31,6 +34,7 @@ pub struct UnpackAnswer {
 pub struct PackAnswer {
     pub refusal: u32,
     pub place: usize,
+    pub field: u32,
     pub bytes: usize,
 }
 
@@ -42,11 +46,12 @@ pub struct OpenAnswer {
 }
 
 // A step of the reader: the end (1, else 0) or the numbers of a job (all 0 where none is given), and the place at which it
-// then stands. The first place is that of the refusal.
+// then stands. The first place is that of the refusal, and the field is that of the job there.
 #[repr(C)]
 pub struct StepAnswer {
     pub refusal: u32,
     pub place: usize,
+    pub field: u32,
     pub end: u32,
     pub number: i32,
     pub critical: i32,
@@ -78,15 +83,17 @@ pub fn unpack_answer(unpacked: Unpacked) -> UnpackAnswer
     ensures { λ r. ⌜ r ≡ unpackNumbers unpacked ⌝ }
 {
     match unpacked {
-        Unpacked::Refused(number, place) => UnpackAnswer {
-            refusal: number,
-            place: place,
+        Unpacked::Refused(refusal) => UnpackAnswer {
+            refusal: refusal.number,
+            place: refusal.place,
+            field: refusal.field,
             jobs: 0,
             t0: 0,
         },
         Unpacked::Jobs(jobs, t0) => UnpackAnswer {
             refusal: 0,
             place: 0,
+            field: 0,
             jobs: jobs,
             t0: t0,
         },
@@ -98,14 +105,16 @@ pub fn pack_answer(packed: Packed) -> PackAnswer
     ensures { λ r. ⌜ r ≡ packNumbers packed ⌝ }
 {
     match packed {
-        Packed::Refused(number, at) => PackAnswer {
-            refusal: number,
-            place: at,
+        Packed::Refused(refused) => PackAnswer {
+            refusal: refused.number,
+            place: refused.place,
+            field: refused.field,
             bytes: 0,
         },
         Packed::Bytes(bytes) => PackAnswer {
             refusal: 0,
             place: 0,
+            field: 0,
             bytes: bytes,
         },
     }
@@ -128,12 +137,13 @@ pub fn open_answer(opened: Opened) -> OpenAnswer
 }
 
 // A step that gives no job.
-fn no_job(refusal: u32, place: usize, end: u32, next: usize) -> StepAnswer
-    ensures { λ r. ⌜ r ≡ noJob refusal place end next ⌝ }
+fn no_job(said: Refusal, end: u32, next: usize) -> StepAnswer
+    ensures { λ r. ⌜ r ≡ noJob said end next ⌝ }
 {
     StepAnswer {
-        refusal: refusal,
-        place: place,
+        refusal: said.number,
+        place: said.place,
+        field: said.field,
         end: end,
         number: 0,
         critical: 0,
@@ -152,11 +162,12 @@ pub fn step_answer(moved: Moved) -> StepAnswer
     let next = moved.place;
     let answer = moved.answer;
     match answer {
-        Read::Refused(number, place) => no_job(number, place, 0, next),
-        Read::End => no_job(0, 0, 1, next),
+        Read::Refused(refusal) => no_job(refusal, 0, next),
+        Read::End => no_job(plainly(0), 1, next),
         Read::Job(job) => StepAnswer {
             refusal: 0,
             place: 0,
+            field: 0,
             end: 0,
             number: job.number,
             critical: job.critical,

@@ -63,7 +63,7 @@ ended t js c = Option·map (λ (p : Point). record { choice = c; end = p }) (run
 abbrev pub plan : ℤ → List Job → Option Ended
 plan t js = first (results (ended t js) (choices js))
 
--- ---- the plan's answer, without refusal number and place; none where no choice is feasible
+-- ---- the plan's answer, without a refusal; none where no choice is feasible
 
 pub record Answer : Type 0 where
   pub mask : ℕ

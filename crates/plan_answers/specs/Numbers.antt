@@ -1,12 +1,12 @@
--- For each answer on profiles, plans and openings the struct that says it: the refusal number and the values of the rules. In
--- a refused answer all but the refusal and its place are 0 (R26). Definitions only.
+-- For each answer on profiles, plans and openings the struct that says it: the refusal's numbers and the values of the rules. In
+-- a refused answer all but those of the refusal are 0 (R26). Definitions only.
 use Prim.Native.Nat.{ℕ, _-_}
 use Rattle.packed.specs.Layout.{headerBytes}
 use Rattle.profiles.specs.Answer.{lookupRefusal, foundOf, weightFound}
 use Rattle.profiles.specs.declared.Finding.{Finding}
 use Rattle.better.specs.Answer.{joinRefusal, pointsWritten as pointsJoined}
 use Rattle.better.specs.declared.Joined.{Joined}
-use Rattle.extending.specs.Calls.{extendRefusal, extendPlace, pointsWritten}
+use Rattle.extending.specs.Calls.{extendRefusal, pointsWritten}
 use Rattle.planner.specs.Calls.{PlanNumbers, planNumbers}
 use Rattle.planner.specs.declared.Planned.{Planned}
 use Rattle.halves.specs.Calls.{halvesNumbers}
@@ -32,7 +32,9 @@ abbrev pub betterNumbers : Joined → BetterAnswer
 betterNumbers j = record { refusal = joinRefusal j; points = pointsJoined j }
 
 abbrev pub extendNumbers : Extended → ExtendAnswer
-extendNumbers e = record { refusal = extendRefusal e; place = extendPlace e; points = pointsWritten e }
+extendNumbers e =
+    let r = extendRefusal e in
+    record { refusal = r .number; place = r .place; field = r .field; points = pointsWritten e }
 
 -- ---- plans
 
@@ -40,8 +42,9 @@ extendNumbers e = record { refusal = extendRefusal e; place = extendPlace e; poi
 abbrev planStruct : PlanNumbers → PlanAnswer
 planStruct n =
     record {
-      refusal = n .refusal;
-      place = n .place;
+      refusal = n .refusal .number;
+      place = n .refusal .place;
+      field = n .refusal .field;
       mask = n .mask;
       kept = n .kept;
       «kept_weight» = n .keptWeight;
@@ -60,6 +63,7 @@ beside p seconds =
     record {
       refusal = p .refusal;
       place = p .place;
+      field = p .field;
       mask = p .mask;
       kept = p .kept;
       «kept_weight» = p .«kept_weight»;
@@ -75,20 +79,26 @@ halvesFigures h = beside (planStruct (halvesNumbers h .plan)) (halvesNumbers h .
 -- ---- openings
 
 abbrev pub questionNumbers : Chosen → QuestionAnswer
-questionNumbers c = record { refusal = choiceRefusal c; winner = winnerOf c }
+questionNumbers c = record { refusal = choiceRefusal c .number; field = choiceRefusal c .field; winner = winnerOf c }
 
 -- Where the winner's records begin in its bytes, and how many bytes they are; 0 if refused.
 abbrev pub offsetOf : Chosen → ℕ
-offsetOf (chosen.Refused n) = 0
+offsetOf (chosen.Refused r) = 0
 offsetOf chosen.First = headerBytes
 offsetOf chosen.Second = headerBytes
 
 abbrev pub lengthChosen : Chosen → ℕ → ℕ → ℕ
-lengthChosen (chosen.Refused n) first second = 0
+lengthChosen (chosen.Refused r) first second = 0
 lengthChosen chosen.First first second = first - headerBytes
 lengthChosen chosen.Second first second = second - headerBytes
 
 -- The choice between two openings of so many bytes.
 abbrev pub chooseNumbers : Chosen → ℕ → ℕ → ChooseAnswer
 chooseNumbers c first second =
-    record { refusal = choiceRefusal c; winner = winnerOf c; offset = offsetOf c; length = lengthChosen c first second }
+    record {
+      refusal = choiceRefusal c .number;
+      field = choiceRefusal c .field;
+      winner = winnerOf c;
+      offset = offsetOf c;
+      length = lengthChosen c first second;
+    }

@@ -1,4 +1,4 @@
-// The answers on profiles, plans and openings as structs with C's layout: the refusal number and the values of the rules
+// The answers on profiles, plans and openings as structs with C's layout: the refusal and the values of the rules
 // for each case. Every answer has its struct. Assumes nothing.
 ghost use mathlib.Core.Path.{_≡_};
 ghost use Prim.Native.Nat.{_-_};
@@ -40,6 +40,7 @@ pub struct BetterAnswer {
 pub struct ExtendAnswer {
     pub refusal: u32,
     pub place: usize,
+    pub field: u32,
     pub points: usize,
 }
 
@@ -48,6 +49,7 @@ pub struct ExtendAnswer {
 pub struct PlanAnswer {
     pub refusal: u32,
     pub place: usize,
+    pub field: u32,
     pub mask: u64,
     pub kept: u32,
     pub kept_weight: u32,
@@ -61,6 +63,7 @@ pub struct PlanAnswer {
 pub struct HalvesAnswer {
     pub refusal: u32,
     pub place: usize,
+    pub field: u32,
     pub mask: u64,
     pub kept: u32,
     pub kept_weight: u32,
@@ -74,6 +77,7 @@ pub struct HalvesAnswer {
 #[repr(C)]
 pub struct QuestionAnswer {
     pub refusal: u32,
+    pub field: u32,
     pub winner: u32,
 }
 
@@ -81,6 +85,7 @@ pub struct QuestionAnswer {
 #[repr(C)]
 pub struct ChooseAnswer {
     pub refusal: u32,
+    pub field: u32,
     pub winner: u32,
     pub offset: usize,
     pub length: usize,
@@ -134,14 +139,16 @@ pub fn extend_answer(extended: Extended) -> ExtendAnswer
     ensures { λ r. ⌜ r ≡ extendNumbers extended ⌝ }
 {
     match extended {
-        Extended::Refused(number, at) => ExtendAnswer {
-            refusal: number,
-            place: at,
+        Extended::Refused(refused) => ExtendAnswer {
+            refusal: refused.number,
+            place: refused.place,
+            field: refused.field,
             points: 0,
         },
         Extended::Points(points) => ExtendAnswer {
             refusal: 0,
             place: 0,
+            field: 0,
             points: points,
         },
     }
@@ -152,9 +159,10 @@ pub fn plan_answer(planned: Planned) -> PlanAnswer
     ensures { λ r. ⌜ r ≡ planFigures planned ⌝ }
 {
     match planned {
-        Planned::Refused(number, place) => PlanAnswer {
-            refusal: number,
-            place: place,
+        Planned::Refused(refusal) => PlanAnswer {
+            refusal: refusal.number,
+            place: refusal.place,
+            field: refusal.field,
             mask: 0,
             kept: 0,
             kept_weight: 0,
@@ -165,6 +173,7 @@ pub fn plan_answer(planned: Planned) -> PlanAnswer
         Planned::Made(figures) => PlanAnswer {
             refusal: 0,
             place: 0,
+            field: 0,
             mask: figures.mask,
             kept: figures.kept,
             kept_weight: figures.kept_weight,
@@ -182,6 +191,7 @@ fn with_seconds(plan: PlanAnswer, seconds: u32) -> HalvesAnswer
     HalvesAnswer {
         refusal: plan.refusal,
         place: plan.place,
+        field: plan.field,
         mask: plan.mask,
         kept: plan.kept,
         kept_weight: plan.kept_weight,
@@ -197,8 +207,8 @@ pub fn halves_answer(planned: HalvesPlanned) -> HalvesAnswer
     ensures { λ r. ⌜ r ≡ halvesFigures planned ⌝ }
 {
     match planned {
-        HalvesPlanned::Refused(number, place) => {
-            with_seconds(plan_answer(Planned::Refused(number, place)), 0)
+        HalvesPlanned::Refused(refusal) => {
+            with_seconds(plan_answer(Planned::Refused(refusal)), 0)
         }
         HalvesPlanned::Made(figures, seconds) => {
             with_seconds(plan_answer(Planned::Made(figures)), seconds)
@@ -211,16 +221,19 @@ pub fn question_answer(chosen: Chosen) -> QuestionAnswer
     ensures { λ r. ⌜ r ≡ questionNumbers chosen ⌝ }
 {
     match chosen {
-        Chosen::Refused(number) => QuestionAnswer {
-            refusal: number,
+        Chosen::Refused(said) => QuestionAnswer {
+            refusal: said.number,
+            field: said.field,
             winner: 0,
         },
         Chosen::First => QuestionAnswer {
             refusal: 0,
+            field: 0,
             winner: FIRST,
         },
         Chosen::Second => QuestionAnswer {
             refusal: 0,
+            field: 0,
             winner: SECOND,
         },
     }
@@ -238,20 +251,23 @@ pub fn choose_answer(chosen: Chosen, first: usize, second: usize) -> ChooseAnswe
     ensures { λ r. ⌜ r ≡ chooseNumbers chosen first second ⌝ }
 {
     match chosen {
-        Chosen::Refused(number) => ChooseAnswer {
-            refusal: number,
+        Chosen::Refused(said) => ChooseAnswer {
+            refusal: said.number,
+            field: said.field,
             winner: 0,
             offset: 0,
             length: 0,
         },
         Chosen::First => ChooseAnswer {
             refusal: 0,
+            field: 0,
             winner: FIRST,
             offset: HEADER,
             length: records_length(first),
         },
         Chosen::Second => ChooseAnswer {
             refusal: 0,
+            field: 0,
             winner: SECOND,
             offset: HEADER,
             length: records_length(second),

@@ -1,9 +1,9 @@
--- What the answers of planning say (R8, R26): their numbers, the places of refusals, when 11 is given, and how the figures of a
--- plan fit together and with the list of jobs kept.
+-- What the answers of planning say (R8, R26): their numbers, what refusals name, when 6 and 11 are given, and how the figures of
+-- a plan fit together and with the list of jobs kept.
 use Prim.Native.Nat.{ℕ, _+_, _≤_}
 use mathlib.Core.Path.{_≡_, refl, sym, ap, _∙_}
 use mathlib.Core.Bool.{false}
-use mathlib.Core.Logic.{_↔_}
+use mathlib.Core.Logic.{_↔_, _≢_, Iff·trans}
 use mathlib.Core.List.{List, _++_}
 use mathlib.Core.Option.{Option, none, some, map-eq-none-iff, map-eq-some-iff}
 use native.Mathlib.Omega.{arith}
@@ -17,15 +17,16 @@ use Rattle.profile.specs.Profile.{startPoint, pointTotal}
 use Rattle.plan.specs.Plan.{Ended, plan, Answer, answerOf, planAnswer}
 use Rattle.plan.specs.PlanIs.{plan-none, plan-is}
 use Rattle.plan.specs.Figures.{answer-figures}
-use Rattle.packed.specs.Judge.{Verdict, fine, refused, judge}
+use Rattle.packed.specs.declared.Refusal.{Refusal}
+use Rattle.packed.specs.Judge.{inField, plainly, noRefusal, Verdict, fine, refused, judge}
 use Rattle.packed.specs.JudgeLaws.{stages-fine}
 use Rattle.packed.specs.Packed.{countOf, numbersOf, orderOf}
 use Rattle.packed.specs.Refusals.{headerChecks, jobChecks, weightChecks, roomChecks, orderChecks}
 use Rattle.packed.specs.RefusalLaws.{room-fine}
 use Rattle.packed.specs.Accepted.{order-within}
-use Rattle.packed.specs.RefusalPlaces.{PlaceIs, nowhere}
+use Rattle.packed.specs.RefusalPlaces.{BadField, RefusalIs, nowhere, SixIs, six-order, answer-refusal, answer-says}
 use Rattle.cells.specs.Work.{area}
-use Rattle.judge.specs.Told.{up-to-ten, Placed, placed-rooms, placed-order}
+use Rattle.judge.specs.Told.{up-to-ten, Named, named-rooms, named-order, six-rooms}
 use Rattle.starting.specs.Picks.{jobsKept}
 use Rattle.starting.specs.PicksLaws.{kept-list}
 use Rattle.planner.specs.Calls.{planChecks, planVerdict, figuresOf, plannedBy, plannedOf, PlanCall}
@@ -36,17 +37,16 @@ use Rattle.planner.specs.declared.Planned.the-variants.{Made}
 
 -- ---- the answer in numbers
 
--- A refusal: all but its number and place is 0.
-abbrev pub refusedWith : ℕ → ℕ → PlanNumbers
-refusedWith n p =
-    record { refusal = n; place = p; mask = 0; kept = 0; keptWeight = 0; lostWeight = 0; finish = pos 0; points = 0 }
+-- A refusal: all but its own numbers is 0.
+abbrev pub refusedWith : Refusal → PlanNumbers
+refusedWith r =
+    record { refusal = r; mask = 0; kept = 0; keptWeight = 0; lostWeight = 0; finish = pos 0; points = 0 }
 
 -- A plan of some jobs with the bus free at a time, by the choice that it makes and the point that it ends in.
 abbrev pub plannedWith : ℤ → List Job → Ended → PlanNumbers
 plannedWith t js e =
     record {
-      refusal = 0;
-      place = 0;
+      refusal = noRefusal;
       mask = mask (e .choice);
       kept = numberKept (e .choice);
       keptWeight = e .end .weight;
@@ -62,14 +62,14 @@ module _ (bytes : List ℕ) (starts work : List ℤ) where
   abbrev jobs : List Job
   jobs = orderOf bytes .jobs
 
-  -- Refused by a check: the number and the place of the first that applies.
-  pub refused-says : {n p : ℕ} → planVerdict bytes starts work ≡ refused n p
-      → planNumbers (plannedOf bytes starts work) ≡ refusedWith n p
+  -- Refused by a check: what the first that applies says.
+  pub refused-says : {r : Refusal} → planVerdict bytes starts work ≡ refused r
+      → planNumbers (plannedOf bytes starts work) ≡ refusedWith r
   refused-says e = rw e
 
   -- Past the checks: 11 where there is no plan,
   pub no-plan-says : planVerdict bytes starts work ≡ fine → plan t0 jobs ≡ none
-      → planNumbers (plannedOf bytes starts work) ≡ refusedWith 11 0
+      → planNumbers (plannedOf bytes starts work) ≡ refusedWith (plainly 11)
   no-plan-says e is = rw (e, is)
 
   -- else the numbers of the plan.
@@ -92,25 +92,49 @@ module _ (bytes : List ℕ) (starts work : List ℤ) where
       )
 
   -- No refusal by them has a number above 10.
-  pub plan-ten : {n p : ℕ} → planVerdict bytes starts work ≡ refused n p → n ≤ 10
+  pub plan-ten : {r : Refusal} → planVerdict bytes starts work ≡ refused r → r .number ≤ 10
   unfolding planChecks headerChecks jobChecks weightChecks
   plan-ten = up-to-ten (planChecks bytes starts work) tt
 
-  -- Their places are those of 6 and 7, or else 0,
-  plan-placed : Placed (numbersOf bytes) (planChecks bytes starts work)
+  -- They name a place with 6 and 7, and a field with 6;
+  plan-named : Named (numbersOf bytes) (planChecks bytes starts work)
   unfolding planChecks
-  plan-placed =
-      placed-rooms (numbersOf bytes) (orderChecks bytes) (countOf bytes) (length starts) area (length work) (placed-order bytes)
+  plan-named =
+      named-rooms (numbersOf bytes) (orderChecks bytes) (countOf bytes) (length starts) area (length work) (named-order bytes)
 
-  -- and so is the place of the answer.
-  pub plan-place : let a = planNumbers (plannedOf bytes starts work) in PlaceIs (numbersOf bytes) (a .refusal) (a .place)
-  plan-place = go (planVerdict bytes starts work) refl (planAnswer (orderOf bytes))
+  -- 6 is given with 1 to 5 passed and a job out of range.
+  plan-checks-six : SixIs (numbersOf bytes) (headerChecks bytes) (planChecks bytes starts work)
+  unfolding planChecks
+  plan-checks-six =
+      six-rooms (numbersOf bytes) (headerChecks bytes) (orderChecks bytes) (countOf bytes) (length starts) area (length work)
+      (six-order bytes)
+
+  -- What is told by a verdict; past the checks it is 11 or nothing.
+  abbrev pub told : Verdict → Refusal
+  told v = planNumbers (plannedBy v (planAnswer (orderOf bytes))) .refusal
+
+  pub passed-told : RefusalIs (numbersOf bytes) (told fine) × ((n : ℕ) → n ≢ 11 → n ≢ 0 → told fine .number ≢ n)
+  passed-told = go (planAnswer (orderOf bytes))
     where
-      go : (v : Verdict) → planVerdict bytes starts work ≡ v → (o : Option Answer)
-          → let a = planNumbers (plannedBy v o) in PlaceIs (numbersOf bytes) (a .refusal) (a .place)
-      go fine d none = nowhere {n = 11} refl
-      go fine d (some a) = nowhere {n = 0} refl
-      go (refused n p) d o = plan-placed n p d
+      go : (o : Option Answer) → let r = planNumbers (plannedBy fine o) .refusal in
+          RefusalIs (numbersOf bytes) r × ((n : ℕ) → n ≢ 11 → n ≢ 0 → r .number ≢ n)
+      go none = (nowhere {n = 11} refl, λ n eleven zero e. eleven (sym e))
+      go (some a) = (nowhere {n = 0} refl, λ n eleven zero e. zero (sym e))
+
+  -- So the answer's refusal names what it should,
+  pub plan-refusal : RefusalIs (numbersOf bytes) (told (planVerdict bytes starts work))
+  plan-refusal =
+      answer-refusal (numbersOf bytes) told (λ r. refl) (passed-told .0) (planVerdict bytes starts work) plan-named
+
+  -- and 6 is given with a place and a field exactly when 1 to 5 are passed, the first job out of range is there, and that is its
+  -- first field that is.
+  pub plan-six : (p f : ℕ) → told (planVerdict bytes starts work) ≡ inField 6 p f
+      ↔ ((judge (headerChecks bytes) ≡ fine) × BadField (numbersOf bytes) p f)
+  plan-six p f =
+      let other : told fine .number ≢ 6 = passed-told .1 6 (λ e. omega arith) (λ e. omega arith) in
+      Iff·trans
+      (answer-says (numbersOf bytes) told (λ r. refl) (passed-told .0) (inField 6 p f) other (planVerdict bytes starts work))
+      (plan-checks-six p f)
 
 -- ---- refusal 11
 
@@ -124,12 +148,12 @@ pub record NoneFeasible (bytes : List ℕ) (starts work : List ℤ) : Type 0 whe
 module _ (bytes : List ℕ) (starts work : List ℤ) {r : Planned} {starts′ work′ : List ℤ}
     (call : PlanCall bytes starts work r starts′ work′) where
   -- Every outcome that the contract allows has refusal 11 exactly then.
-  pub plan-eleven : planNumbers r .refusal ≡ 11 ↔ NoneFeasible bytes starts work
+  pub plan-eleven : planNumbers r .refusal .number ≡ 11 ↔ NoneFeasible bytes starts work
   plan-eleven =
       (λ e. there (planVerdict bytes starts work) refl (planAnswer (orderOf bytes)) refl (ap number (sym (call .answer)) ∙ e), back)
     where
       number : Planned → ℕ
-      number a = planNumbers a .refusal
+      number a = planNumbers a .refusal .number
 
       -- No answer is no plan, which is no feasible choice.
       without : (planAnswer (orderOf bytes) ≡ none) ↔ ((c : Choice) → feasible (orderOf bytes .jobs) c (orderOf bytes .t0) ≡ false)
@@ -140,14 +164,14 @@ module _ (bytes : List ℕ) (starts work : List ℤ) {r : Planned} {starts′ wo
           (λ e. is .0 (mapped .0 e), λ h. mapped .1 (is .1 h))
 
       there : (v : Verdict) → planVerdict bytes starts work ≡ v → (o : Option Answer) → planAnswer (orderOf bytes) ≡ o
-          → planNumbers (plannedBy v o) .refusal ≡ 11 → NoneFeasible bytes starts work
+          → planNumbers (plannedBy v o) .refusal .number ≡ 11 → NoneFeasible bytes starts work
       there fine d none is e =
           let passed = plan-passed bytes starts work .0 d in
           record { order = passed .0; places = passed .1; rows = passed .2; none = without .0 is }
       there fine d (some a) is e = absurd (omega arith)
-      there (refused n p) d o is e = absurd (omega (arith, plan-ten bytes starts work d))
+      there (refused r) d o is e = absurd (omega (arith, plan-ten bytes starts work d))
 
-      back : NoneFeasible bytes starts work → planNumbers r .refusal ≡ 11
+      back : NoneFeasible bytes starts work → planNumbers r .refusal .number ≡ 11
       back h =
           ap number (call .answer) ∙ rw (plan-passed bytes starts work .1 (h .order, h .places, h .rows), without .1 (h .none))
 
@@ -188,4 +212,4 @@ plan-fits bytes starts work call f m =
         let same : figuresOf a ≡ f = cc in
         rw (← same) (answer-fits bytes a (plan-passed bytes starts work .0 v .0) is)
     go fine v none is m = let z : _≡_ {A = ℕ} 0 1 = cc in absurd (omega arith)
-    go (refused n p) v o is m = let z : _≡_ {A = ℕ} 0 1 = cc in absurd (omega arith)
+    go (refused r) v o is m = let z : _≡_ {A = ℕ} 0 1 = cc in absurd (omega arith)

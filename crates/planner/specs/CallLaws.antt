@@ -4,7 +4,8 @@ use mathlib.Core.Path.{_≡_, _∙_}
 use mathlib.Core.List.{List, _++_}
 use lib.IntN.{ℤ}
 use lib.ListN.{length}
-use Rattle.packed.specs.Judge.{fine, refused, judge}
+use Rattle.packed.specs.declared.Refusal.{Refusal}
+use Rattle.packed.specs.Judge.{plainly, fine, refused, judge}
 use Rattle.packed.specs.Packed.{countOf}
 use Rattle.packed.specs.Refusals.{roomChecks, orderChecks}
 use Rattle.cells.specs.Work.{area, cleared}
@@ -19,27 +20,27 @@ use Rattle.planner.specs.declared.Planned.the-variants.{Refused}
 
 module _ (bytes : List ℕ) (starts work : List ℤ) where
   -- A refusal changes no buffer.
-  plan-refused : {n p : ℕ} → planVerdict bytes starts work ≡ refused n p → PlanCall bytes starts work (Refused n p) starts work
+  plan-refused : {r : Refusal} → planVerdict bytes starts work ≡ refused r → PlanCall bytes starts work (Refused r) starts work
   plan-refused e = record { answer = rw e; written = rw e; area = rw e }
 
   -- By the order's checks,
-  pub plan-stopped : (n p : ℕ) → verdictOf (judge (orderChecks bytes)) ≡ Stopped n p
-      → PlanCall bytes starts work (Refused n p) starts work
+  pub plan-stopped : (r : Refusal) → verdictOf (judge (orderChecks bytes)) ≡ Stopped r
+      → PlanCall bytes starts work (Refused r) starts work
   unfolding planChecks
-  plan-stopped n p e =
+  plan-stopped r e =
       plan-refused
       (stays (orderChecks bytes ++ roomChecks (countOf bytes) (length starts)) (roomChecks area (length work))
-      (stays (orderChecks bytes) (roomChecks (countOf bytes) (length starts)) (refusal-told _ n p e)))
+      (stays (orderChecks bytes) (roomChecks (countOf bytes) (length starts)) (refusal-told _ r e)))
 
   module _ (passed : judge (orderChecks bytes) ≡ fine) where
     -- by the room for the starts,
-    pub plan-no-room : length starts < countOf bytes → PlanCall bytes starts work (Refused 10 0) starts work
+    pub plan-no-room : length starts < countOf bytes → PlanCall bytes starts work (Refused (plainly 10)) starts work
     unfolding planChecks
     plan-no-room h = plan-refused (no-room (orderChecks bytes) passed (countOf bytes) (length starts) area (length work) h)
 
     module _ (places : countOf bytes ≤ length starts) where
       -- or by that for the rows.
-      pub plan-no-space : length work < area → PlanCall bytes starts work (Refused 10 0) starts work
+      pub plan-no-space : length work < area → PlanCall bytes starts work (Refused (plainly 10)) starts work
       unfolding planChecks
       plan-no-space h =
           plan-refused (no-space (orderChecks bytes) passed (countOf bytes) (length starts) area (length work) places h)

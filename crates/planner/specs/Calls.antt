@@ -6,7 +6,8 @@ use mathlib.Core.Option.{Option, none, some}
 use lib.IntN.{ℤ, pos}
 use lib.ListN.{length}
 use Rattle.plan.specs.Plan.{Answer, planAnswer}
-use Rattle.packed.specs.Judge.{Check, Verdict, fine, refused, judge}
+use Rattle.packed.specs.declared.Refusal.{Refusal}
+use Rattle.packed.specs.Judge.{plainly, noRefusal, Check, Verdict, fine, refused, judge}
 use Rattle.packed.specs.Packed.{countOf, orderOf}
 use Rattle.packed.specs.Refusals.{roomChecks, orderChecks}
 use Rattle.profiles.specs.Numbers.{writtenOver}
@@ -39,13 +40,13 @@ figuresOf a =
 
 -- The answer by the verdict and the plan; with no feasible choice it is 11.
 abbrev pub plannedBy : Verdict → Option Answer → Planned
-plannedBy (refused n p) plan = Refused n p
-plannedBy fine none = Refused 11 0
+plannedBy (refused r) plan = Refused r
+plannedBy fine none = Refused (plainly 11)
 plannedBy fine (some a) = Made (figuresOf a)
 
 -- The starts at exit: written over the front where there is a plan.
 abbrev pub startsBy : Verdict → Option Answer → List ℤ → List ℤ
-startsBy (refused n p) plan starts = starts
+startsBy (refused r) plan starts = starts
 startsBy fine none starts = starts
 startsBy fine (some a) starts = writtenOver (a .starts) starts
 
@@ -66,12 +67,11 @@ pub record PlanCall (bytes : List ℕ) (starts work : List ℤ) (r : Planned) (s
   pub written : starts′ ≡ startsAfter bytes starts work
   pub area : work′ ≡ planWorkAfter bytes starts work
 
--- ---- the numbers for each case (R8); all but the refusal and its place are 0 in a refused answer (R26)
+-- ---- the numbers for each case (R8); all but those of the refusal are 0 in a refused answer (R26)
 
 -- The answer of planning.
 pub record PlanNumbers : Type 0 where
-  pub refusal : ℕ
-  pub place : ℕ
+  pub refusal : Refusal
   pub mask : ℕ
   pub kept : ℕ
   pub keptWeight : ℕ
@@ -80,12 +80,11 @@ pub record PlanNumbers : Type 0 where
   pub points : ℕ
 
 abbrev pub planNumbers : Planned → PlanNumbers
-planNumbers (Refused n p) =
-    record { refusal = n; place = p; mask = 0; kept = 0; keptWeight = 0; lostWeight = 0; finish = pos 0; points = 0 }
+planNumbers (Refused r) =
+    record { refusal = r; mask = 0; kept = 0; keptWeight = 0; lostWeight = 0; finish = pos 0; points = 0 }
 planNumbers (Made f) =
     record {
-      refusal = 0;
-      place = 0;
+      refusal = noRefusal;
       mask = f .mask;
       kept = f .kept;
       keptWeight = f .«kept_weight»;

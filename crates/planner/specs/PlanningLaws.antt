@@ -17,6 +17,7 @@ use Rattle.plan.specs.Plan.{Ended, plan, Answer, answerOf, planAnswer}
 use Rattle.plan.specs.Figures.{Figures as Fitting, plan-figures}
 use Rattle.rows.specs.Row.{Row, startRow, heaviest}
 use Rattle.rows.specs.PlanLaws.{plan-end-heaviest}
+use Rattle.packed.specs.Judge.{plainly}
 use Rattle.packed.specs.Packed.{countOf, t0Of, orderOf, jobsIn}
 use Rattle.packed.specs.Accepted.{OrderFine, jobs-fit}
 use Rattle.profiles.specs.Numbers.{writtenOver}
@@ -178,7 +179,7 @@ module _ {bytes : List ℕ} {n : ℕ} {t0 : ℤ} {old work : List ℤ} (f : CanP
 
       -- With none there is no feasible choice,
       pub nothing-made : Nothing ≡ found (heaviestBy (rowAt filled (n * 301) top) never (suc top))
-          → MadeIn bytes old (Refused 11 0) old
+          → MadeIn bytes old (Refused (plainly 11)) old
       unfolding orderOf
       nothing-made e =
           let no-end = sym end-found ∙ found-nothing _ (sym e) in

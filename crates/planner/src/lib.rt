@@ -11,6 +11,8 @@ use fields::header_at;
 use filling::fill_rows;
 use judge::Verdict;
 use judge::judge_order;
+use packed::Refusal;
+use packed::plainly;
 use starting::kept_of;
 use starting::write_starts;
 use walking::walk;
@@ -31,9 +33,9 @@ pub struct Figures {
     pub points: u32,
 }
 
-// What planning answers: a refusal with its number and place, or a plan.
+// What planning answers: a refusal, or a plan.
 pub enum Planned {
-    Refused(u32, usize),
+    Refused(Refusal),
     Made(Figures),
 }
 
@@ -73,7 +75,7 @@ fn plan_by_rows(bytes: &[u8], n: usize, t0: i32, starts: &mut [i32], work: &mut 
     start_row(work, t0);
     let top = fill_rows(work, bytes, n, 0);
     match heaviest_by(work, n * ROW, top, NEVER) {
-        Found::Nothing => Planned::Refused(11, 0),
+        Found::Nothing => Planned::Refused(plainly(11)),
         Found::At(weight, finish) => make_plan(bytes, n, t0, top, weight, finish, starts, work),
     }
 }
@@ -88,10 +90,10 @@ pub fn plan_order(bytes: &[u8], starts: &mut [i32], work: &mut [i32]) -> Planned
     let n = header.count;
     let t0 = header.t0;
     if starts.len() < n {
-        return Planned::Refused(10, 0);
+        return Planned::Refused(plainly(10));
     }
     if work.len() < AREA {
-        return Planned::Refused(10, 0);
+        return Planned::Refused(plainly(10));
     }
     let answer = plan_by_rows(bytes, n, t0, starts, work);
     clear(work);
@@ -104,7 +106,7 @@ pub fn plan(bytes: &[u8], starts: &mut [i32], work: &mut [i32]) -> Planned
         PlanCall (now (bytes .entry)) (now (starts .entry)) (now (work .entry)) r (now (starts .exit)) (now (work .exit)) ⌝ }
 {
     match judge_order(bytes, 0) {
-        Verdict::Refused(number, place) => Planned::Refused(number, place),
+        Verdict::Refused(refusal) => Planned::Refused(refusal),
         Verdict::Fine => plan_order(bytes, starts, work),
     }
 }

@@ -9,7 +9,8 @@ use Rattle.packed.specs.Layout.{decode, encode, numberOf, bytesOf}
 use Rattle.packed.specs.Places.{part, flat}
 use Rattle.packed.specs.Packed.{headerWord, headerOf, countOf, t0Of, spareOf, recordAt, jobWord, jobFields}
 use Rattle.packed.specs.Packed.{jobCount, fieldsAt, packedHeader, packedJob, packOrder}
-use Rattle.packed.specs.Refusals.{fieldsWithin, headerChecks}
+use Rattle.packed.specs.Judge.{inField, plainly}
+use Rattle.packed.specs.Refusals.{fieldsWithin, badField, headerChecks}
 use Rattle.reader.specs.Reading.{openOf, jobFrom, stepOf}
 use Rattle.reader.specs.declared.Opened.{Opened}
 use Rattle.reader.specs.declared.Opened.the-variants as opened
@@ -43,6 +44,24 @@ p1 = packOrder (negsuc 599) (first ++ second ++ third ++ fourth ++ last)
 abbrev damaged : List ℕ
 damaged = packOrder (negsuc 599) (first ++ second ++ (pos 12 ∷ pos 0 ∷ pos 15 ∷ pos 0 ∷ pos 0 ∷ pos 300 ∷ []) ++ fourth ++ last)
 
+-- A job with number 1: its mark, weight, ready time, length and deadline.
+abbrev shaped : ℕ → ℕ → ℤ → ℕ → ℤ → List ℤ
+shaped mark weight ready long deadline = pos 1 ∷ pos mark ∷ pos weight ∷ ready ∷ pos long ∷ deadline ∷ []
+
+-- Jobs out of range in the fields 3 to 6: of each field but the last one in it alone, then one in it and a later one; a critical
+-- job of weight 1 last.
+abbrev bad : List ℕ
+bad =
+    packOrder (pos 0)
+    (shaped 0 0 (pos 0) 1 (pos 1)
+    ++ shaped 0 51 (pos 100001) 1 (pos 1)
+    ++ shaped 0 1 (pos 100001) 1 (pos 1)
+    ++ shaped 0 1 (negsuc 100000) 1 (pos 100001)
+    ++ shaped 0 1 (pos 0) 10001 (pos 1)
+    ++ shaped 0 1 (pos 0) 0 (negsuc 100000)
+    ++ shaped 0 1 (pos 0) 1 (pos 100001)
+    ++ shaped 1 1 (pos 0) 1 (pos 1))
+
 -- One job seven times: its number is repeated, and the weights sum to 350.
 abbrev heavy : List ℤ
 heavy = pos 1 ∷ pos 0 ∷ pos 50 ∷ pos 0 ∷ pos 1 ∷ pos 1 ∷ []
@@ -72,17 +91,26 @@ edges =
     ∷ edge p1 6 read.End 6
     -- a job out of range; those beside it are given
     ∷ edge damaged 1 (read.Job (jobFrom second)) 2
-    ∷ edge damaged 2 (read.Refused 6 2) 2
+    ∷ edge damaged 2 (read.Refused (inField 6 2 5)) 2
     ∷ edge damaged 3 (read.Job (jobFrom fourth)) 4
+    -- the first field that is out of range: the weight, the ready time, the length and the deadline
+    ∷ edge bad 0 (read.Refused (inField 6 0 3)) 0
+    ∷ edge bad 1 (read.Refused (inField 6 1 3)) 1
+    ∷ edge bad 2 (read.Refused (inField 6 2 4)) 2
+    ∷ edge bad 3 (read.Refused (inField 6 3 4)) 3
+    ∷ edge bad 4 (read.Refused (inField 6 4 5)) 4
+    ∷ edge bad 5 (read.Refused (inField 6 5 5)) 5
+    ∷ edge bad 6 (read.Refused (inField 6 6 6)) 6
+    ∷ edge bad 7 (read.Refused (inField 6 7 3)) 7
     -- 7 and 9 are not judged
     ∷ edge repeated 6 (read.Job (jobFrom heavy)) 7
     -- bytes that are not accepted
-    ∷ edge [] 0 (read.Refused 1 0) 0
-    ∷ edge [] 7 (read.Refused 1 0) 7
-    ∷ edge (0 ∷ 0 ∷ 0 ∷ 1 ∷ []) 0 (read.Refused 2 0) 0
-    ∷ edge (196 ∷ 0 ∷ 0 ∷ 0 ∷ []) 0 (read.Refused 3 0) 0
-    ∷ edge (p1 ++ 0 ∷ []) 2 (read.Refused 4 0) 2
-    ∷ edge (1 ∷ 0x86 ∷ 0xA1 ∷ 0 ∷ []) 0 (read.Refused 5 0) 0
+    ∷ edge [] 0 (read.Refused (plainly 1)) 0
+    ∷ edge [] 7 (read.Refused (plainly 1)) 7
+    ∷ edge (0 ∷ 0 ∷ 0 ∷ 1 ∷ []) 0 (read.Refused (plainly 2)) 0
+    ∷ edge (196 ∷ 0 ∷ 0 ∷ 0 ∷ []) 0 (read.Refused (plainly 3)) 0
+    ∷ edge (p1 ++ 0 ∷ []) 2 (read.Refused (plainly 4)) 2
+    ∷ edge (1 ∷ 0x86 ∷ 0xA1 ∷ 0 ∷ []) 0 (read.Refused (plainly 5)) 0
     -- no jobs
     ∷ edge (0 ∷ 0 ∷ 0 ∷ 0 ∷ []) 0 read.End 0
     ∷ []
@@ -96,5 +124,5 @@ pub edges-hold : (map (λ (e : Edge). e .asked) edges ≡ map (λ (e : Edge). e 
     × (openings
     ≡ opened.Accepted 5 ∷ opened.Accepted 5 ∷ opened.Accepted 7 ∷ opened.Refused 1 ∷ opened.Refused 4 ∷ opened.Accepted 0 ∷ [])
 unfolding decode encode numberOf bytesOf bitsTo toBits part flat headerWord headerOf countOf t0Of spareOf recordAt jobWord
-    jobFields jobCount fieldsAt packedHeader packedJob packOrder fieldsWithin headerChecks
+    jobFields jobCount fieldsAt packedHeader packedJob packOrder fieldsWithin badField headerChecks
 edges-hold = (refl, refl)

@@ -5,9 +5,10 @@ use mathlib.Core.Bool.{Bool, not, cond, _&&_}
 use mathlib.Core.List.{List, [], _∷_, _++_}
 use lib.Dec.{ltb}
 use lib.IntN.{ℤ}
-use Rattle.packed.specs.Judge.{Check, Verdict, fine, refused, judge}
+use Rattle.packed.specs.declared.Refusal.{Refusal}
+use Rattle.packed.specs.Judge.{inField, noRefusal, Check, Verdict, fine, refused, judge}
 use Rattle.packed.specs.Packed.{countOf, jobFields, theNumber, theMark, theWeight, theReady, theLength, theDeadline}
-use Rattle.packed.specs.Refusals.{fieldsWithin, headerChecks}
+use Rattle.packed.specs.Refusals.{fieldsWithin, badField, headerChecks}
 use Rattle.fields.specs.Fields.{fieldsOf}
 use Rattle.fields.specs.declared.Job.{Job}
 use Rattle.reader.specs.declared.Opened.{Opened}
@@ -21,7 +22,7 @@ use Rattle.reader.specs.declared.Moved.{Moved}
 -- The answer for a verdict, over bytes with so many jobs.
 abbrev pub openedBy : ℕ → Verdict → Opened
 openedBy count fine = opened.Accepted count
-openedBy count (refused n p) = opened.Refused n
+openedBy count (refused r) = opened.Refused (r .number)
 
 -- The answer over bytes.
 abbrev pub openOf : List ℕ → Opened
@@ -33,9 +34,9 @@ openOf bytes = openedBy (countOf bytes) (judge (headerChecks bytes))
 abbrev pub badJob : List ℕ → ℕ → Bool
 badJob bytes place = ltb place (countOf bytes) && not (fieldsWithin (jobFields bytes place))
 
--- Check 6 on the job at the place.
+-- Check 6 on the job at the place, with its first field that is out of range.
 abbrev pub placeCheck : List ℕ → ℕ → Check
-placeCheck bytes place = record { number = 6; applies = badJob bytes place; place = place }
+placeCheck bytes place = record { applies = badJob bytes place; says = inField 6 place (badField (jobFields bytes place)) }
 
 -- The checks of a step.
 abbrev pub stepChecks : List ℕ → ℕ → List Check
@@ -63,7 +64,7 @@ movedOn bytes place =
 -- The answer for a verdict; refused, the reader stays.
 abbrev pub steppedBy : List ℕ → ℕ → Verdict → Moved
 steppedBy bytes place fine = movedOn bytes place
-steppedBy bytes place (refused n p) = record { answer = read.Refused n p; place = place }
+steppedBy bytes place (refused r) = record { answer = read.Refused r; place = place }
 
 -- The answer of a step, and where the reader stands after it.
 abbrev pub stepOf : List ℕ → ℕ → Moved
@@ -81,26 +82,20 @@ abbrev pub openCount : Opened → ℕ
 openCount (opened.Accepted count) = count
 openCount (opened.Refused n) = 0
 
--- The refusal number that a step says.
-abbrev pub readRefusal : Read → ℕ
-readRefusal (read.Job job) = 0
-readRefusal read.End = 0
-readRefusal (read.Refused n p) = n
-
--- The place of the refusal.
-abbrev pub readPlace : Read → ℕ
-readPlace (read.Job job) = 0
-readPlace read.End = 0
-readPlace (read.Refused n p) = p
+-- The refusal that a step says.
+abbrev pub readRefusal : Read → Refusal
+readRefusal (read.Job job) = noRefusal
+readRefusal read.End = noRefusal
+readRefusal (read.Refused r) = r
 
 -- The end is told by 1.
 abbrev pub readEnd : Read → ℕ
 readEnd (read.Job job) = 0
 readEnd read.End = 1
-readEnd (read.Refused n p) = 0
+readEnd (read.Refused r) = 0
 
 -- The numbers of the job.
 abbrev pub readNumbers : Read → List ℤ
 readNumbers (read.Job job) = fieldsOf job
 readNumbers read.End = []
-readNumbers (read.Refused n p) = []
+readNumbers (read.Refused r) = []

@@ -1,8 +1,9 @@
 -- The laws of the reader: what a step says in each case, the refusals that the reader can give, and what reading an order
 -- gives job by job.
 use Prim.Native.Nat.{ℕ, _+_, _≤_, _<_}
-use mathlib.Core.Path.{_≡_, refl, sym, ap, _∙_}
+use mathlib.Core.Path.{_≡_, refl, sym, ap, subst, _∙_}
 use mathlib.Core.Bool.{Bool, true, false, _&&_, and-eq-true-iff}
+use mathlib.Core.Logic.{_↔_, _≢_}
 use mathlib.Core.List.{List, [], _∷_}
 use native.Mathlib.Omega.{arith}
 use lib.Dec.{T, ltb, leb, eqb, leb→le, eqb→eq}
@@ -10,15 +11,17 @@ use lib.Ieee.Fits.{and-l, and-r}
 use lib.IntN.{ℤ}
 use borrow.Author.Tests.{ltb-true, not-true, lt-ltb, le-ltb}
 use borrow.Table.Steps.{cases}
-use Rattle.packed.specs.Judge.{Check, Verdict, fine, refused, judge, orElse}
+use Rattle.packed.specs.declared.Refusal.{Refusal}
+use Rattle.packed.specs.Judge.{inField, plainly, noRefusal, Check, Verdict, fine, refused, judge, orElse}
 use Rattle.packed.specs.JudgeLaws.{judge-append, Tells, judge-tells}
 use Rattle.packed.specs.LayoutLaws.{job-decode}
 use Rattle.packed.specs.Places.{flat}
 use Rattle.packed.specs.PlacesLaws.{flat-cong}
 use Rattle.packed.specs.Packed.{countOf, jobWord, jobFields, numbersOf, fieldsAt}
 use Rattle.packed.specs.PackedLaws.{fields-is, numbers-is, numbers-count, fields-of-numbers}
-use Rattle.packed.specs.Refusals.{fieldsWithin, headerChecks, orderChecks}
+use Rattle.packed.specs.Refusals.{fieldsWithin, badField, headerChecks, orderChecks}
 use Rattle.packed.specs.RefusalLaws.{HeaderFine, header-fine, within-is}
+use Rattle.packed.specs.FieldLaws.{FieldIs, field-unique, bad-field-is}
 use Rattle.packed.specs.Accepted.{order-fine}
 use Rattle.fields.specs.Fields.{fieldsOf}
 use Rattle.fields.specs.declared.Job.{Job}
@@ -43,8 +46,8 @@ module _ (bytes : List ℕ) (place : ℕ) where
   stages = judge-append (headerChecks bytes) (placeCheck bytes place ∷ [])
 
   -- Bytes that are not accepted: their refusal, and the reader stays.
-  pub step-refused : {n p : ℕ} → judge (headerChecks bytes) ≡ refused n p
-      → stepOf bytes place ≡ record { answer = read.Refused n p; place = place }
+  pub step-refused : {r : Refusal} → judge (headerChecks bytes) ≡ refused r
+      → stepOf bytes place ≡ record { answer = read.Refused r; place = place }
   step-refused e = rw (stages, e)
 
   module _ (accepted : judge (headerChecks bytes) ≡ fine) where
@@ -65,67 +68,120 @@ module _ (bytes : List ℕ) (place : ℕ) where
           let e = lt-ltb place (countOf bytes) below in
           step-by {v = fine} (rw (e, w)) ∙ rw e
 
-      -- At a job out of range: refusal 6 with its place, and the reader stays.
-      pub step-bad : fieldsWithin (jobFields bytes place) ≡ false
-          → stepOf bytes place ≡ record { answer = read.Refused 6 place; place = place }
-      step-bad w = step-by {v = refused 6 place} (rw (lt-ltb place (countOf bytes) below, w))
+      -- At a job out of range: refusal 6 with its place and its first field that is, and the reader stays.
+      pub step-bad : fieldsWithin (jobFields bytes place) ≡ false → let r = inField 6 place (badField (jobFields bytes place)) in
+          stepOf bytes place ≡ record { answer = read.Refused r; place = place }
+      step-bad w = step-by {v = refused _} (rw (lt-ltb place (countOf bytes) below, w))
 
 -- ---- the refusals that the reader gives
 
--- A refusal of bytes that are not accepted: 1 to 5, with no place.
-pub record Unaccepted (n p : ℕ) : Type 0 where
-  pub low : 1 ≤ n
-  pub high : n ≤ 5
-  pub nowhere : p ≡ 0
+-- A refusal of bytes that are not accepted: 1 to 5, with no place and no field.
+pub record Unaccepted (r : Refusal) : Type 0 where
+  pub low : 1 ≤ r .number
+  pub high : r .number ≤ 5
+  pub plain : r ≡ plainly (r .number)
 
--- A refusal of a step: such a one, or 6 with the place at which the reader stands, where the job is out of range.
-pub data StepRefusal (bytes : List ℕ) (place : ℕ) : ℕ → ℕ → Type 0 where
-  unaccepted : {n p : ℕ} → Unaccepted n p → StepRefusal bytes place n p
-  bad : place < countOf bytes → fieldsWithin (jobFields bytes place) ≡ false → StepRefusal bytes place 6 place
+-- Bytes that are accepted have a job at a place, it is out of range, and this is its first field that is.
+pub record BadHere (bytes : List ℕ) (place f : ℕ) : Type 0 where
+  pub passed : judge (headerChecks bytes) ≡ fine
+  pub below : place < countOf bytes
+  pub out : fieldsWithin (jobFields bytes place) ≡ false
+  pub field : FieldIs (jobFields bytes place) f
 
--- Checks 1 to 5, with no place.
+-- A refusal of a step: of bytes that are not accepted, or 6 with the place at which the reader stands, where the job is out of
+-- range, and the job's first field that is.
+pub data StepRefusal (bytes : List ℕ) (place : ℕ) : Refusal → Type 0 where
+  unaccepted : {r : Refusal} → Unaccepted r → StepRefusal bytes place r
+  bad : {f : ℕ} → BadHere bytes place f → StepRefusal bytes place (inField 6 place f)
+
+-- Checks 1 to 5, with no place and no field.
 abbrev oneToFive : List Check → Bool
 oneToFive [] = true
-oneToFive (c ∷ cs) = leb 1 (c .number) && (leb (c .number) 5 && (eqb (c .place) 0 && oneToFive cs))
+oneToFive (c ∷ cs) =
+    leb 1 (c .says .number) && (leb (c .says .number) 5
+    && (eqb (c .says .place) 0 && (eqb (c .says .field) 0 && oneToFive cs)))
 
 one-to-five-tell : (cs : List Check) → T (oneToFive cs) → Tells Unaccepted cs
 one-to-five-tell [] t = tt
 one-to-five-tell (c ∷ cs) t =
-    let low : 1 ≤ c .number = leb→le 1 (c .number) (search and-l) in
-    let high : c .number ≤ 5 = leb→le (c .number) 5 (search (and-l, and-r)) in
-    let nowhere : c .place ≡ 0 = eqb→eq (c .place) 0 (search (and-l, and-r)) in
-    (λ _. record { low = low; high = high; nowhere = nowhere }, one-to-five-tell cs (search (and-l, and-r)))
+    let low : 1 ≤ c .says .number = leb→le 1 (c .says .number) (search and-l) in
+    let high : c .says .number ≤ 5 = leb→le (c .says .number) 5 (search (and-l, and-r)) in
+    let place : c .says .place ≡ 0 = eqb→eq (c .says .place) 0 (search (and-l, and-r)) in
+    let field : c .says .field ≡ 0 = eqb→eq (c .says .field) 0 (search (and-l, and-r)) in
+    let plain : c .says ≡ plainly (c .says .number) = λ i. inField (c .says .number) (place i) (field i) in
+    (λ _. record { low = low; high = high; plain = plain }, one-to-five-tell cs (search (and-l, and-r)))
 
 -- Opening is refused so.
-pub open-refusal : (bytes : List ℕ) {n p : ℕ} → judge (headerChecks bytes) ≡ refused n p → Unaccepted n p
+pub open-refusal : (bytes : List ℕ) {r : Refusal} → judge (headerChecks bytes) ≡ refused r → Unaccepted r
 unfolding headerChecks
 open-refusal bytes = judge-tells Unaccepted (headerChecks bytes) (one-to-five-tell (headerChecks bytes) tt)
 
 module _ (bytes : List ℕ) (place : ℕ) where
   -- A step is refused so.
-  pub step-refusal : {n p : ℕ} → judge (stepChecks bytes place) ≡ refused n p → StepRefusal bytes place n p
-  step-refusal {n} {p} e = go (judge (headerChecks bytes)) refl
+  pub step-refusal : {r : Refusal} → judge (stepChecks bytes place) ≡ refused r → StepRefusal bytes place r
+  step-refusal {r} e = go (judge (headerChecks bytes)) refl
     where
-      go : (v : Verdict) → judge (headerChecks bytes) ≡ v → StepRefusal bytes place n p
+      go : (v : Verdict) → judge (headerChecks bytes) ≡ v → StepRefusal bytes place r
       go fine f =
-          judge-tells (StepRefusal bytes place) (placeCheck bytes place ∷ [])
-          (λ b. let both = and-eq-true-iff _ _ .0 b in bad (ltb-true _ _ (both .0)) (not-true _ (both .1)), tt)
+          judge-tells (StepRefusal bytes place) (placeCheck bytes place ∷ []) (
+            λ b.
+                let both = and-eq-true-iff _ _ .0 b in
+                let out = not-true _ (both .1) in
+                bad (record { passed = f; below = ltb-true _ _ (both .0); out = out; field = bad-field-is _ out }),
+            tt,
+          )
           (rw (stages bytes place, f) at e)
-      go (refused m q) f =
-          let same : refused m q ≡ refused n p = rw (stages bytes place, f) at e in
+      go (refused s) f =
+          let same : refused s ≡ refused r = rw (stages bytes place, f) at e in
           unaccepted (open-refusal bytes (f ∙ same))
 
-  -- Its number is at most 6: 7 and 9 are not judged.
-  pub step-to-six : readRefusal (stepOf bytes place .answer) ≤ 6
-  step-to-six = go (judge (stepChecks bytes place)) refl
-    where
-      told : {n p : ℕ} → StepRefusal bytes place n p → n ≤ 6
-      told (unaccepted u) = omega (arith, u .high)
-      told (bad h e) = omega arith
+  -- What a step says: no refusal, or one of those.
+  pub data StepSaid : Refusal → Type 0 where
+    none : StepSaid noRefusal
+    one : {r : Refusal} → StepRefusal bytes place r → StepSaid r
 
-      go : (v : Verdict) → judge (stepChecks bytes place) ≡ v → readRefusal (steppedBy bytes place v .answer) ≤ 6
-      go fine e = cases (ltb place (countOf bytes)) (λ t. rw t (omega arith)) (λ t. rw t (omega arith))
-      go (refused n p) e = told (step-refusal e)
+  pub step-said : StepSaid (readRefusal (stepOf bytes place .answer))
+  step-said = go (judge (stepChecks bytes place)) refl
+    where
+      go : (v : Verdict) → judge (stepChecks bytes place) ≡ v → StepSaid (readRefusal (steppedBy bytes place v .answer))
+      go fine e = cases (ltb place (countOf bytes)) (λ t. rw t none) (λ t. rw t none)
+      go (refused r) e = one (step-refusal e)
+
+  -- Its number is at most 6: 7 and 9 are not judged.
+  pub step-to-six : readRefusal (stepOf bytes place .answer) .number ≤ 6
+  step-to-six = told step-said
+    where
+      told : {r : Refusal} → StepSaid r → r .number ≤ 6
+      told none = omega arith
+      told (one (unaccepted u)) = omega (arith, u .high)
+      told (one (bad b)) = omega arith
+
+  -- It is 6 with a place and a field exactly when the bytes are accepted, the reader stands at that place, the job there is out
+  -- of range, and that is its first field that is.
+  pub step-six : (p f : ℕ) → readRefusal (stepOf bytes place .answer) ≡ inField 6 p f ↔ ((p ≡ place) × BadHere bytes place f)
+  step-six p f = (λ e. there step-said e, back)
+    where
+      there : {r : Refusal} → StepSaid r → r ≡ inField 6 p f → (p ≡ place) × BadHere bytes place f
+      there none e = absurd (omega (arith, ap (λ (r : Refusal). r .number) e))
+      there (one (unaccepted u)) e = absurd (omega (arith, u .high, ap (λ (r : Refusal). r .number) e))
+      there (one (bad b)) e =
+          (ap (λ (r : Refusal). r .place) (sym e), subst (BadHere bytes place) (ap (λ (r : Refusal). r .field) e) b)
+
+      back : (p ≡ place) × BadHere bytes place f → readRefusal (stepOf bytes place .answer) ≡ inField 6 p f
+      back h =
+          let b = h .1 in
+          let its = field-unique (jobFields bytes place) _ f (bad-field-is (jobFields bytes place) (b .out)) (b .field) in
+          ap (λ (m : Moved). readRefusal (m .answer)) (step-bad bytes place (b .passed) (b .below) (b .out))
+          ∙ (λ i. inField 6 (sym (h .0) i) (its i))
+
+  -- No other answer names a field.
+  pub step-field-0 : readRefusal (stepOf bytes place .answer) .number ≢ 6 → readRefusal (stepOf bytes place .answer) .field ≡ 0
+  step-field-0 = told step-said
+    where
+      told : {r : Refusal} → StepSaid r → r .number ≢ 6 → r .field ≡ 0
+      told none h = refl
+      told (one (unaccepted u)) h = ap (λ (r : Refusal). r .field) (u .plain)
+      told (one (bad b)) h = absurd (h refl)
 
 -- ---- what the answer of opening says
 
@@ -143,19 +199,19 @@ module _ (bytes : List ℕ) where
       go : (v : Verdict) → judge (headerChecks bytes) ≡ v → openedBy (countOf bytes) v ≡ opened.Accepted count
           → OpenFine bytes count
       go fine f h = record { header = header-fine bytes .0 f; passed = f; counted = sym (ap openCount h) }
-      go (refused n p) f h = let z : _≡_ {A = ℕ} 0 1 = cc in absurd (omega arith)
+      go (refused r) f h = let z : _≡_ {A = ℕ} 0 1 = cc in absurd (omega arith)
 
   -- Bytes that were not: a step says the same number.
   pub open-refused : (place n : ℕ) → openOf bytes ≡ opened.Refused n
-      → stepOf bytes place ≡ record { answer = read.Refused n 0; place = place }
+      → stepOf bytes place ≡ record { answer = read.Refused (plainly n); place = place }
   open-refused place n e = go (judge (headerChecks bytes)) refl e
     where
       go : (v : Verdict) → judge (headerChecks bytes) ≡ v → openedBy (countOf bytes) v ≡ opened.Refused n
-          → stepOf bytes place ≡ record { answer = read.Refused n 0; place = place }
+          → stepOf bytes place ≡ record { answer = read.Refused (plainly n); place = place }
       go fine f h = let z : _≡_ {A = ℕ} 0 1 = cc in absurd (omega arith)
-      go (refused m p) f h =
-          step-refused bytes place f
-          ∙ (λ i. record { answer = read.Refused (ap openRefusal h i) (open-refusal bytes f .nowhere i); place = place })
+      go (refused r) f h =
+          let same : r ≡ plainly n = open-refusal bytes f .plain ∙ ap plainly (ap openRefusal h) in
+          step-refused bytes place f ∙ (λ i. record { answer = read.Refused (same i); place = place })
 
 -- ---- an order, read job by job
 

@@ -3,6 +3,9 @@ ghost use mathlib.Core.Path.{_≡_};
 ghost use Rattle.reader.specs.Reading.{openOf, stepOf};
 use fields::Job;
 use judge::Verdict;
+use packed::Refusal;
+use packed::in_field;
+use packed::plainly;
 
 // Bytes that pass checks 1 to 5, with the count of their jobs; or the number of their refusal.
 pub enum Opened {
@@ -10,11 +13,11 @@ pub enum Opened {
     Refused(u32),
 }
 
-// What a step gives: the job, the end, or a refusal with its number and place.
+// What a step gives: the job, the end, or a refusal.
 pub enum Read {
     Job(Job),
     End,
-    Refused(u32, usize),
+    Refused(Refusal),
 }
 
 // What a step gives, and the place at which the reader then stands.
@@ -28,7 +31,7 @@ pub fn open(bytes: &[u8]) -> Opened
     ensures { λ r. ⌜ r ≡ openOf (now (bytes .entry)) ⌝ }
 {
     match judge::judge_header(bytes) {
-        Verdict::Refused(number, _) => Opened::Refused(number),
+        Verdict::Refused(refusal) => Opened::Refused(refusal.number),
         Verdict::Fine => {
             let header = fields::header_at(bytes);
             Opened::Accepted(header.count)
@@ -43,7 +46,7 @@ pub fn step(bytes: &[u8], place: usize) -> Moved
 {
     match open(bytes) {
         Opened::Refused(number) => Moved {
-            answer: Read::Refused(number, 0),
+            answer: Read::Refused(plainly(number)),
             place: place,
         },
         Opened::Accepted(count) => {
@@ -54,9 +57,10 @@ pub fn step(bytes: &[u8], place: usize) -> Moved
                 };
             }
             let job = fields::job_at(bytes, 4 + 8 * place);
-            if !fields::within(job) {
+            let field = fields::bad_field(job);
+            if field != 0 {
                 return Moved {
-                    answer: Read::Refused(6, place),
+                    answer: Read::Refused(in_field(6, place, field)),
                     place: place,
                 };
             }

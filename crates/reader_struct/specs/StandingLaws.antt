@@ -2,6 +2,7 @@
 use Prim.Native.Nat.{ℕ}
 use mathlib.Core.Path.{_≡_, ap}
 use mathlib.Core.List.{List}
+use Rattle.packed.specs.Judge.{plainly}
 use Rattle.packed.specs.Refusals.{headerChecks}
 use Rattle.reader.specs.Reading.{openOf, stepOf}
 use Rattle.reader.specs.declared.Opened.{Opened}
@@ -16,6 +17,6 @@ read-accepted bytes place count e = ap (λ (o : Opened). stepOf (keptBytes o byt
 
 -- Over others it is a step over an empty part: refusal 1, and the reader stays.
 pub read-refused : (bytes : List ℕ) (place n : ℕ) → openOf bytes ≡ Refused n
-    → readAt bytes place .moved ≡ record { answer = read.Refused 1 0; place = place }
+    → readAt bytes place .moved ≡ record { answer = read.Refused (plainly 1); place = place }
 unfolding headerChecks
 read-refused bytes place n e = ap (λ (o : Opened). stepOf (keptBytes o bytes) place) e

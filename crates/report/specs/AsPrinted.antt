@@ -8,7 +8,7 @@ use Rattle.packed.specs.Layout.{decode, numberOf}
 use Rattle.packed.specs.Places.{part, flat, each, first}
 use Rattle.packed.specs.Packed.{headerWord, headerOf, countOf, t0Of, spareOf, recordAt, jobWord, jobFields, numbersOf}
 use Rattle.packed.specs.Packed.{jobCount, fieldsAt, jobOf, jobsOf, orderOf}
-use Rattle.packed.specs.Refusals.{fieldsWithin, firstBad, numberAt, firstRepeat, headerChecks, jobChecks, weightChecks}
+use Rattle.packed.specs.Refusals.{fieldsWithin, badField, firstBad, numberAt, firstRepeat, headerChecks, jobChecks, weightChecks}
 use Rattle.text.specs.Decimal.{digitsIn, digits, figure}
 use Rattle.report.specs.Report.{refusalLine, planLine, startWord, jobLine, jobLines, planText, textOf, reportOf}
 
@@ -35,6 +35,6 @@ morningText =
 -- So it is.
 pub morning-printed : reportOf morningBytes ≡ morningText
 unfolding rest bitsTo decode numberOf part flat each first headerWord headerOf countOf t0Of spareOf recordAt jobWord jobFields
-    numbersOf jobCount fieldsAt jobOf jobsOf orderOf fieldsWithin firstBad numberAt firstRepeat headerChecks jobChecks
+    numbersOf jobCount fieldsAt jobOf jobsOf orderOf fieldsWithin badField firstBad numberAt firstRepeat headerChecks jobChecks
     weightChecks digitsIn digits figure refusalLine planLine startWord jobLine jobLines planText textOf reportOf
 morning-printed = refl

@@ -10,7 +10,7 @@ use lib.ListN.{length, take, drop, length-append, take-append-drop}
 use lib.Seq.{take-all, take-append-le, length-take-le}
 use borrow.Author.Tests.{le-ltb, ltb-true, ltb-false, ne-eqb}
 use borrow.Table.Steps.{cases}
-use Rattle.packed.specs.Judge.{refused, judge}
+use Rattle.packed.specs.Judge.{plainly, refused, judge}
 use Rattle.packed.specs.JudgeLaws.{judge-append}
 use Rattle.packed.specs.Packed.{headerWord, countOf, spareOf, numbersOf}
 use Rattle.packed.specs.PackedLaws.{count-is, spare-is}
@@ -20,7 +20,7 @@ use Rattle.report.specs.Report.{refusalLine, textOf, reportOf, longestOr
 
 module _ (bytes : List ℕ) (long : longestOrder < length bytes) where
   -- Their header refuses them.
-  header-long : judge (headerChecks bytes) ≡ refused (tooLong bytes) 0
+  header-long : judge (headerChecks bytes) ≡ refused (plainly (tooLong bytes))
   header-long =
       header-judge bytes
       ∙ rw (le-ltb (length bytes) 4 (omega arith))
@@ -31,7 +31,7 @@ module _ (bytes : List ℕ) (long : longestOrder < length bytes) where
       (λ f. rw (e, f, ne-eqb (length bytes) (4 + 8 * countOf bytes) (λ q. omega (arith, ltb-false 48 (countOf bytes) f))))))
 
   -- Such bytes have one line.
-  pub long-text : reportOf bytes ≡ refusalLine (tooLong bytes) 0
+  pub long-text : reportOf bytes ≡ refusalLine (plainly (tooLong bytes))
   unfolding reportOf textOf
   long-text =
       rw (
@@ -45,7 +45,7 @@ pub longer-same : (bytes more : List ℕ) → longestOrder < length bytes → re
 unfolding headerWord
 longer-same bytes more long =
     long-text (bytes ++ more) (rw length-append (omega arith))
-    ∙ ap (λ n. refusalLine n 0) refused-same
+    ∙ ap (λ n. refusalLine (plainly n)) refused-same
     ∙ sym (long-text bytes long)
   where
     word : headerWord (bytes ++ more) ≡ headerWord bytes

@@ -10,7 +10,8 @@ use lib.ListN.{length, drop}
 use Rattle.seconds.specs.Limits.{leftOut}
 use Rattle.order.specs.Job.{Job, Order}
 use Rattle.plan.specs.Plan.{Answer, planAnswer}
-use Rattle.packed.specs.Judge.{Verdict, fine, refused, judge}
+use Rattle.packed.specs.declared.Refusal.{Refusal}
+use Rattle.packed.specs.Judge.{plainly, Verdict, fine, refused, judge}
 use Rattle.packed.specs.Packed.{countOf, spareOf, orderOf}
 use Rattle.packed.specs.Refusals.{same, orderChecks}
 use Rattle.planner.specs.Calls.{figuresOf}
@@ -19,9 +20,9 @@ use Rattle.text.specs.Decimal.{minus, digits, figure, words, line}
 
 -- ---- the lines
 
--- Of a refusal: its number and its place.
-unfoldable pub refusalLine : ℕ → ℕ → List ℕ
-refusalLine number place = line (pos number ∷ pos place ∷ [])
+-- Of a refusal: its number, its place and its field.
+unfoldable pub refusalLine : Refusal → List ℕ
+refusalLine r = line (pos (r .number) ∷ pos (r .place) ∷ pos (r .field) ∷ [])
 
 -- Of a plan: no refusal and no place, jobs kept, kept weight, lost weight, bus-free time, point total.
 unfoldable pub planLine : Figures → List ℕ
@@ -47,12 +48,12 @@ jobLines (j ∷ js) (start ∷ starts) = jobLine (j .number) start ++ jobLines j
 
 -- Of jobs that were planned: a plan's line and a line for each job; 11 where there is no feasible choice.
 unfoldable pub planText : List Job → Option Answer → List ℕ
-planText js none = refusalLine 11 0
+planText js none = refusalLine (plainly 11)
 planText js (some a) = planLine (figuresOf a) ++ jobLines js (a .starts)
 
 -- By the verdict on the order: a refused one has one line.
 unfoldable pub textOf : Verdict → Order → List ℕ
-textOf (refused number place) o = refusalLine number place
+textOf (refused r) o = refusalLine r
 textOf fine o = planText (o .jobs) (planAnswer o)
 
 -- The text for any bytes.

@@ -12,7 +12,8 @@ use borrow.Author.Tests.{ltb-true, lt-ltb, le-ltb}
 use Rattle.seconds.specs.Limits.{mostJobs}
 use Rattle.plan.specs.Plan.{Answer, planAnswer}
 use Rattle.plan.specs.Figures.{answer-figures}
-use Rattle.packed.specs.Judge.{Check, Verdict, fine, refused, judge}
+use Rattle.packed.specs.declared.Refusal.{Refusal}
+use Rattle.packed.specs.Judge.{plainly, Check, Verdict, fine, refused, judge}
 use Rattle.packed.specs.JudgeLaws.{judge-append, stages-fine, Tells, tells-append, judge-tells}
 use Rattle.packed.specs.Packed.{countOf, numbersOf, jobCount, jobIn, orderOf}
 use Rattle.packed.specs.PackedLaws.{numbers-count, order-jobs}
@@ -32,8 +33,8 @@ use Rattle.report.specs.WritingLaws.{listed-all}
 -- ---- the place of a refusal
 
 -- It is one of the places of at most 48 jobs.
-abbrev Early : ℕ → ℕ → Type 0
-Early number place = place ≤ mostJobs
+abbrev Early : Refusal → Type 0
+Early r = r .place ≤ mostJobs
 
 module _ (bytes : List ℕ) where
   -- Up to 5 there is none,
@@ -59,13 +60,13 @@ module _ (bytes : List ℕ) where
       (λ e. zero-le, tt)
 
   -- and for the refusal.
-  pub place-early : {n p : ℕ} → judge (orderChecks bytes) ≡ refused n p → p ≤ mostJobs
-  place-early {n} {p} e = go (judge (headerChecks bytes)) refl
+  pub place-early : {r : Refusal} → judge (orderChecks bytes) ≡ refused r → r .place ≤ mostJobs
+  place-early {r} e = go (judge (headerChecks bytes)) refl
     where
-      go : (v : Verdict) → judge (headerChecks bytes) ≡ v → p ≤ mostJobs
+      go : (v : Verdict) → judge (headerChecks bytes) ≡ v → r .place ≤ mostJobs
       go fine h = judge-tells Early (orderChecks bytes) (order-early (header-fine bytes .0 h .few)) e
-      go (refused m q) h =
-          let same : refused m q ≡ refused n p =
+      go (refused s) h =
+          let same : refused s ≡ refused r =
           rw (
             judge-append (headerChecks bytes ++ jobChecks (numbersOf bytes)) (weightChecks 0 (numbersOf bytes)),
             judge-append (headerChecks bytes) (jobChecks (numbersOf bytes)),
@@ -106,24 +107,22 @@ module _ (bytes : List ℕ) (starts work : List ℤ) (out : List ℕ) (room : Ha
           let few : countOf bytes ≤ length starts = omega (arith, room .places, order-fine bytes .0 e .header .few) in
           let starts-fit = stages-fine (orderChecks bytes) places .1 (e, room-fine (countOf bytes) (length starts) .1 few) in
           stages-fine (orderChecks bytes ++ places) space .1 (starts-fit, room-fine area (length work) .1 (room .space)) ∙ sym e
-      go (refused n p) e = rw (judge-append (orderChecks bytes ++ places) space, judge-append (orderChecks bytes) places, e)
+      go (refused r) e = rw (judge-append (orderChecks bytes ++ places) space, judge-append (orderChecks bytes) places, e)
 
   -- A refusal is told by one line, and its place is an early one.
-  pub refusal-told : (n p : ℕ) → Refused n p ≡ plannedOf bytes starts work
-      → (reportOf bytes ≡ refusalLine n p) × (p ≤ mostJobs)
+  pub refusal-told : (r : Refusal) → Refused r ≡ plannedOf bytes starts work
+      → (reportOf bytes ≡ refusalLine r) × (r .place ≤ mostJobs)
   unfolding reportOf textOf planText
-  refusal-told n p is = go (judge (orderChecks bytes)) (planAnswer (orderOf bytes)) refl refl (rw verdict-is at is)
+  refusal-told r is = go (judge (orderChecks bytes)) (planAnswer (orderOf bytes)) refl refl (rw verdict-is at is)
     where
       go : (v : Verdict) (o : Option Answer) → judge (orderChecks bytes) ≡ v → planAnswer (orderOf bytes) ≡ o
-          → Refused n p ≡ plannedBy v o → (reportOf bytes ≡ refusalLine n p) × (p ≤ mostJobs)
-      go (refused m q) o e f h =
-          let number : m ≡ n = cc in
-          let place : q ≡ p = cc in
-          rw (e, ← number, ← place) (refl, place-early bytes e)
+          → Refused r ≡ plannedBy v o → (reportOf bytes ≡ refusalLine r) × (r .place ≤ mostJobs)
+      go (refused s) o e f h =
+          let same : s ≡ r = cc in
+          rw (e, ← same) (refl, place-early bytes e)
       go fine none e f h =
-          let number : n ≡ 11 = cc in
-          let place : p ≡ 0 = cc in
-          rw (e, f, number, place) (refl, zero-le)
+          let same : r ≡ plainly 11 = cc in
+          rw (e, f, same) (refl, zero-le)
       go fine (some a) e f h = let z : _≡_ {A = ℕ} 0 1 = cc in absurd (omega arith)
 
   -- A plan can be told.
@@ -134,7 +133,7 @@ module _ (bytes : List ℕ) (starts work : List ℤ) (out : List ℕ) (room : Ha
     where
       go : (v : Verdict) (o : Option Answer) → judge (orderChecks bytes) ≡ v → planAnswer (orderOf bytes) ≡ o
           → Made figures ≡ plannedBy v o → written ≡ startsBy v o starts → CanTell bytes figures written out
-      go (refused m q) o e f h w = let z : _≡_ {A = ℕ} 0 1 = cc in absurd (omega arith)
+      go (refused s) o e f h w = let z : _≡_ {A = ℕ} 0 1 = cc in absurd (omega arith)
       go fine none e f h w = let z : _≡_ {A = ℕ} 0 1 = cc in absurd (omega arith)
       go fine (some a) e f h w =
           let order = order-fine bytes .0 e in

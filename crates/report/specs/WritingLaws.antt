@@ -24,6 +24,7 @@ use Rattle.order.specs.Within.{JobWithin}
 use Rattle.packed.specs.Layout.{decode, jobLayout, numberOf}
 use Rattle.packed.specs.Places.{each}
 use Rattle.packed.specs.PlacesLaws.{each-more, each-end, length-each}
+use Rattle.packed.specs.declared.Refusal.{Refusal}
 use Rattle.packed.specs.Packed.{countOf, jobFields, jobOf, jobIn, orderOf}
 use Rattle.packed.specs.PackedLaws.{fields-of-numbers, numbers-count, order-jobs}
 use Rattle.packed.specs.RefusalLaws.{Within, same-yes, same-no}
@@ -34,18 +35,18 @@ use Rattle.fields.specs.declared.Job.{Job as Numbers}
 use Rattle.planner.specs.declared.Figures.{Figures}
 use Rattle.text.specs.Decimal.{newline, space, minus, digits, figure}
 use Rattle.report.specs.Report.{refusalLine, planLine, startWord, jobLine, jobLines}
-use Rattle.report.specs.Writing.{keptWords, listed}
+use Rattle.report.specs.Writing.{frontWords, keptWords, listed}
 
 -- ---- one line
 
 -- Of a refusal.
-pub refusal-line : (n p : ℕ) → refusalLine n p ≡ digits n ++ (space ∷ (digits p ++ (newline ∷ [])))
+pub refusal-line : (r : Refusal) → refusalLine r ≡ frontWords (r .number) (r .place) ++ (digits (r .field) ++ (newline ∷ []))
 unfolding refusalLine figure
-refusal-line n p = refl
+refusal-line r = simp append-assoc
 
 -- Of a plan: no refusal, the first words, the bus-free time, and the point total.
 pub plan-line : (f : Figures) → planLine f
-    ≡ (((digits 0 ++ (space ∷ (digits 0 ++ (space ∷ [])))) ++ keptWords f) ++ figure (f .finish)) ++ (space ∷ [])
+    ≡ ((frontWords 0 0 ++ keptWords f) ++ figure (f .finish)) ++ (space ∷ [])
     ++ (digits (f .points) ++ (newline ∷ []))
 unfolding planLine keptWords figure
 plan-line f = simp append-assoc

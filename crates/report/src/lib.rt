@@ -3,6 +3,7 @@
 use cells::AREA;
 use fields::header_at;
 use fields::job_at;
+use packed::Refusal;
 use planner::Figures;
 use planner::Planned;
 use planner::plan;
@@ -12,10 +13,10 @@ use text::put_number;
 ghost use mathlib.Core.List.{[], _∷_, _++_};
 ghost use Prim.Native.Nat.{_+_, _≤_};
 ghost use lib.ListN.{take};
-ghost use Rattle.text.specs.Decimal.{space, digits};
+ghost use Rattle.text.specs.Decimal.{digits};
 ghost use Rattle.text.specs.Buffer.{Room, Wrote};
-ghost use Rattle.report.specs.Report.{planLine, startWord, jobLine, reportOf, Reported};
-ghost use Rattle.report.specs.Writing.{keptWords, CanList, listed, CanTell, HasRoom};
+ghost use Rattle.report.specs.Report.{refusalLine, planLine, startWord, jobLine, reportOf, Reported};
+ghost use Rattle.report.specs.Writing.{frontWords, keptWords, CanRefuse, CanList, listed, CanTell, HasRoom};
 
 // The bytes between the figures of a line and at its end, and the one for a job that is left out.
 const SPACE: u8 = 32;
@@ -43,15 +44,23 @@ fn put_figure(out: &mut [u8], at: usize, value: u32, behind: u8) -> usize
     put_byte(out, next, behind)
 }
 
-// A refusal's number and place, and a byte behind them, at the front: at most 22 bytes.
-fn put_refusal(out: &mut [u8], number: u32, place: u32, behind: u8) -> usize
+// The two figures that every first line begins with, a refusal's number and its place, at the front: at most 22 bytes.
+fn put_front(out: &mut [u8], number: u32, place: u32) -> usize
     requires { ⌜ Room 22 (now out) 0 ⌝ }
-    ensures { λ r. ⌜ Wrote (now (out .entry)) 0 (digits number ++ (space ∷ (digits place ++ (behind ∷ []))))
-        (now (out .exit)) r ⌝ }
+    ensures { λ r. ⌜ Wrote (now (out .entry)) 0 (frontWords number place) (now (out .exit)) r ⌝ }
     ensures { λ r. ⌜ r ≤ 22 ⌝ }
 {
     let next = put_figure(out, 0, number, SPACE);
-    put_figure(out, next, place, behind)
+    put_figure(out, next, place, SPACE)
+}
+
+// The line of a refusal, at the front: at most 33 bytes.
+fn put_refusal(out: &mut [u8], refusal: Refusal) -> usize
+    requires { ⌜ CanRefuse refusal (now out) ⌝ }
+    ensures { λ r. ⌜ Wrote (now (out .entry)) 0 (refusalLine refusal) (now (out .exit)) r ⌝ }
+{
+    let next = put_front(out, refusal.number, refusal.place as u32);
+    put_figure(out, next, refusal.field, NEWLINE)
 }
 
 // How many jobs are kept, and the weights kept and lost, a space behind each: at most 33 bytes.
@@ -71,7 +80,7 @@ fn put_plan(out: &mut [u8], figures: Figures) -> usize
     ensures { λ r. ⌜ Wrote (now (out .entry)) 0 (planLine figures) (now (out .exit)) r ⌝ }
     ensures { λ r. ⌜ r ≤ 78 ⌝ }
 {
-    let mut at = put_refusal(out, 0, 0, SPACE);
+    let mut at = put_front(out, 0, 0);
     at = put_kept(out, at, figures);
     at = put_number(out, at, figures.finish);
     at = put_byte(out, at, SPACE);
@@ -135,7 +144,7 @@ fn plan_and_tell(bytes: &[u8], starts: &mut [i32], work: &mut [i32], out: &mut [
     ensures { λ r. ⌜ Wrote (now (out .entry)) 0 (reportOf (now (bytes .entry))) (now (out .exit)) r ⌝ }
 {
     match plan(bytes, starts, work) {
-        Planned::Refused(number, place) => put_refusal(out, number, place as u32, NEWLINE),
+        Planned::Refused(refusal) => put_refusal(out, refusal),
         Planned::Made(figures) => tell_plan(bytes, figures, starts, out),
     }
 }

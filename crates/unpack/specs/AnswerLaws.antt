@@ -6,7 +6,8 @@ use native.Mathlib.Omega.{arith}
 use lib.IntN.{ℤ}
 use lib.ListN.{length, drop}
 use borrow.Author.Tests.{lt-ltb}
-use Rattle.packed.specs.Judge.{Verdict as Judged, fine, refused, judge, orElse}
+use Rattle.packed.specs.declared.Refusal.{Refusal}
+use Rattle.packed.specs.Judge.{plainly, Verdict as Judged, fine, refused, judge, orElse}
 use Rattle.packed.specs.JudgeLaws.{judge-append}
 use Rattle.packed.specs.Packed.{headerOf, countOf, t0Of, numbersOf}
 use Rattle.packed.specs.Refusals.{orderChecks, roomChecks, unpackChecks}
@@ -39,10 +40,10 @@ module _ (bytes : List ℕ) (was : List ℤ) where
   by-stages = judge-append (orderChecks bytes) (roomChecks (6 * countOf bytes) (length was))
 
   -- The bytes are no order.
-  pub unpacks-refused : (n p : ℕ) → verdictOf (judge (orderChecks bytes)) ≡ Said n p → Unpacks (Refused n p) was
-  unpacks-refused n p e =
-      let said : judge (orderChecks bytes) ≡ refused n p = refusal-told (judge (orderChecks bytes)) n p e in
-      unpacks-by (refused n p) (by-stages ∙ rw said)
+  pub unpacks-refused : (r : Refusal) → verdictOf (judge (orderChecks bytes)) ≡ Said r → Unpacks (Refused r) was
+  unpacks-refused r e =
+      let said : judge (orderChecks bytes) ≡ refused r = refusal-told (judge (orderChecks bytes)) r e in
+      unpacks-by (refused r) (by-stages ∙ rw said)
 
   -- They are one, and there is room.
   pub unpacks-order : judge (orderChecks bytes) ≡ fine → 6 * countOf bytes ≤ length was
@@ -52,10 +53,10 @@ module _ (bytes : List ℕ) (was : List ℤ) where
   -- They are one, and the header was read.
   module _ (order : judge (orderChecks bytes) ≡ fine) (h : Header) (read : headerFields h ≡ headerOf bytes) where
     -- There is too little room.
-    pub unpacks-no-room : length was < 6 * h .count → Unpacks (Refused 10 0) was
+    pub unpacks-no-room : length was < 6 * h .count → Unpacks (Refused (plainly 10)) was
     unpacks-no-room l =
         let few : length was < 6 * countOf bytes = omega (arith, header-read bytes h read .count) in
-        unpacks-by (refused 10 0) (by-stages ∙ rw (order, lt-ltb (length was) (6 * countOf bytes) few))
+        unpacks-by (refused (plainly 10)) (by-stages ∙ rw (order, lt-ltb (length was) (6 * countOf bytes) few))
 
     -- There is room, as writing asks,
     pub unpackable : 6 * h .count ≤ length was → Unpackable bytes (h .count) was

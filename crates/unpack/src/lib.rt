@@ -5,10 +5,12 @@ ghost use lib.ListN.{length};
 ghost use Rattle.unpack.specs.Answer.{unpackOf, numbersAfter};
 ghost use Rattle.unpack.specs.Writing.{Unpackable, firstJobs};
 use judge::Verdict;
+use packed::Refusal;
+use packed::plainly;
 
-// What unpacking gives: a refusal with its number and place, or how many jobs and the bus-free time.
+// What unpacking gives: a refusal, or how many jobs and the bus-free time.
 pub enum Unpacked {
-    Refused(u32, usize),
+    Refused(Refusal),
     Jobs(usize, i32),
 }
 
@@ -31,13 +33,13 @@ pub fn unpack(bytes: &[u8], numbers: &mut [i32]) -> Unpacked
     ensures lent { λ r. ⌜ now (numbers .exit) ≡ numbersAfter (now (bytes .entry)) (now (numbers .entry)) ⌝ }
 {
     match judge::judge_order(bytes, 0) {
-        Verdict::Refused(number, place) => Unpacked::Refused(number, place),
+        Verdict::Refused(refusal) => Unpacked::Refused(refusal),
         Verdict::Fine => {
             let header = fields::header_at(bytes);
             let count = header.count;
             let t0 = header.t0;
             if numbers.len() < 6 * count {
-                return Unpacked::Refused(10, 0);
+                return Unpacked::Refused(plainly(10));
             }
             write_numbers(bytes, count, numbers);
             Unpacked::Jobs(count, t0)

@@ -70,8 +70,8 @@ morning-packed = refl
 -- Of a plan: refusal, place, jobs kept, kept weight, lost weight, bus-free time, point total.
 abbrev pub figures : PlanNumbers → List ℤ
 figures n =
-    pos (n .refusal) ∷ pos (n .place) ∷ pos (n .kept) ∷ pos (n .keptWeight) ∷ pos (n .lostWeight) ∷ n .finish ∷ pos (n .points)
-    ∷ []
+    pos (n .refusal .number) ∷ pos (n .refusal .place) ∷ pos (n .kept) ∷ pos (n .keptWeight) ∷ pos (n .lostWeight) ∷ n .finish
+    ∷ pos (n .points) ∷ []
 
 -- Of a lookup: refusal, found, weight.
 abbrev pub found : List ℤ → ℤ → List ℤ
@@ -104,7 +104,7 @@ module _ (out work : List ℤ) where
   abbrev pub extended : List ℤ → List ℕ → List ℤ
   extended profile order =
       let points = pointsWritten (extendedOf profile order out work) in
-      pos (extendRefusal (extendedOf profile order out work)) ∷ pos points ∷ take (2 * points) (outAfter profile order out work)
+      pos (extendRefusal (extendedOf profile order out work) .number) ∷ pos points ∷ take (2 * points) (outAfter profile order out work)
 
   abbrev pub joined : List ℤ → List ℤ → List ℤ
   joined p q =

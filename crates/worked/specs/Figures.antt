@@ -81,7 +81,7 @@ job-bits = refl
 -- ---- the refusals of each call (R25), whatever it is asked
 
 abbrev numbers : List Check → List ℕ
-numbers cs = map (λ (c : Check). c .number) cs
+numbers cs = map (λ (c : Check). c .says .number) cs
 
 pub record Judged : Type 0 where
   pub checks : List Check

@@ -33,20 +33,20 @@ struct Order {
 
 /// Plans an order: the same call as the library's.
 pub fn plan(bytes: &[u8], starts: &mut [i32], work: &mut [i32]) -> PlanAnswer {
-    let refused = |refusal, place| PlanAnswer { refusal, place, ..Default::default() };
+    let refused = |refusal, place, field| PlanAnswer { refusal, place, field, ..Default::default() };
     let order = match judged(bytes) {
         Ok(order) => order,
-        Err((number, place)) => return refused(number, place),
+        Err((number, place, field)) => return refused(number, place, field),
     };
     if starts.len() < order.count || work.len() < WORK_AREA {
-        return refused(10, 0);
+        return refused(10, 0, 0);
     }
     let work = &mut work[..WORK_AREA];
     let jobs = &order.jobs[..order.count];
     let (top, points) = fill_rows(order.t0, jobs, work);
     let last = &work[ROW * jobs.len()..][..=top];
     let answer = match last.iter().rposition(|&bus_free| bus_free < NONE) {
-        None => refused(11, 0),
+        None => refused(11, 0, 0),
         Some(weight) => {
             let bus_free = last[weight];
             let mask = walk_back(jobs, work, weight, bus_free);
@@ -66,23 +66,26 @@ pub fn plan(bytes: &[u8], starts: &mut [i32], work: &mut [i32]) -> PlanAnswer {
     answer
 }
 
-/// The order in packed bytes, or the lowest refusal with its place.
-fn judged(bytes: &[u8]) -> Result<Order, (u32, usize)> {
-    let header: [u8; 4] = bytes.get(..4).and_then(|head| head.try_into().ok()).ok_or((1, 0))?;
+/// A refusal: its number, place and field.
+type Refused = (u32, usize, u32);
+
+/// The order in packed bytes, or the lowest refusal with its place and field.
+fn judged(bytes: &[u8]) -> Result<Order, Refused> {
+    let header: [u8; 4] = bytes.get(..4).and_then(|head| head.try_into().ok()).ok_or((1, 0, 0))?;
     let header = u32::from_be_bytes(header);
     let count = (header >> 26) as usize;
     let t0 = (header << 6) as i32 >> 14;
     if header & 0xFF != 0 {
-        return Err((2, 0));
+        return Err((2, 0, 0));
     }
     if count > MOST_JOBS {
-        return Err((3, 0));
+        return Err((3, 0, 0));
     }
     if bytes.len() != 4 + 8 * count {
-        return Err((4, 0));
+        return Err((4, 0, 0));
     }
     if !is_time(t0) {
-        return Err((5, 0));
+        return Err((5, 0, 0));
     }
     let mut jobs = [Job::default(); MOST_JOBS];
     judge_jobs(&bytes[4..], &mut jobs[..count])?;
@@ -90,7 +93,7 @@ fn judged(bytes: &[u8]) -> Result<Order, (u32, usize)> {
 }
 
 /// Decodes the jobs' records and judges 6, 7 and 9.
-fn judge_jobs(records: &[u8], jobs: &mut [Job]) -> Result<(), (u32, usize)> {
+fn judge_jobs(records: &[u8], jobs: &mut [Job]) -> Result<(), Refused> {
     let (mut seen, mut repeated, mut total) = (0_u64, None, 0);
     for (place, (record, job)) in records.chunks_exact(8).zip(jobs).enumerate() {
         let record = u64::from_be_bytes(record.try_into().unwrap());
@@ -101,8 +104,9 @@ fn judge_jobs(records: &[u8], jobs: &mut [Job]) -> Result<(), (u32, usize)> {
             length: (record >> 18 & 0x3FFF) as i32,
             deadline: ((record << 46) as i64 >> 46) as i32,
         };
-        if !is_job(job) {
-            return Err((6, place));
+        let field = bad_field(job);
+        if field != 0 {
+            return Err((6, place, field));
         }
         let bit = 1 << (record >> 58);
         if seen & bit != 0 && repeated.is_none() {
@@ -112,8 +116,8 @@ fn judge_jobs(records: &[u8], jobs: &mut [Job]) -> Result<(), (u32, usize)> {
         total += job.weight;
     }
     match repeated {
-        Some(place) => Err((7, place)),
-        None if total > 300 => Err((9, 0)),
+        Some(place) => Err((7, place, 0)),
+        None if total > 300 => Err((9, 0, 0)),
         None => Ok(()),
     }
 }
@@ -122,9 +126,20 @@ fn is_time(t: i32) -> bool {
     (-LATEST..=LATEST).contains(&t)
 }
 
-fn is_job(job: &Job) -> bool {
+/// The first field of a job that is out of range, from 3 for the weight to 6 for the deadline; 0 if none is.
+fn bad_field(job: &Job) -> u32 {
     let weighed = if job.critical { job.weight == 0 } else { (1..=50).contains(&job.weight) };
-    weighed && (1..=10_000).contains(&job.length) && is_time(job.ready) && is_time(job.deadline)
+    if !weighed {
+        3
+    } else if !is_time(job.ready) {
+        4
+    } else if !(1..=10_000).contains(&job.length) {
+        5
+    } else if !is_time(job.deadline) {
+        6
+    } else {
+        0
+    }
 }
 
 /// Fills the rows of all prefixes, each up to its reachable weight, and gives the last row's and the points

@@ -4,11 +4,14 @@ use crate::job::Job;
 use crate::refusal::Refusal;
 use core::fmt;
 
-/// Declares an answer: its refusal, the place where it has one, and its other figures in the header's order.
+/// Declares an answer: its refusal, the place and the field where it has them, and its other figures in the
+/// header's order.
 macro_rules! answers {
     ($(
         $(#[$about:meta])*
-        $name:ident($refusal:ident $(, $place:ident)?) { $($(#[$told:meta])* $field:ident: $kind:ty,)* }
+        $name:ident($refusal:ident $(, $place:ident)? $(; $field:ident)?) {
+            $($(#[$told:meta])* $figure:ident: $kind:ty,)*
+        }
     )*) => {
         $(
             $(#[$about])*
@@ -22,18 +25,23 @@ macro_rules! answers {
                     /// The place of the refused job, 0 where the refusal is not about one.
                     pub $place: usize,
                 )?
-                $($(#[$told])* pub $field: $kind,)*
+                $(
+                    /// The field of the refused job that is out of range, for refusal 6; else 0.
+                    pub $field: u32,
+                )?
+                $($(#[$told])* pub $figure: $kind,)*
             }
 
             impl $name {
                 /// The answer, if it is not a refusal.
                 ///
                 /// # Errors
-                /// The refusal by its name.
+                /// The refusal by its name. Of an answer that tells no place the place is 0, whichever job it is.
                 pub fn accepted(self) -> Result<Self, Refusal> {
-                    // The place where there is one, else 0.
+                    // The place and the field where there is one, else 0.
                     let place = [$(self.$place,)? 0][0];
-                    Refusal::check(self.refusal, place).map(|()| self)
+                    let field = [$(self.$field,)? 0][0];
+                    Refusal::check(self.refusal, place, field).map(|()| self)
                 }
             }
         )*
@@ -47,14 +55,14 @@ answers! {
         seconds: u32,
     }
     /// The answer of [`unpack`](crate::calls::unpack).
-    UnpackAnswer(refusal, place) {
+    UnpackAnswer(refusal, place; field) {
         /// How many jobs the order has.
         jobs: usize,
         /// Its bus-free time.
         t0: i32,
     }
     /// The answer of [`pack`](crate::calls::pack).
-    PackAnswer(refusal, place) {
+    PackAnswer(refusal, place; field) {
         /// Bytes written.
         bytes: usize,
     }
@@ -64,7 +72,7 @@ answers! {
         jobs: usize,
     }
     /// The answer of [`step`](crate::calls::step).
-    StepAnswer(refusal, place) {
+    StepAnswer(refusal, place; field) {
         /// 1 at the end of the order, else 0.
         end: u32,
         /// The job's number; this and the next five are 0 where no job is given.
@@ -95,17 +103,17 @@ answers! {
         points: usize,
     }
     /// The answer of [`extend`](crate::calls::extend).
-    ExtendAnswer(refusal, place) {
+    ExtendAnswer(refusal, place; field) {
         /// Points written, two numbers each.
         points: usize,
     }
     /// The answer of [`question`](crate::calls::question).
-    QuestionAnswer(refusal) {
+    QuestionAnswer(refusal; field) {
         /// 1 or 2, 0 if refused.
         winner: u32,
     }
     /// The answer of [`choose`](crate::calls::choose).
-    ChooseAnswer(refusal) {
+    ChooseAnswer(refusal; field) {
         /// 1 or 2, 0 if refused.
         winner: u32,
         /// Where the winner's records begin in its bytes.
@@ -121,7 +129,7 @@ macro_rules! plan_answers {
         answers! {
             $(
                 $(#[$about])*
-                $name(refusal, place) {
+                $name(refusal, place; field) {
                     /// The jobs kept, the highest bit for place 0.
                     mask: u64,
                     /// How many jobs are kept.
@@ -158,6 +166,7 @@ impl From<HalvesAnswer> for PlanAnswer {
         PlanAnswer {
             refusal: answer.refusal,
             place: answer.place,
+            field: answer.field,
             mask: answer.mask,
             kept: answer.kept,
             kept_weight: answer.kept_weight,

@@ -155,7 +155,7 @@ pub fn plan_halves(order: &[u8], starts: &mut [i32], work: &mut [i32]) -> Halves
 }
 
 /// Asks which opening is worth more at time `t`; `work` has room for [`WORK_AREA`](crate::WORK_AREA).
-/// Refusals 1 to 7 and 9 of the first, then of the second, then 10 and 11; no place is told.
+/// Refusals 1 to 7 and 9 of the first, then of the second, then 10 and 11; the field of 6 is told, and no place.
 pub fn question(first: &[u8], second: &[u8], t: i32, work: &mut [i32]) -> QuestionAnswer {
     // SAFETY: the openings are only read, and may be one slice; work is lent alone; the lengths are the
     // slices' own.

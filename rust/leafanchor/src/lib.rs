@@ -48,6 +48,7 @@ extern crate std;
 
 mod answers;
 mod ffi;
+mod field;
 mod job;
 mod openings;
 mod order;
@@ -58,6 +59,7 @@ mod refusal;
 mod work;
 
 pub use answers::Point;
+pub use field::Field;
 pub use job::Job;
 pub use openings::{choose, question, Opening, Winner};
 pub use order::Order;

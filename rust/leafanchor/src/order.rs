@@ -10,9 +10,9 @@ use crate::{HEADER_BYTES, JOB_NUMBERS, MOST_JOBS, ORDER_NUMBERS};
 
 /// A packed order that passed every check of an order, over the caller's bytes.
 ///
-/// The proved library judges the bytes once, in `try_from`, with the refusals 1 to 7 and 9 and their places.
-/// No call refuses an `Order` for any of these again, save that [`Profile::extended`] adds the weight that
-/// the profile brings.
+/// The proved library judges the bytes once, in `try_from`, with the refusals 1 to 7 and 9, their places and the
+/// field of 6. No call refuses an `Order` for any of these again, save that [`Profile::extended`] adds the weight
+/// that the profile brings.
 ///
 /// ```
 /// use leafanchor::{Job, Order};

@@ -54,7 +54,7 @@ impl<'a> Reader<'a> {
     /// The next job, or none at the end.
     ///
     /// # Errors
-    /// Refusal 6 at a job out of range; the reader stays there.
+    /// Refusal 6 at a job out of range, with its field; the reader stays there.
     pub fn step(&mut self) -> Result<Option<Job>, Refusal> {
         let answer = calls::step(self.bytes, self.place);
         self.place = answer.next;

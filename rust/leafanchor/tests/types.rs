@@ -1,8 +1,8 @@
 //! What the wrapper's types say of orders and profiles that are refused, of openings, and of themselves.
 
 use leafanchor::{
-    calls, choose, question, Job, Opening, Order, Point, Profile, Reader, Refusal, WorkArea, MOST_JOBS,
-    ORDER_BYTES, WORK_AREA,
+    calls, choose, question, Field, Job, Opening, Order, Point, Profile, Reader, Refusal, WorkArea,
+    MOST_JOBS, ORDER_BYTES, WORK_AREA,
 };
 
 const P1_PACKED: [u8; 44] = *include_bytes!("../../../examples/p1.order");
@@ -23,13 +23,46 @@ fn packing_refuses_with_number_place_and_phrase() {
     let four_nine = [4, 9, 4, 9].map(|number| Job::optional(number, 1, 0, 1, 1));
     assert_eq!(refused(&four_nine), (7, 2, "the job at place 2 repeats a number".to_string()));
     let long = [Job::critical(1, 0, 10_000, 0), Job::critical(2, 0, 10_001, 0)];
-    assert_eq!(refused(&long), (6, 1, "the job at place 1 has a field out of range".to_string()));
+    assert_eq!(refused(&long), (6, 1, "job at place 1: length out of range".to_string()));
     assert_eq!(refused(&jobs(7, 50)).0, 9);
 
     let mut room = [7; ORDER_BYTES];
     assert_eq!(Order::pack(0, &jobs(6, 50), &mut room).map(Order::count), Ok(6));
     assert_eq!(Order::pack(100_001, &[], &mut room), Err(Refusal::BusFreeOutOfRange));
     assert_eq!(Order::pack(0, &jobs(1, 1), &mut room[..11]), Err(Refusal::BufferTooShort));
+}
+
+#[test]
+fn packing_names_the_first_field_out_of_range() {
+    let good = Job::optional(1, 1, 0, 1, 1);
+    let mut weighing = Job::critical(2, 0, 1, 1);
+    weighing.weight = 1;
+    let told = [
+        (Field::Number, "number", Job::optional(64, 1, 0, 1, 1)),
+        (Field::Weight, "weight", Job::optional(2, 51, 0, 1, 1)),
+        (Field::Weight, "weight", weighing),
+        (Field::Ready, "ready time", Job::optional(2, 1, -100_001, 1, 1)),
+        (Field::Length, "length", Job::optional(2, 1, 0, 0, 1)),
+        (Field::Deadline, "deadline", Job::optional(2, 1, 0, 1, -100_001)),
+    ];
+    for (field, name, mut bad) in told {
+        // By itself, and with the deadline out of range too.
+        for deadline in [bad.deadline, 100_001] {
+            bad.deadline = deadline;
+            let refusal = Order::pack(0, &[good, bad], &mut [0; ORDER_BYTES]).unwrap_err();
+            assert_eq!((refusal.number(), refusal.place(), refusal.field()), (6, 1, Some(field)));
+            assert!(
+                matches!(refusal, Refusal::JobOutOfRange { place: 1, field: named, .. } if named == field)
+            );
+            assert_eq!(refusal.to_string(), format!("job at place 1: {name} out of range"));
+        }
+    }
+    // No job has a mark that is none, but numbers can.
+    let refusal = calls::pack(0, &[1, 2, 0, 0, 0, 0], &mut [0; 12]).accepted().unwrap_err();
+    assert_eq!((refusal.field(), Field::Critical.figure()), (Some(Field::Critical), 2));
+    assert_eq!(refusal.to_string(), "job at place 0: critical mark out of range");
+    // A repeat names no field.
+    assert_eq!(Order::pack(0, &[good, good], &mut [0; ORDER_BYTES]).unwrap_err().field(), None);
 }
 
 #[test]
@@ -72,7 +105,7 @@ fn a_reader_stays_at_a_refused_job_and_its_iterator_ends_there() {
     assert_eq!(reader.step(), Ok(Some(Job::critical(7, -600, 495, 0))));
     for _ in 0..2 {
         let refusal = reader.step().unwrap_err();
-        assert!(matches!(refusal, Refusal::JobOutOfRange { place: 1, .. }));
+        assert!(matches!(refusal, Refusal::JobOutOfRange { place: 1, field: Field::Length, .. }));
         assert_eq!((reader.place(), reader.size_hint()), (1, (1, Some(4))));
     }
     assert!(reader.next().unwrap().is_err());

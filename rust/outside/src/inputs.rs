@@ -93,20 +93,26 @@ fn damaged_order(random: &mut Random) -> Order {
             }
             _ => {
                 let place = random.below(order.jobs.len());
-                let strange = random.one_of(&STRANGE);
-                let job = &mut order.jobs[place];
-                match random.below(6) {
-                    0 => job.number = strange,
-                    1 => job.critical = strange,
-                    2 => job.weight = strange,
-                    3 => job.ready = strange,
-                    4 => job.length = strange,
-                    _ => job.deadline = strange,
+                for _ in 0..1 + random.below(3) {
+                    damage_field(random, &mut order.jobs[place]);
                 }
             }
         }
     }
     order
+}
+
+/// Puts a strange number into one field.
+fn damage_field(random: &mut Random, job: &mut Job) {
+    let strange = random.one_of(&STRANGE);
+    match random.below(6) {
+        0 => job.number = strange,
+        1 => job.critical = strange,
+        2 => job.weight = strange,
+        3 => job.ready = strange,
+        4 => job.length = strange,
+        _ => job.deadline = strange,
+    }
 }
 
 /// Makes the weights sum to 301 or more, in an order of at least seven jobs.
@@ -127,7 +133,7 @@ fn overweigh(random: &mut Random, order: &mut Order) {
 pub fn bytes(random: &mut Random) -> Vec<u8> {
     match random.below(20) {
         0..=9 => packed(&order(random)),
-        10..=13 => packed(&damaged_order(random)),
+        10..=13 => bytes_of_damaged(random),
         14 => {
             let length = random.one_of(&[0, 1, 2, 3, 4, 5, 12, 44, 388, 389, 2000]);
             (0..length).map(|_| random.bits() as u8).collect()
@@ -137,6 +143,11 @@ pub fn bytes(random: &mut Random) -> Vec<u8> {
             damaged_bytes(random, bytes)
         }
     }
+}
+
+/// Packed bytes of an order with one or two damages.
+pub fn bytes_of_damaged(random: &mut Random) -> Vec<u8> {
+    packed(&damaged_order(random))
 }
 
 /// An order with one or two damages, each of which may make a job no half, at its place or at a later one.

@@ -20,14 +20,15 @@ macro_rules! layout {
 /// Prints all of them, in the order of the header.
 pub fn print() {
     layout!(HeatAnswer, "heat_answer", refusal, seconds);
-    layout!(UnpackAnswer, "unpack_answer", refusal, place, jobs, t0);
-    layout!(PackAnswer, "pack_answer", refusal, place, bytes);
+    layout!(UnpackAnswer, "unpack_answer", refusal, place, field, jobs, t0);
+    layout!(PackAnswer, "pack_answer", refusal, place, field, bytes);
     layout!(OpenAnswer, "open_answer", refusal, jobs);
     layout!(
         StepAnswer,
         "step_answer",
         refusal,
         place,
+        field,
         end,
         number,
         critical,
@@ -40,13 +41,26 @@ pub fn print() {
     layout!(Point, "point", time, weight);
     layout!(LookupAnswer, "lookup_answer", refusal, found, weight);
     layout!(BetterAnswer, "better_answer", refusal, points);
-    layout!(ExtendAnswer, "extend_answer", refusal, place, points);
-    layout!(PlanAnswer, "plan_answer", refusal, place, mask, kept, kept_weight, lost_weight, finish, points);
+    layout!(ExtendAnswer, "extend_answer", refusal, place, field, points);
+    layout!(
+        PlanAnswer,
+        "plan_answer",
+        refusal,
+        place,
+        field,
+        mask,
+        kept,
+        kept_weight,
+        lost_weight,
+        finish,
+        points
+    );
     layout!(
         HalvesAnswer,
         "halves_answer",
         refusal,
         place,
+        field,
         mask,
         kept,
         kept_weight,
@@ -55,6 +69,6 @@ pub fn print() {
         points,
         seconds_lost
     );
-    layout!(QuestionAnswer, "question_answer", refusal, winner);
-    layout!(ChooseAnswer, "choose_answer", refusal, winner, offset, length);
+    layout!(QuestionAnswer, "question_answer", refusal, field, winner);
+    layout!(ChooseAnswer, "choose_answer", refusal, field, winner, offset, length);
 }

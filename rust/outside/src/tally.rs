@@ -49,6 +49,8 @@ pub struct Tally {
     pub rest: RestEdges,
     /// What planning halves turned on.
     pub halves: HalvesEdges,
+    /// The fields that refusal 6 named.
+    pub fields: Fields,
 }
 
 /// How often the inputs came to an edge of the contactor's rest.
@@ -102,6 +104,57 @@ impl HalvesEdges {
     }
 }
 
+/// A job has so many fields; the first so many are within their ranges in all packed bytes.
+const FIELDS: usize = 6;
+const HELD_BY_BYTES: usize = 2;
+
+/// How often each call named each field, and how often it was not the only one.
+#[derive(Default)]
+pub struct Fields {
+    counts: BTreeMap<&'static str, [usize; FIELDS]>,
+    /// Jobs that packing refuses with a later field out of range too.
+    pub several: usize,
+    /// Those with a job behind them whose first field out of range comes earlier.
+    pub earlier_behind: usize,
+    /// Pairs of openings that are both refused with 6, for other fields.
+    pub both_openings: usize,
+}
+
+impl Fields {
+    /// Counts the field of an answer; 0 is none.
+    pub fn count(&mut self, call: &'static str, field: u32) {
+        let counts = self.counts.entry(call).or_default();
+        if let Some(count) = (field as usize).checked_sub(1).and_then(|at| counts.get_mut(at)) {
+            *count += 1;
+        }
+    }
+
+    /// Prints the counts; true if packing named every field, and every other call those that bytes can have out of
+    /// range and no other.
+    fn report(&self) -> bool {
+        print!("{:>18}", "field");
+        (1..=FIELDS).for_each(|field| print!("{field:>8}"));
+        println!();
+        for (call, counts) in &self.counts {
+            print!("{call:>18}");
+            counts.iter().for_each(|count| print!("{count:>8}"));
+            println!();
+        }
+        println!(
+            "fields: {} with a later one out of range too, {} with an earlier one in a job behind; {} pairs of \
+             openings with two",
+            self.several, self.earlier_behind, self.both_openings
+        );
+        let could = |call: &str, at: usize| call == "pack" || at >= HELD_BY_BYTES;
+        let as_could = |(&call, counts): (&&str, &[usize; FIELDS])| {
+            counts.iter().enumerate().all(|(at, &count)| (count > 0) == could(call, at))
+        };
+        self.counts.len() == 8
+            && self.counts.iter().all(as_could)
+            && [self.several, self.earlier_behind, self.both_openings].iter().all(|&seen| seen > 0)
+    }
+}
+
 impl Tally {
     /// Counts a call and its refusal, and compares its answer, with what it left in memory, with the
     /// reference's.
@@ -135,7 +188,7 @@ impl Tally {
     }
 
     /// Prints the counts; true if nothing differed, every refusal 1 to 13 was seen over the C boundary, and so
-    /// was every edge of the rest and of halves.
+    /// was every edge of the rest and of halves and every field of refusal 6.
     pub fn report(&self) -> bool {
         print!("{:>18}", "refusal");
         (0..NUMBERS).for_each(|number| print!("{number:>8}"));
@@ -158,6 +211,7 @@ impl Tally {
         );
         println!("bus free past 100,000: {late_plans} plans, {late_profiles} profiles extended");
         let halves_met = self.halves.report();
+        let fields_named = self.fields.report();
         let unseen: Vec<usize> = (0..NUMBERS).filter(|&number| of_calls[number] == 0).collect();
         if !unseen.is_empty() {
             println!("never seen: refusals {unseen:?}");
@@ -168,6 +222,7 @@ impl Tally {
         self.mismatches == 0
             && unseen.is_empty()
             && halves_met
+            && fields_named
             && [met, missed, late_plans, late_profiles].iter().all(|&seen| seen > 0)
     }
 }

@@ -11,8 +11,8 @@ use Rattle.extending.proofs.extend.Tie as tie
 judge-jobs-requires : tie.Need-judge-jobs-requires
 judge-jobs-requires c κs = search needs
 
-enum-known-number : tie.Need-enum-known-number
-enum-known-number c = search needs
+enum-known-refusal : tie.Need-enum-known-refusal
+enum-known-refusal c = search needs
 
 enum-told : tie.Need-enum-told
 enum-told c = search needs
@@ -27,8 +27,8 @@ returns : tie.Need-returns
 returns c =
     let j = c .before .before .before in
     let a = j .before .before .args in
-    let r = c .before .number .given in
-    extend-stopped (now (a .profile)) (now (a .bytes)) (now (a .out)) (now (a .work)) (r .0 .0) (r .0 .1 .0)
+    let r = c .before .refusal .given in
+    extend-stopped (now (a .profile)) (now (a .bytes)) (now (a .out)) (now (a .work)) (r .0 .0)
     (sym (j .judge-jobs .ensures) ∙ r .1)
 
 same-length : tie.Need-same-length
@@ -45,7 +45,7 @@ extend-spec =
     tie.close
     (tie.spec
     judge-jobs-requires
-    enum-known-number
+    enum-known-refusal
     enum-told
     extend-profile-requires
     returns

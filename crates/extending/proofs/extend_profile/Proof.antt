@@ -15,11 +15,16 @@ use Rattle.extending.proofs.extend_profile.Tie as tie
 valid-requires : tie.Need-valid-requires
 valid-requires c κs = search needs
 
+plainly-requires : tie.Need-plainly-requires
+plainly-requires c κs = search needs
+
 returns : tie.Need-returns
 returns c =
-    let s = c .before .before .before in
-    extend-not-valid (now (s .args .profile)) (now (s .args .bytes)) (now (s .args .out)) (now (s .args .work)) (s .pre)
-    (sym (c .before .valid .ensures) ∙ not-true _ (c .if1 .taken))
+    let t = c .before in
+    let s = t .before .before .before in
+    rw (c .plainly .ensures)
+    (extend-not-valid (now (s .args .profile)) (now (s .args .bytes)) (now (s .args .out)) (now (s .args .work)) (s .pre)
+    (sym (t .before .valid .ensures) ∙ not-true _ (t .if1 .taken)))
 
 -- Past the test the profile is valid.
 is-valid : (c : tie.Else1) → holdsProfile (now (c .before .before .before .args .profile)) ≡ true
@@ -36,8 +41,8 @@ cast-judge-weight c =
 judge-weight-requires : tie.Need-judge-weight-requires
 judge-weight-requires c κs = search needs
 
-enum-known-number : tie.Need-enum-known-number
-enum-known-number c = search needs
+enum-known-refusal : tie.Need-enum-known-refusal
+enum-known-refusal c = search needs
 
 enum-told : tie.Need-enum-told
 enum-told c = search needs
@@ -53,12 +58,12 @@ extend-with-room-requires c κs =
 
 returns-2 : tie.Need-returns-2
 returns-2 c =
-    let r = c .before .number .given in
+    let r = c .before .refusal .given in
     let w = c .before .before .before .before in
     let v = w .before in
     let s = v .before .before .before in
     extend-too-heavy (now (s .args .profile)) (now (s .args .bytes)) (now (s .args .out)) (now (s .args .work)) (s .pre)
-    (r .0 .0) (r .0 .1 .0) (is-valid v) (w .last-weight .ensures)
+    (r .0 .0) (is-valid v) (w .last-weight .ensures)
     (sym (c .before .before .before .judge-weight .ensures) ∙ r .1)
 
 same-length : tie.Need-same-length
@@ -75,11 +80,12 @@ extend-profile-spec =
     tie.close
     (tie.spec
     valid-requires
+    plainly-requires
     returns
     last-weight-requires
     cast-judge-weight
     judge-weight-requires
-    enum-known-number
+    enum-known-refusal
     enum-told
     extend-with-room-requires
     returns-2

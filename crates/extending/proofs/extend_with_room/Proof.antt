@@ -6,16 +6,26 @@ use Rattle.extending.specs.CallLaws.{extend-no-room, extend-no-space, ex
 use Rattle.extending.proofs.extend_with_room.Statement.{statement}
 use Rattle.extending.proofs.extend_with_room.Tie as tie
 
+plainly-requires : tie.Need-plainly-requires
+plainly-requires c κs = search needs
+
 returns : tie.Need-returns
 returns c =
-    let s = c .before .before in
-    extend-no-room (now (s .args .profile)) (now (s .args .bytes)) (now (s .args .out)) (now (s .args .work)) (s .pre) (c .if1 .taken)
+    let t = c .before in
+    let s = t .before .before in
+    rw (c .plainly .ensures)
+    (extend-no-room (now (s .args .profile)) (now (s .args .bytes)) (now (s .args .out)) (now (s .args .work)) (s .pre) (t .if1 .taken))
+
+plainly-requires-2 : tie.Need-plainly-requires-2
+plainly-requires-2 c κs = search needs
 
 returns-2 : tie.Need-returns-2
 returns-2 c =
-    let s = c .before .before .before in
-    extend-no-space (now (s .args .profile)) (now (s .args .bytes)) (now (s .args .out)) (now (s .args .work)) (s .pre)
-    (c .before .if1 .left) (c .if2 .taken)
+    let t = c .before in
+    let s = t .before .before .before in
+    rw (c .plainly2 .ensures)
+    (extend-no-space (now (s .args .profile)) (now (s .args .bytes)) (now (s .args .out)) (now (s .args .work)) (s .pre)
+    (t .before .if1 .left) (t .if2 .taken))
 
 extend-by-rows-requires : tie.Need-extend-by-rows-requires
 extend-by-rows-requires c κs =
@@ -43,7 +53,9 @@ pub extend-with-room-spec : {M : Type 1} → statement M
 extend-with-room-spec =
     tie.close
     (tie.spec
+    plainly-requires
     returns
+    plainly-requires-2
     returns-2
     extend-by-rows-requires
     clear-requires

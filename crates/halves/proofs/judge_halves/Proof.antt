@@ -1,12 +1,13 @@
 -- `halves::judge_halves` meets its contract: the search from an empty list of awaited numbers gives the place of check 13.
 -- Assumes nothing.
-use mathlib.Core.Path.{_≡_, refl, sym, _∙_}
+use mathlib.Core.Path.{_≡_, refl, sym, ap, _∙_}
 use denote.Ref.{now}
 use borrow.Author.Needs.{needs}
 use Rattle.packed.specs.Packed.{numbersOf, jobCount}
 use Rattle.packed.specs.PackedLaws.{numbers-count}
 use Rattle.packed.specs.Accepted.{order-fine}
 use Rattle.fields.specs.Facts.{header-read}
+use Rattle.judge.specs.declared.Verdict.the-variants.{Refused}
 use Rattle.halves.specs.CallLaws.{offending-told, none-told}
 use Rattle.halves.proofs.judge_halves.Statement.{statement}
 use Rattle.halves.proofs.judge_halves.Tie as tie
@@ -33,12 +34,17 @@ counted c =
     let bytes = now (c .before .before .args .bytes) in
     header-read bytes (c .header-at .result) (c .header-at .ensures) .count ∙ sym (numbers-count bytes)
 
+at-place-requires : tie.Need-at-place-requires
+at-place-requires c κs = search needs
+
 returns : tie.Need-returns
 returns c =
-    let f = c .before .before in
+    let t = c .before in
+    let f = t .before .before in
     let h = f .before .before in
-    offending-told (numbersOf (now (h .before .before .args .bytes))) (f .first-offending .result) (h .header-at .result .count)
-    (f .first-offending .ensures) (counted h) (c .if1 .taken)
+    ap Refused (c .at-place .ensures)
+    ∙ offending-told (numbersOf (now (h .before .before .args .bytes))) (f .first-offending .result) (h .header-at .result .count)
+    (f .first-offending .ensures) (counted h) (t .if1 .taken)
 
 returns-2 : tie.Need-returns-2
 returns-2 c =
@@ -49,4 +55,5 @@ returns-2 c =
 
 pub judge-halves-spec : {M : Type 1} → statement M
 judge-halves-spec =
-    tie.close (tie.spec header-at-requires slice-aggregate-first-offending first-offending-requires returns returns-2)
+    tie.close
+    (tie.spec header-at-requires slice-aggregate-first-offending first-offending-requires at-place-requires returns returns-2)

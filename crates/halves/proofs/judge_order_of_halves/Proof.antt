@@ -14,8 +14,8 @@ use Rattle.halves.proofs.judge_order_of_halves.Tie as tie
 judge-order-requires : tie.Need-judge-order-requires
 judge-order-requires c κs = search needs
 
-enum-known-number : tie.Need-enum-known-number
-enum-known-number c = search needs
+enum-known-refusal : tie.Need-enum-known-refusal
+enum-known-refusal c = search needs
 
 enum-told : tie.Need-enum-told
 enum-told c = search needs
@@ -31,10 +31,10 @@ judge-halves-requires c κs = passed c
 
 returns : tie.Need-returns
 returns c =
-    let r = c .before .number .given in
+    let r = c .before .refusal .given in
     let j = c .before .before .before in
     let bytes = now (j .before .before .args .bytes) in
-    sym (told-refused (orderChecks bytes) (halvesChecks (numbersOf bytes)) (r .0 .0) (r .0 .1 .0)
+    sym (told-refused (orderChecks bytes) (halvesChecks (numbersOf bytes)) (r .0 .0)
     (sym (j .judge-order .ensures) ∙ r .1))
 
 returns-2 : tie.Need-returns-2
@@ -46,4 +46,4 @@ returns-2 c =
 
 pub judge-order-of-halves-spec : {M : Type 1} → statement M
 judge-order-of-halves-spec =
-    tie.close (tie.spec judge-order-requires enum-known-number enum-told judge-halves-requires returns returns-2)
+    tie.close (tie.spec judge-order-requires enum-known-refusal enum-told judge-halves-requires returns returns-2)

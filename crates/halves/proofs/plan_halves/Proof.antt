@@ -17,8 +17,8 @@ use Rattle.halves.proofs.plan_halves.Tie as tie
 judge-order-of-halves-requires : tie.Need-judge-order-of-halves-requires
 judge-order-of-halves-requires c κs = search needs
 
-enum-known-number : tie.Need-enum-known-number
-enum-known-number c = search needs
+enum-known-refusal : tie.Need-enum-known-refusal
+enum-known-refusal c = search needs
 
 enum-told : tie.Need-enum-told
 enum-told c = search needs
@@ -44,10 +44,10 @@ add-seconds-requires c κs =
 
 returns : tie.Need-returns
 returns c =
-    let r = c .before .number .given in
+    let r = c .before .refusal .given in
     let j = c .before .before .before in
     let a = j .before .before .args in
-    halves-stopped (now (a .bytes)) (now (a .starts)) (now (a .work)) (r .0 .0) (r .0 .1 .0)
+    halves-stopped (now (a .bytes)) (now (a .starts)) (now (a .work)) (r .0 .0)
     (sym (j .judge-order-of-halves .ensures) ∙ r .1)
 
 same-length : tie.Need-same-length
@@ -67,5 +67,5 @@ returns-2 c =
 pub plan-halves-spec : {M : Type 1} → statement M
 plan-halves-spec =
     tie.close
-    (tie.spec judge-order-of-halves-requires enum-known-number enum-told plan-order-requires add-seconds-requires returns same-length
+    (tie.spec judge-order-of-halves-requires enum-known-refusal enum-told plan-order-requires add-seconds-requires returns same-length
     same-length-2 returns-2)

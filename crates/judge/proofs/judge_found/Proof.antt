@@ -10,8 +10,14 @@ use Rattle.judge.specs.Repeats.{firstAgain}
 use Rattle.judge.proofs.judge_found.Statement.{statement}
 use Rattle.judge.proofs.judge_found.Tie as tie
 
+in-field-requires : tie.Need-in-field-requires
+in-field-requires c κs = search needs
+
 returns : tie.Need-returns
-returns c = let a = c .before .before .args in rw (lt-ltb (a .jobs .place) (a .jobs .count) (c .if1 .taken))
+returns c =
+    let t = c .before in
+    let a = t .before .before .args in
+    rw (c .in-field .ensures, lt-ltb (a .jobs .place) (a .jobs .count) (t .if1 .taken))
 
 slice-aggregate-first-repeat : tie.Need-slice-aggregate-first-repeat
 slice-aggregate-first-repeat c =
@@ -27,14 +33,19 @@ found : (c : tie.After-first-repeat)
     c .first-repeat .result ≡ firstAgain (take (a .jobs .count) (now (a .numbers)))
 found c = c .first-repeat .ensures
 
+at-place-requires : tie.Need-at-place-requires
+at-place-requires c κs = search needs
+
 returns-2 : tie.Need-returns-2
 returns-2 c =
-    let r = c .before in
+    let t = c .before in
+    let r = t .before in
     let a = r .before .before .before .before .args in
     rw (
+      c .at-place .ensures,
       le-ltb (a .jobs .place) (a .jobs .count) (r .before .before .if1 .left),
       ← (found r),
-      lt-ltb (r .first-repeat .result) (a .jobs .count) (c .if2 .taken),
+      lt-ltb (r .first-repeat .result) (a .jobs .count) (t .if2 .taken),
     )
 
 returns-3 : tie.Need-returns-3
@@ -48,4 +59,6 @@ returns-3 c =
     )
 
 pub judge-found-spec : {M : Type 1} → statement M
-judge-found-spec = tie.close (tie.spec returns slice-aggregate-first-repeat first-repeat-requires returns-2 returns-3)
+judge-found-spec =
+    tie.close
+    (tie.spec in-field-requires returns slice-aggregate-first-repeat first-repeat-requires at-place-requires returns-2 returns-3)

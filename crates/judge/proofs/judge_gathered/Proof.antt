@@ -12,8 +12,8 @@ use Rattle.judge.proofs.judge_gathered.Tie as tie
 judge-found-requires : tie.Need-judge-found-requires
 judge-found-requires c κs = search needs
 
-enum-known-number : tie.Need-enum-known-number
-enum-known-number c = search needs
+enum-known-refusal : tie.Need-enum-known-refusal
+enum-known-refusal c = search needs
 
 enum-told : tie.Need-enum-told
 enum-told c = search needs
@@ -31,9 +31,9 @@ module _ (s : tie.Start) where
 
 returns : tie.Need-returns
 returns c =
-    let r = c .before .number .given in
+    let r = c .before .refusal .given in
     let s = c .before .before .before .before .before in
-    sym (else-refused (found s) (sum s) (r .0 .0) (r .0 .1 .0) (sym (c .before .before .before .judge-found .ensures) ∙ r .1))
+    sym (else-refused (found s) (sum s) (r .0 .0) (sym (c .before .before .before .judge-found .ensures) ∙ r .1))
 
 returns-2 : tie.Need-returns-2
 returns-2 c =
@@ -44,4 +44,4 @@ returns-2 c =
 
 pub judge-gathered-spec : {M : Type 1} → statement M
 judge-gathered-spec =
-    tie.close (tie.spec judge-found-requires enum-known-number enum-told judge-sum-requires returns returns-2)
+    tie.close (tie.spec judge-found-requires enum-known-refusal enum-told judge-sum-requires returns returns-2)

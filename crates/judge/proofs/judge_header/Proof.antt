@@ -12,7 +12,7 @@ use mir.Facts.{toZ-ofZ}
 use borrow.Author.Needs.{needs}
 use borrow.Author.Tests.{lt-ltb, le-ltb, eq-eqb, ne-eqb, not-true, not-false}
 use Rattle.seconds.specs.Ranges.{isTime}
-use Rattle.packed.specs.Judge.{fine, refused, judge}
+use Rattle.packed.specs.Judge.{plainly, fine, refused, judge}
 use Rattle.packed.specs.Refusals.{headerChecks}
 use Rattle.packed.specs.Steps.{header-judge}
 use Rattle.fields.specs.Facts.{HeaderRead, header-read}
@@ -21,10 +21,14 @@ use Rattle.judge.specs.Told.{header-told}
 use Rattle.judge.proofs.judge_header.Statement.{statement}
 use Rattle.judge.proofs.judge_header.Tie as tie
 
+plainly-requires : tie.Need-plainly-requires
+plainly-requires c κs = search needs
+
 returns : tie.Need-returns
 returns c =
-    let bytes = now (c .before .before .args .bytes) in
-    rw (header-judge bytes, lt-ltb (length bytes) 4 (c .if1 .taken))
+    let t = c .before in
+    let bytes = now (t .before .before .args .bytes) in
+    rw (c .plainly .ensures, header-judge bytes, lt-ltb (length bytes) 4 (t .if1 .taken))
 
 header-at-requires : tie.Need-header-at-requires
 header-at-requires c κs = search needs
@@ -43,23 +47,33 @@ module _ (c : tie.After-struct-told) where
   t0-fits : SFits w32 (header .t0)
   t0-fits = record { sfits = c .struct-told .given .1 .0 .1 }
 
+plainly-requires-2 : tie.Need-plainly-requires-2
+plainly-requires-2 c κs = search needs
+
 returns-2 : tie.Need-returns-2
 returns-2 c =
-    let h = c .before in
+    let t = c .before in
+    let h = t .before in
     rw (
+      c .plainly2 .ensures,
       header-told (bytes h) (header h) (says h),
       le-ltb (length (bytes h)) 4 (h .before .before .if1 .left),
-      ne-eqb (header h .spare) 0 (c .if2 .taken),
+      ne-eqb (header h .spare) 0 (t .if2 .taken),
     )
+
+plainly-requires-3 : tie.Need-plainly-requires-3
+plainly-requires-3 c κs = search needs
 
 returns-3 : tie.Need-returns-3
 returns-3 c =
-    let h = c .before .before in
+    let t = c .before in
+    let h = t .before .before in
     rw (
+      c .plainly3 .ensures,
       header-told (bytes h) (header h) (says h),
       le-ltb (length (bytes h)) 4 (h .before .before .if1 .left),
-      eq-eqb (header h .spare) 0 (c .before .if2 .left),
-      lt-ltb 48 (header h .count) (c .if3 .taken),
+      eq-eqb (header h .spare) 0 (t .before .if2 .left),
+      lt-ltb 48 (header h .count) (t .if3 .taken),
     )
 
 mul-if4 : tie.Need-mul-if4
@@ -68,15 +82,20 @@ mul-if4 c = search needs
 add-if4 : tie.Need-add-if4
 add-if4 c = search needs
 
+plainly-requires-4 : tie.Need-plainly-requires-4
+plainly-requires-4 c κs = search needs
+
 returns-4 : tie.Need-returns-4
 returns-4 c =
-    let h = c .before .before .before in
+    let t = c .before in
+    let h = t .before .before .before in
     rw (
+      c .plainly4 .ensures,
       header-told (bytes h) (header h) (says h),
       le-ltb (length (bytes h)) 4 (h .before .before .if1 .left),
-      eq-eqb (header h .spare) 0 (c .before .before .if2 .left),
-      le-ltb 48 (header h .count) (c .before .if3 .left),
-      ne-eqb (length (bytes h)) (4 + 8 * header h .count) (c .if4 .taken),
+      eq-eqb (header h .spare) 0 (t .before .before .if2 .left),
+      le-ltb 48 (header h .count) (t .before .if3 .left),
+      ne-eqb (length (bytes h)) (4 + 8 * header h .count) (t .if4 .taken),
     )
 
 is-time-requires : tie.Need-is-time-requires
@@ -90,7 +109,7 @@ module _ (c : tie.After-is-time) where
   timely : c .is-time .result ≡ isTime (header read .t0)
   timely = c .is-time .ensures ∙ ap isTime (toZ-ofZ (t0-fits read))
 
-  left : judge (headerChecks (bytes read)) ≡ cond (not (isTime (header read .t0))) (refused 5 0) fine
+  left : judge (headerChecks (bytes read)) ≡ cond (not (isTime (header read .t0))) (refused (plainly 5)) fine
   left =
       rw (
         header-told (bytes read) (header read) (says read),
@@ -100,8 +119,14 @@ module _ (c : tie.After-is-time) where
         eq-eqb (length (bytes read)) (4 + 8 * header read .count) (c .before .if4 .left),
       )
 
+plainly-requires-5 : tie.Need-plainly-requires-5
+plainly-requires-5 c κs = search needs
+
 returns-5 : tie.Need-returns-5
-returns-5 c = let e = c .before in rw (left e, sym (timely e) ∙ not-true (e .is-time .result) (c .if5 .taken))
+returns-5 c =
+    let t = c .before in
+    let e = t .before in
+    rw (c .plainly5 .ensures, left e, sym (timely e) ∙ not-true (e .is-time .result) (t .if5 .taken))
 
 returns-6 : tie.Need-returns-6
 returns-6 c = let e = c .before in rw (left e, sym (timely e) ∙ not-false (e .is-time .result) (c .if5 .left))
@@ -109,4 +134,5 @@ returns-6 c = let e = c .before in rw (left e, sym (timely e) ∙ not-false (e .
 pub judge-header-spec : {M : Type 1} → statement M
 judge-header-spec =
     tie.close
-    (tie.spec returns header-at-requires returns-2 returns-3 mul-if4 add-if4 returns-4 is-time-requires returns-5 returns-6)
+    (tie.spec plainly-requires returns header-at-requires plainly-requires-2 returns-2 plainly-requires-3 returns-3 mul-if4 add-if4
+    plainly-requires-4 returns-4 is-time-requires plainly-requires-5 returns-5 returns-6)

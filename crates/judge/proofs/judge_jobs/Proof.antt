@@ -14,8 +14,8 @@ use Rattle.judge.proofs.judge_jobs.Tie as tie
 judge-header-requires : tie.Need-judge-header-requires
 judge-header-requires c κs = search needs
 
-enum-known-number : tie.Need-enum-known-number
-enum-known-number c = search needs
+enum-known-refusal : tie.Need-enum-known-refusal
+enum-known-refusal c = search needs
 
 enum-told : tie.Need-enum-told
 enum-told c = search needs
@@ -40,9 +40,9 @@ judge-found-requires c κs = search needs
 
 returns : tie.Need-returns
 returns c =
-    let r = c .before .number .given in
+    let r = c .before .refusal .given in
     let bytes = now (c .before .before .before .before .before .args .bytes) in
-    sym (told-refused (headerChecks bytes) (jobChecks (numbersOf bytes)) (r .0 .0) (r .0 .1 .0)
+    sym (told-refused (headerChecks bytes) (jobChecks (numbersOf bytes)) (r .0 .0)
     (sym (c .before .before .before .judge-header .ensures) ∙ r .1))
 
 returns-2 : tie.Need-returns-2
@@ -57,5 +57,5 @@ returns-2 c =
 pub judge-jobs-spec : {M : Type 1} → statement M
 judge-jobs-spec =
     tie.close
-    (tie.spec judge-header-requires enum-known-number enum-told slice-aggregate-gather gather-requires slice-aggregate-judge-found
+    (tie.spec judge-header-requires enum-known-refusal enum-told slice-aggregate-gather gather-requires slice-aggregate-judge-found
     judge-found-requires returns returns-2)

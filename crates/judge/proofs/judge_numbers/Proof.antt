@@ -16,8 +16,8 @@ use Rattle.judge.proofs.judge_numbers.Tie as tie
 judge-list-requires : tie.Need-judge-list-requires
 judge-list-requires c κs = search needs
 
-enum-known-number : tie.Need-enum-known-number
-enum-known-number c = search needs
+enum-known-refusal : tie.Need-enum-known-refusal
+enum-known-refusal c = search needs
 
 enum-told : tie.Need-enum-told
 enum-told c = search needs
@@ -56,10 +56,10 @@ judge-gathered-requires c κs = search needs
 
 returns : tie.Need-returns
 returns c =
-    let r = c .before .number .given in
+    let r = c .before .refusal .given in
     let a = c .before .before .before .before .args in
     let given = now (a .given) in
-    sym (first-refused (listChecks (a .t0) given) (jobChecks given) (weightChecks 0 given) (r .0 .0) (r .0 .1 .0)
+    sym (first-refused (listChecks (a .t0) given) (jobChecks given) (weightChecks 0 given) (r .0 .0)
     (sym (list-says (c .before .before .before)) ∙ r .1))
 
 returns-2 : tie.Need-returns-2
@@ -73,5 +73,5 @@ returns-2 c =
 pub judge-numbers-spec : {M : Type 1} → statement M
 judge-numbers-spec =
     tie.close
-    (tie.spec judge-list-requires enum-known-number enum-told slice-aggregate-gather-given gather-given-requires
+    (tie.spec judge-list-requires enum-known-refusal enum-told slice-aggregate-gather-given gather-given-requires
     slice-aggregate-judge-gathered judge-gathered-requires returns returns-2)

@@ -14,8 +14,8 @@ use Rattle.judge.proofs.judge_order.Tie as tie
 judge-header-requires : tie.Need-judge-header-requires
 judge-header-requires c κs = search needs
 
-enum-known-number : tie.Need-enum-known-number
-enum-known-number c = search needs
+enum-known-refusal : tie.Need-enum-known-refusal
+enum-known-refusal c = search needs
 
 enum-told : tie.Need-enum-told
 enum-told c = search needs
@@ -40,10 +40,10 @@ judge-gathered-requires c κs = search needs
 
 returns : tie.Need-returns
 returns c =
-    let r = c .before .number .given in
+    let r = c .before .refusal .given in
     let a = c .before .before .before .before .before .args in
     let zs = numbersOf (now (a .bytes)) in
-    sym (first-refused (headerChecks (now (a .bytes))) (jobChecks zs) (weightChecks (a .before) zs) (r .0 .0) (r .0 .1 .0)
+    sym (first-refused (headerChecks (now (a .bytes))) (jobChecks zs) (weightChecks (a .before) zs) (r .0 .0)
     (sym (c .before .before .before .judge-header .ensures) ∙ r .1))
 
 returns-2 : tie.Need-returns-2
@@ -58,5 +58,5 @@ returns-2 c =
 pub judge-order-spec : {M : Type 1} → statement M
 judge-order-spec =
     tie.close
-    (tie.spec judge-header-requires enum-known-number enum-told slice-aggregate-gather gather-requires slice-aggregate-judge-gathered
+    (tie.spec judge-header-requires enum-known-refusal enum-told slice-aggregate-gather gather-requires slice-aggregate-judge-gathered
     judge-gathered-requires returns returns-2)

@@ -1,29 +1,38 @@
 -- `judge::take_in` meets its contract: a job within its limits has a number and a weight that can be cast.
 -- Assumes nothing.
-use mathlib.Core.Path.{_≡_, refl, sym, _∙_}
-use mathlib.Core.Bool.{true, false}
+use Prim.Native.Nat.{ℕ}
+use mathlib.Core.Path.{_≡_, refl, sym, ap, _∙_}
+use mathlib.Core.Bool.{true}
 use native.Mathlib.Omega.{arith}
 use mir.Syntax.{w8, w32}
 use mir.Val.{toZ, ofZ}
 use borrow.Author.Needs.{needs}
-use borrow.Author.Tests.{not-true, not-false}
 use Rattle.seconds.specs.Signed.{signed, abs-is}
 use Rattle.packed.specs.Refusals.{fieldsWithin}
 use Rattle.fields.specs.Fields.{fieldsOf}
-use Rattle.fields.specs.Facts.{JobFacts, job-facts}
+use Rattle.fields.specs.Facts.{JobFacts, job-facts, no-bad-field, some-bad-field}
 use Rattle.fields.specs.declared.Job.{Job}
+use Rattle.judge.specs.declared.Gathered.{Gathered}
 use Rattle.judge.specs.Gathering.{kept, casts}
 use Rattle.judge.proofs.take_in.Statement.{statement}
 use Rattle.judge.proofs.take_in.Tie as tie
 
-within-requires : tie.Need-within-requires
-within-requires c κs = search needs
+bad-field-requires : tie.Need-bad-field-requires
+bad-field-requires c κs = search needs
 
 returns : tie.Need-returns
 returns c =
-    let out : fieldsWithin (fieldsOf (c .before .before .before .args .job)) ≡ false =
-    sym (c .before .within .ensures) ∙ not-true (c .before .within .result) (c .if1 .taken) in
-    rw out (refl, refl)
+    let a = c .before .before .before .args in
+    let named = c .before .bad-field .ensures in
+    let out = some-bad-field (a .job) (λ e. c .if1 .taken (named ∙ e)) in
+    let ended : ℕ → Gathered = λ field. record {
+      count = a .jobs .count;
+      place = a .jobs .place;
+      end = a .jobs .place;
+      weight = a .jobs .weight;
+      field = field;
+    } in
+    rw out (ap ended named, refl)
 
 -- Past the test the job is within its limits.
 module _ (c : tie.Else1) where
@@ -31,7 +40,7 @@ module _ (c : tie.Else1) where
   job = c .before .before .before .args .job
 
   fine : fieldsWithin (fieldsOf job) ≡ true
-  fine = sym (c .before .within .ensures) ∙ not-false (c .before .within .result) (c .if1 .left)
+  fine = no-bad-field job (sym (c .before .bad-field .ensures) ∙ c .if1 .left)
 
   facts : JobFacts job
   facts = job-facts job .0 fine
@@ -76,4 +85,4 @@ returns-2 c =
 pub take-in-spec : {M : Type 1} → statement M
 take-in-spec =
     tie.close
-    (tie.spec within-requires returns cast-numbers slice-write-numbers add-next cast-gain add-total same-length returns-2)
+    (tie.spec bad-field-requires returns cast-numbers slice-write-numbers add-next cast-gain add-total same-length returns-2)

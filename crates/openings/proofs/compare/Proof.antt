@@ -7,10 +7,15 @@ use Rattle.openings.specs.ChoosingLaws.{no-room, compared}
 use Rattle.openings.proofs.compare.Statement.{statement}
 use Rattle.openings.proofs.compare.Tie as tie
 
+plainly-requires : tie.Need-plainly-requires
+plainly-requires c κs = search needs
+
 returns : tie.Need-returns
 returns c =
-    let s = c .before .before .before in
-    no-room (now (s .args .first)) (now (s .args .second)) (s .args .t) (now (s .args .work)) (s .pre) (c .if1 .taken)
+    let t = c .before in
+    let s = t .before .before .before in
+    rw (c .plainly .ensures)
+    (no-room (now (s .args .first)) (now (s .args .second)) (s .args .t) (now (s .args .work)) (s .pre) (t .if1 .taken))
 
 weigh-requires : tie.Need-weigh-requires
 weigh-requires c κs = search needs
@@ -40,4 +45,4 @@ returns-2 c =
 
 pub compare-spec : {M : Type 1} → statement M
 compare-spec =
-    tie.close (tie.spec returns weigh-requires weigh-requires-2 clear-requires winner-requires same-length returns-2)
+    tie.close (tie.spec plainly-requires returns weigh-requires weigh-requires-2 clear-requires winner-requires same-length returns-2)

@@ -14,8 +14,8 @@ use Rattle.openings.proofs.question.Tie as tie
 judge-order-requires : tie.Need-judge-order-requires
 judge-order-requires c κs = search needs
 
-enum-known-number : tie.Need-enum-known-number
-enum-known-number c = search needs
+enum-known-refusal : tie.Need-enum-known-refusal
+enum-known-refusal c = search needs
 
 enum-told : tie.Need-enum-told
 enum-told c = search needs
@@ -23,8 +23,8 @@ enum-told c = search needs
 judge-order-requires-2 : tie.Need-judge-order-requires-2
 judge-order-requires-2 c κs = search needs
 
-enum-known-number-2 : tie.Need-enum-known-number-2
-enum-known-number-2 c = search needs
+enum-known-refusal-2 : tie.Need-enum-known-refusal-2
+enum-known-refusal-2 c = search needs
 
 enum-told-2 : tie.Need-enum-told-2
 enum-told-2 c = search needs
@@ -47,21 +47,29 @@ compare-requires c κs =
       other = told-fine (orderChecks (now (s .args .second))) (sym (j .judge-order2 .ensures) ∙ p .enum-told2 .given .1);
     }
 
+without-place-requires : tie.Need-without-place-requires
+without-place-requires c κs = search needs
+
+without-place-requires-2 : tie.Need-without-place-requires-2
+without-place-requires-2 c κs = search needs
+
 returns : tie.Need-returns
 returns c =
-    let n = c .before in
+    let n = c .before .before in
     let j = n .before .before in
     let s = j .before .before .before in
-    first-refused (now (s .args .first)) (now (s .args .second)) (s .args .t) (now (s .args .work))
-    (sym (j .judge-order .ensures) ∙ n .number .given .1)
+    rw (c .without-place .ensures)
+    (first-refused (now (s .args .first)) (now (s .args .second)) (s .args .t) (now (s .args .work)) (n .refusal .given .0 .0)
+    (sym (j .judge-order .ensures) ∙ n .refusal .given .1))
 
 returns-2 : tie.Need-returns-2
 returns-2 c =
-    let n = c .before in
+    let n = c .before .before in
     let j = n .before .before in
     let s = j .before .before .before .before .before .before in
-    second-refused (now (s .args .first)) (now (s .args .second)) (s .args .t) (now (s .args .work)) (first-passed (j .before))
-    (sym (j .judge-order2 .ensures) ∙ n .number2 .given .1)
+    rw (c .without-place2 .ensures)
+    (second-refused (now (s .args .first)) (now (s .args .second)) (s .args .t) (now (s .args .work)) (n .refusal2 .given .0 .0)
+    (first-passed (j .before)) (sym (j .judge-order2 .ensures) ∙ n .refusal2 .given .1))
 
 same-length : tie.Need-same-length
 same-length c = search needs
@@ -76,10 +84,12 @@ question-spec =
     tie.close
     (tie.spec
     judge-order-requires
-    enum-known-number
+    enum-known-refusal
+    without-place-requires
     enum-told
     judge-order-requires-2
-    enum-known-number-2
+    enum-known-refusal-2
+    without-place-requires-2
     enum-told-2
     compare-requires
     returns

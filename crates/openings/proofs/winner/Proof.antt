@@ -11,6 +11,9 @@ enum-told c = search needs
 enum-told-2 : tie.Need-enum-told-2
 enum-told-2 c = search needs
 
+plainly-requires : tie.Need-plainly-requires
+plainly-requires c κs = search needs
+
 enum-told-3 : tie.Need-enum-told-3
 enum-told-3 c = search needs
 
@@ -24,7 +27,9 @@ enum-known-second : tie.Need-enum-known-second
 enum-known-second c = search needs
 
 returns : tie.Need-returns
-returns c = search needs
+returns c =
+    let second = c .before in
+    rw (c .plainly .ensures, second .before .before .enum-told .given .1, second .enum-told2 .given .1)
 
 returns-2 : tie.Need-returns-2
 returns-2 c = search needs
@@ -48,6 +53,7 @@ winner-spec =
     (tie.spec
     enum-told
     enum-told-2
+    plainly-requires
     enum-told-3
     enum-known-first
     enum-told-4

@@ -16,14 +16,15 @@ use Rattle.judge.specs.Verdicts.{verdictOf}
 use Rattle.judge.specs.Told.{told-fine}
 use Rattle.pack.specs.Writing.{firstRecords}
 use Rattle.pack.specs.AnswerLaws.{packs-refused, packs-no-room, header-room, packable, packs-written}
+use Rattle.pack.specs.declared.Packed.the-variants.{Refused}
 use Rattle.pack.proofs.pack.Statement.{statement}
 use Rattle.pack.proofs.pack.Tie as tie
 
 judge-numbers-requires : tie.Need-judge-numbers-requires
 judge-numbers-requires c κs = search needs
 
-enum-known-number : tie.Need-enum-known-number
-enum-known-number c = search needs
+enum-known-refusal : tie.Need-enum-known-refusal
+enum-known-refusal c = search needs
 
 enum-told : tie.Need-enum-told
 enum-told c = search needs
@@ -49,10 +50,15 @@ mul-written c = search needs
 add-written : tie.Need-add-written
 add-written c = search needs
 
+plainly-requires : tie.Need-plainly-requires
+plainly-requires c κs = search needs
+
 returns : tie.Need-returns
 returns c =
-    let a = c .before .before .before .before .before .args in
-    packs-no-room (a .t0) (a .numbers .now) (a .bytes .now) (passed (c .before)) (c .if1 .taken)
+    let t = c .before in
+    let a = t .before .before .before .before .before .args in
+    let packs = packs-no-room (a .t0) (a .numbers .now) (a .bytes .now) (passed (t .before)) (t .if1 .taken) in
+    (ap Refused (c .plainly .ensures) ∙ packs .0, packs .1)
 
 put-header-requires : tie.Need-put-header-requires
 put-header-requires c κs =
@@ -70,8 +76,8 @@ write-jobs-requires c κs =
 returns-2 : tie.Need-returns-2
 returns-2 c =
     let a = c .before .before .before .before .before .args in
-    let said = c .before .number .given in
-    packs-refused (a .t0) (a .numbers .now) (a .bytes .now) (said .0 .0) (said .0 .1 .0)
+    let said = c .before .refusal .given in
+    packs-refused (a .t0) (a .numbers .now) (a .bytes .now) (said .0 .0)
     (told (c .before .before .before) ∙ said .1)
 
 same-length : tie.Need-same-length
@@ -92,5 +98,5 @@ returns-3 c =
 pub pack-spec : {M : Type 1} → statement M
 pack-spec =
     tie.close
-    (tie.spec judge-numbers-requires enum-known-number enum-told mul-written add-written returns put-header-requires
-    write-jobs-requires returns-2 same-length returns-3)
+    (tie.spec judge-numbers-requires enum-known-refusal enum-told mul-written add-written plainly-requires returns
+    put-header-requires write-jobs-requires returns-2 same-length returns-3)

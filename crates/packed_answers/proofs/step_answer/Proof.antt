@@ -8,6 +8,8 @@ use mir.Syntax.{w32}
 use mir.Val.{SFits, hbits}
 use mir.Facts.{toZ-ofZ}
 use borrow.Author.Needs.{needs}
+use Rattle.packed.specs.declared.Refusal.{Refusal}
+use Rattle.packed.specs.Judge.{noRefusal}
 use Rattle.reader.specs.declared.Moved.{Moved}
 use Rattle.reader.specs.declared.Read.{Read}
 use Rattle.reader.specs.declared.Read.the-variants as read
@@ -25,6 +27,9 @@ no-job-requires c κs = search needs
 
 enum-told : tie.Need-enum-told
 enum-told c = search needs
+
+plainly-requires : tie.Need-plainly-requires
+plainly-requires c κs = search needs
 
 no-job-requires-2 : tie.Need-no-job-requires-2
 no-job-requires-2 c κs = search needs
@@ -52,15 +57,17 @@ returns : tie.Need-returns
 returns c =
     let m = c .before .before .before .before .args .moved in
     let given = c .before .before .answer .given in
-    let told = noJob (given .0 .0) (given .0 .1 .0) 0 (m .place) in
+    let told = noJob (given .0 .0) 0 (m .place) in
     let made : c .no-job .result ≡ told = c .no-job .ensures in
     made ∙ sym (ap (stepFrom m) (given .1))
 
 returns-2 : tie.Need-returns-2
 returns-2 c =
-    let m = c .before .before .before .args .moved in
-    let made : c .no-job2 .result ≡ noJob 0 0 1 (m .place) = c .no-job2 .ensures in
-    made ∙ sym (ap (stepFrom m) (c .before .enum-told .given .1))
+    let t = c .before in
+    let m = t .before .before .before .args .moved in
+    let made : c .no-job2 .result ≡ noJob (t .plainly .result) 1 (m .place) = c .no-job2 .ensures in
+    let none : t .plainly .result ≡ noRefusal = t .plainly .ensures in
+    made ∙ ap (λ (r : Refusal). noJob r 1 (m .place)) none ∙ sym (ap (stepFrom m) (t .before .enum-told .given .1))
 
 returns-3 : tie.Need-returns-3
 returns-3 c =
@@ -83,6 +90,7 @@ step-answer-spec =
     enum-known-answer
     no-job-requires
     enum-told
+    plainly-requires
     no-job-requires-2
     enum-known-answer-2
     returns

@@ -33,7 +33,7 @@ returns c =
 returns-2 : tie.Need-returns-2
 returns-2 c =
     let a = c .before .before .before .args in
-    let answer : ℕ → ChooseAnswer = λ n. record { refusal = 0; winner = 1; offset = 4; length = n } in
+    let answer : ℕ → ChooseAnswer = λ n. record { refusal = 0; field = 0; winner = 1; offset = 4; length = n } in
     let records : c .records-length .result ≡ a .first - headerBytes = c .records-length .ensures in
     ap answer records
     ∙ sym (ap (λ (won : Chosen). chooseNumbers won (a .first) (a .second)) (c .before .enum-told .given .1))
@@ -41,7 +41,7 @@ returns-2 c =
 returns-3 : tie.Need-returns-3
 returns-3 c =
     let a = c .before .before .before .args in
-    let answer : ℕ → ChooseAnswer = λ n. record { refusal = 0; winner = 2; offset = 4; length = n } in
+    let answer : ℕ → ChooseAnswer = λ n. record { refusal = 0; field = 0; winner = 2; offset = 4; length = n } in
     let records : c .records-length2 .result ≡ a .second - headerBytes = c .records-length2 .ensures in
     ap answer records
     ∙ sym (ap (λ (won : Chosen). chooseNumbers won (a .first) (a .second)) (c .before .enum-told2 .given .1))

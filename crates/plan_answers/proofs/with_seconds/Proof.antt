@@ -9,7 +9,7 @@ use Rattle.plan_answers.proofs.with_seconds.Tie as tie
 
 returns : tie.Need-returns
 returns c =
-    let fits : SFits w32 (c .before .args .plan .finish) = record { sfits = c .struct-told .given .1 .1 .1 .1 .1 .1 .0 .1 } in
+    let fits : SFits w32 (c .before .args .plan .finish) = record { sfits = c .struct-told .given .1 .1 .1 .1 .1 .1 .1 .0 .1 } in
     rw (toZ-ofZ fits) refl
 
 pub with-seconds-spec : {M : Type 1} → statement M

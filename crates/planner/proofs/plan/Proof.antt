@@ -12,8 +12,8 @@ use Rattle.planner.proofs.plan.Tie as tie
 judge-order-requires : tie.Need-judge-order-requires
 judge-order-requires c κs = search needs
 
-enum-known-number : tie.Need-enum-known-number
-enum-known-number c = search needs
+enum-known-refusal : tie.Need-enum-known-refusal
+enum-known-refusal c = search needs
 
 enum-told : tie.Need-enum-told
 enum-told c = search needs
@@ -28,8 +28,8 @@ returns : tie.Need-returns
 returns c =
     let j = c .before .before .before in
     let a = j .before .before .args in
-    let r = c .before .number .given in
-    plan-stopped (now (a .bytes)) (now (a .starts)) (now (a .work)) (r .0 .0) (r .0 .1 .0) (sym (j .judge-order .ensures) ∙ r .1)
+    let r = c .before .refusal .given in
+    plan-stopped (now (a .bytes)) (now (a .starts)) (now (a .work)) (r .0 .0) (sym (j .judge-order .ensures) ∙ r .1)
 
 same-length : tie.Need-same-length
 same-length c = search needs
@@ -45,7 +45,7 @@ plan-spec =
     tie.close
     (tie.spec
     judge-order-requires
-    enum-known-number
+    enum-known-refusal
     enum-told
     plan-order-requires
     returns

@@ -47,17 +47,22 @@ make-plan-requires c κs =
     (can-make (s .pre) (started (f .before .before .before)) (f .fill-rows .ensures) (r .0 .0) (r .0 .1 .0)
     (sym (r .1) ∙ h .heaviest-by .ensures))
 
+plainly-requires : tie.Need-plainly-requires
+plainly-requires c κs = search needs
+
 same-length : tie.Need-same-length
 same-length c = search needs
 
 returns : tie.Need-returns
 returns c =
-    let h = c .before .before in
+    let t = c .before in
+    let h = t .before .before in
     let f = h .before .before .before in
     let s = f .before .before .before .before .before .before in
     record {
-      made = nothing-made (s .pre) (started (f .before .before .before)) (f .fill-rows .ensures)
-          (sym (c .enum-told .given .1) ∙ h .heaviest-by .ensures);
+      made = rw (c .plainly .ensures)
+          (nothing-made (s .pre) (started (f .before .before .before)) (f .fill-rows .ensures)
+          (sym (t .enum-told .given .1) ∙ h .heaviest-by .ensures));
       past = past-kept (s .pre) (started (f .before .before .before)) (f .fill-rows .ensures);
     }
 
@@ -85,6 +90,7 @@ plan-by-rows-spec =
     mul-heaviest-by
     heaviest-by-requires
     enum-told
+    plainly-requires
     enum-known-weight
     make-plan-requires
     same-length

@@ -21,19 +21,29 @@ header-at-requires c κs = order-fine (now (c .before .args .bytes)) .0 (c .befo
 read : (c : tie.After-header-at) → HeaderRead (now (c .before .before .args .bytes)) (c .header-at .result)
 read c = header-read (now (c .before .before .args .bytes)) (c .header-at .result) (c .header-at .ensures)
 
+plainly-requires : tie.Need-plainly-requires
+plainly-requires c κs = search needs
+
 returns : tie.Need-returns
 returns c =
-    let h = c .before .before in
+    let t = c .before in
+    let h = t .before .before in
     let s = h .before .before in
-    plan-no-room (now (s .args .bytes)) (now (s .args .starts)) (now (s .args .work)) (s .pre)
-    (omega (arith, c .if1 .taken, read h .count))
+    rw (c .plainly .ensures)
+    (plan-no-room (now (s .args .bytes)) (now (s .args .starts)) (now (s .args .work)) (s .pre)
+    (omega (arith, t .if1 .taken, read h .count)))
+
+plainly-requires-2 : tie.Need-plainly-requires-2
+plainly-requires-2 c κs = search needs
 
 returns-2 : tie.Need-returns-2
 returns-2 c =
-    let h = c .before .before .before in
+    let t = c .before in
+    let h = t .before .before .before in
     let s = h .before .before in
-    plan-no-space (now (s .args .bytes)) (now (s .args .starts)) (now (s .args .work)) (s .pre)
-    (omega (arith, c .before .if1 .left, read h .count)) (c .if2 .taken)
+    rw (c .plainly2 .ensures)
+    (plan-no-space (now (s .args .bytes)) (now (s .args .starts)) (now (s .args .work)) (s .pre)
+    (omega (arith, t .before .if1 .left, read h .count)) (t .if2 .taken))
 
 plan-by-rows-requires : tie.Need-plan-by-rows-requires
 plan-by-rows-requires c κs =
@@ -73,7 +83,9 @@ plan-order-spec =
     tie.close
     (tie.spec
     header-at-requires
+    plainly-requires
     returns
+    plainly-requires-2
     returns-2
     plan-by-rows-requires
     clear-requires

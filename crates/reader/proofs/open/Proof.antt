@@ -17,8 +17,8 @@ use Rattle.reader.proofs.open.Tie as tie
 judge-header-requires : tie.Need-judge-header-requires
 judge-header-requires c κs = search needs
 
-enum-known-number : tie.Need-enum-known-number
-enum-known-number c = search needs
+enum-known-refusal : tie.Need-enum-known-refusal
+enum-known-refusal c = search needs
 
 enum-told : tie.Need-enum-told
 enum-told c = search needs
@@ -35,9 +35,9 @@ header-at-requires c κs = header-fine (now (c .before .before .before .before .
 returns : tie.Need-returns
 returns c =
     let bytes = now (c .before .before .before .before .before .args .bytes) in
-    let r = c .before .number .given in
+    let r = c .before .refusal .given in
     sym (ap (openedBy (countOf bytes))
-    (refusal-told (judge (headerChecks bytes)) (r .0 .0) (r .0 .1 .0)
+    (refusal-told (judge (headerChecks bytes)) (r .0 .0)
     (sym (c .before .before .before .judge-header .ensures) ∙ r .1)))
 
 returns-2 : tie.Need-returns-2
@@ -47,4 +47,4 @@ returns-2 c =
     ap Accepted (read .count) ∙ sym (ap (openedBy (countOf bytes)) (passed (c .before)))
 
 pub open-spec : {M : Type 1} → statement M
-open-spec = tie.close (tie.spec judge-header-requires enum-known-number enum-told header-at-requires returns returns-2)
+open-spec = tie.close (tie.spec judge-header-requires enum-known-refusal enum-told header-at-requires returns returns-2)

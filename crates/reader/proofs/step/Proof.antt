@@ -4,11 +4,15 @@ use mathlib.Core.Path.{_≡_, refl, sym, ap, _∙_}
 use mathlib.Core.List.{List}
 use Prim.Native.Nat.{ℕ, _+_, _<_}
 use native.Mathlib.Omega.{arith}
+use lib.Dec.{eqb}
 use denote.Ref.{now}
 use borrow.Author.Needs.{needs}
-use borrow.Author.Tests.{not-true, not-false}
+use borrow.Author.Tests.{eq-eqb, ne-eqb}
+use Rattle.packed.specs.declared.Refusal.{Refusal}
+use Rattle.packed.specs.Judge.{inField, plainly}
 use Rattle.packed.specs.Packed.{countOf, jobFields}
-use Rattle.packed.specs.Refusals.{fieldsWithin}
+use Rattle.packed.specs.Refusals.{fieldsWithin, badField}
+use Rattle.packed.specs.FieldLaws.{no-field-within}
 use Rattle.fields.specs.Fields.{fieldsOf}
 use Rattle.fields.specs.Facts.{read-at}
 use Rattle.fields.specs.declared.Job.{Job}
@@ -24,8 +28,15 @@ open-requires c κs = search needs
 enum-known-number : tie.Need-enum-known-number
 enum-known-number c = search needs
 
+plainly-requires : tie.Need-plainly-requires
+plainly-requires c κs = search needs
+
 enum-known-count : tie.Need-enum-known-count
 enum-known-count c = search needs
+
+-- A refusal, with the reader where it stood.
+abbrev refusedAt : ℕ → Refusal → Moved
+refusedAt place r = record { answer = Read.Refused r; place = place }
 
 -- Past opening.
 module _ (c : tie.After-known-told2) where
@@ -57,11 +68,11 @@ add-job-at c = record { fits = omega (arith, below c, opened (c .before) .header
 job-at-requires : tie.Need-job-at-requires
 job-at-requires c κs = omega (arith, below c, opened (c .before) .header .whole)
 
-within-requires : tie.Need-within-requires
-within-requires c κs = search needs
+bad-field-requires : tie.Need-bad-field-requires
+bad-field-requires c κs = search needs
 
--- The job that was read is the job at the place, and the test says whether it is within its limits.
-module _ (c : tie.After-within) where
+-- The job that was read is the job at the place, and its field says whether it is within its limits.
+module _ (c : tie.After-bad-field) where
   abbrev there : tie.After-known-told2
   there = c .before .before .before
 
@@ -71,23 +82,36 @@ module _ (c : tie.After-within) where
   read : fieldsOf job ≡ jobFields (bytes there) (place there)
   read = read-at (bytes there) (place there) _ job refl (c .before .job-at .ensures)
 
-  tested : fieldsWithin (jobFields (bytes there) (place there)) ≡ c .within .result
-  tested = sym (c .within .ensures ∙ ap fieldsWithin read)
+  named : c .bad-field .result ≡ badField (jobFields (bytes there) (place there))
+  named = c .bad-field .ensures ∙ ap badField read
+
+  tested : fieldsWithin (jobFields (bytes there) (place there)) ≡ eqb (c .bad-field .result) 0
+  tested = sym (no-field-within (jobFields (bytes there) (place there))) ∙ ap (λ f. eqb f 0) (sym named)
+
+in-field-requires : tie.Need-in-field-requires
+in-field-requires c κs = search needs
 
 returns-2 : tie.Need-returns-2
 returns-2 c =
-    let a = there (c .before) in
-    sym (step-bad (bytes a) (place a) (opened a .passed) (below (c .before .before .before))
-    (tested (c .before) ∙ not-true _ (c .if2 .taken)))
+    let t = c .before in
+    let read = t .before in
+    let a = there read in
+    let says : c .in-field .result ≡ inField 6 (place a) (read .bad-field .result) = c .in-field .ensures in
+    ap (refusedAt (place a)) (says ∙ ap (inField 6 (place a)) (named read))
+    ∙ sym (step-bad (bytes a) (place a) (opened a .passed) (below (read .before .before))
+    (tested read ∙ ne-eqb (read .bad-field .result) 0 (t .if2 .taken)))
 
-add-t12 : tie.Need-add-t12
-add-t12 c = record { fits = omega (arith, below (c .before .before .before), opened (there (c .before)) .header .few) }
+add-t14 : tie.Need-add-t14
+add-t14 c = record { fits = omega (arith, below (c .before .before .before), opened (there (c .before)) .header .few) }
 
 returns-3 : tie.Need-returns-3
 returns-3 c =
-    let a = c .before .before .before .before .before in
-    sym (open-refused (now (a .args .bytes)) (a .args .place) _
-    (sym (c .before .before .before .open .ensures) ∙ c .before .number .given .1))
+    let t = c .before in
+    let a = t .before .before .before .before .before in
+    let says : c .plainly .result ≡ plainly (t .before .number .given .0 .0) = c .plainly .ensures in
+    ap (refusedAt (a .args .place)) says
+    ∙ sym (open-refused (now (a .args .bytes)) (a .args .place) _
+    (sym (t .before .before .before .open .ensures) ∙ t .before .number .given .1))
 
 returns-4 : tie.Need-returns-4
 returns-4 c =
@@ -95,10 +119,10 @@ returns-4 c =
     let made : Job → Moved = λ j. record { answer = Read.Job j; place = place a + 1 } in
     ap made (made-again (job (c .before)) (read (c .before)))
     ∙ sym (step-job (bytes a) (place a) (opened a .passed) (below (c .before .before .before))
-    (tested (c .before) ∙ not-false _ (c .if2 .left)))
+    (tested (c .before) ∙ eq-eqb (c .before .bad-field .result) 0 (c .if2 .left)))
 
 pub step-spec : {M : Type 1} → statement M
 step-spec =
     tie.close
-    (tie.spec open-requires enum-known-number enum-known-count returns mul-job-at add-job-at job-at-requires within-requires
-    returns-2 add-t12 returns-3 returns-4)
+    (tie.spec open-requires enum-known-number plainly-requires enum-known-count returns mul-job-at add-job-at job-at-requires
+    bad-field-requires in-field-requires returns-2 add-t14 returns-3 returns-4)

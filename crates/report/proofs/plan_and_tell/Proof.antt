@@ -6,7 +6,6 @@ use native.Mathlib.Omega.{arith}
 use borrow.Author.Needs.{needs}
 use Rattle.seconds.specs.Limits.{mostJobs}
 use Rattle.report.specs.Report.{refusalLine, reportOf}
-use Rattle.report.specs.WritingLaws.{refusal-line}
 use Rattle.report.specs.Telling.{refusal-told, plan-tellable}
 use Rattle.report.proofs.plan_and_tell.Statement.{statement}
 use Rattle.report.proofs.plan_and_tell.Tie as tie
@@ -14,25 +13,24 @@ use Rattle.report.proofs.plan_and_tell.Tie as tie
 plan-requires : tie.Need-plan-requires
 plan-requires c κs = search needs
 
-enum-known-number : tie.Need-enum-known-number
-enum-known-number c = search needs
+enum-known-refusal : tie.Need-enum-known-refusal
+enum-known-refusal c = search needs
 
 -- What planning refused.
-told : (c : tie.After-number)
+told : (c : tie.After-refusal)
     → (reportOf (c .before .before .before .before .before .before .before .before .before .args .bytes .now)
-    ≡ refusalLine (c .number .given .0 .0) (c .number .given .0 .1 .0)) × (c .number .given .0 .1 .0 ≤ mostJobs)
+    ≡ refusalLine (c .refusal .given .0 .0)) × (c .refusal .given .0 .0 .place ≤ mostJobs)
 told c =
     let planned = c .before .before .before .before in
     let s = planned .before .before .before .before .before in
-    let r = c .number .given in
+    let r = c .refusal .given in
     refusal-told (s .args .bytes .now) (s .args .starts .now) (s .args .work .now) (s .args .out .now) (s .pre)
-    (r .0 .0) (r .0 .1 .0) (sym (r .1) ∙ planned .plan .ensures .answer)
-
-cast-put-refusal : tie.Need-cast-put-refusal
-cast-put-refusal c = omega (arith, told (c .before .before) .1)
+    (r .0 .0) (sym (r .1) ∙ planned .plan .ensures .answer)
 
 put-refusal-requires : tie.Need-put-refusal-requires
-put-refusal-requires c κs = search needs
+put-refusal-requires c κs =
+    let s = c .before .before .before .before .before .before .before .before .before .before .before in
+    record { early = told (c .before .before) .1; room = record { fits = omega (arith, s .pre .room) } }
 
 enum-known-figures : tie.Need-enum-known-figures
 enum-known-figures c = search needs
@@ -58,8 +56,7 @@ same-length-3 c = search needs
 returns : tie.Need-returns
 returns c =
     let refused = c .before .before .before .before .before in
-    let r = refused .number .given in
-    rw (told refused .0, refusal-line (r .0 .0) (r .0 .1 .0)) (c .before .before .put-refusal .ensures .0)
+    rw (told refused .0) (c .before .before .put-refusal .ensures)
 
 same-length-4 : tie.Need-same-length-4
 same-length-4 c = search needs
@@ -78,8 +75,7 @@ plan-and-tell-spec =
     tie.close
     (tie.spec
     plan-requires
-    enum-known-number
-    cast-put-refusal
+    enum-known-refusal
     put-refusal-requires
     enum-known-figures
     tell-plan-requires

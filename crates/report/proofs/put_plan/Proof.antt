@@ -8,8 +8,8 @@ use Rattle.report.specs.WritingLaws.{plan-line}
 use Rattle.report.proofs.put_plan.Statement.{statement}
 use Rattle.report.proofs.put_plan.Tie as tie
 
-put-refusal-requires : tie.Need-put-refusal-requires
-put-refusal-requires c κs = search needs
+put-front-requires : tie.Need-put-front-requires
+put-front-requires c κs = search needs
 
 put-kept-requires : tie.Need-put-kept-requires
 put-kept-requires c κs = search needs
@@ -32,11 +32,11 @@ returns c =
     let gap = points .before .before .before .before in
     let finish = gap .before .before .before .before in
     let kept = finish .before .before .before .before .before in
-    let refusal = kept .before .before .before .before in
-    let start = refusal .before .before .before in
+    let front = kept .before .before .before .before in
+    let start = front .before .before .before in
     let fits : SFits w32 (start .args .figures .finish) =
     record { sfits = finish .before .struct-told .given .1 .1 .1 .1 .0 .1 } in
-    let first = wrote-more (refusal .put-refusal .ensures .0) (kept .put-kept .ensures .0) in
+    let first = wrote-more (front .put-front .ensures .0) (kept .put-kept .ensures .0) in
     let second = wrote-more first (wrote-number fits (finish .put-number .ensures .0)) in
     let third = wrote-more (wrote-more second (gap .put-byte .ensures)) (points .put-figure .ensures .0) in
     (rw (plan-line (start .args .figures)) third, search needs)
@@ -45,7 +45,7 @@ pub put-plan-spec : {M : Type 1} → statement M
 put-plan-spec =
     tie.close
     (tie.spec
-    put-refusal-requires
+    put-front-requires
     put-kept-requires
     put-number-requires
     put-byte-requires

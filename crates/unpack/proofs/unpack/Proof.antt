@@ -13,15 +13,15 @@ use Rattle.fields.specs.Facts.{header-read}
 use Rattle.fields.specs.declared.Header.{Header}
 use Rattle.judge.specs.Told.{told-fine}
 use Rattle.unpack.specs.AnswerLaws.{unpacks-refused, unpacks-no-room, unpackable, unpacks-written}
-use Rattle.unpack.specs.declared.Unpacked.the-variants.{Jobs}
+use Rattle.unpack.specs.declared.Unpacked.the-variants.{Refused, Jobs}
 use Rattle.unpack.proofs.unpack.Statement.{statement}
 use Rattle.unpack.proofs.unpack.Tie as tie
 
 judge-order-requires : tie.Need-judge-order-requires
 judge-order-requires c κs = search needs
 
-enum-known-number : tie.Need-enum-known-number
-enum-known-number c = search needs
+enum-known-refusal : tie.Need-enum-known-refusal
+enum-known-refusal c = search needs
 
 enum-told : tie.Need-enum-told
 enum-told c = search needs
@@ -45,11 +45,18 @@ mul-if1 c =
       order-fine bytes .0 (passed (h .before)) .header .few,
     )
 
+plainly-requires : tie.Need-plainly-requires
+plainly-requires c κs = search needs
+
 returns : tie.Need-returns
 returns c =
-    let a = c .before .before .before .before .before .before .before .args in
-    unpacks-no-room (a .bytes .now) (a .numbers .now) (passed (c .before .before .before)) (c .before .before .header-at .result)
-    (c .before .before .header-at .ensures) (c .if1 .taken)
+    let t = c .before in
+    let h = t .before .before in
+    let a = h .before .before .before .before .before .args in
+    let unpacks =
+    unpacks-no-room (a .bytes .now) (a .numbers .now) (passed (h .before)) (h .header-at .result) (h .header-at .ensures)
+    (t .if1 .taken) in
+    (ap Refused (c .plainly .ensures) ∙ unpacks .0, unpacks .1)
 
 write-numbers-requires : tie.Need-write-numbers-requires
 write-numbers-requires c κs =
@@ -61,8 +68,8 @@ write-numbers-requires c κs =
 returns-2 : tie.Need-returns-2
 returns-2 c =
     let a = c .before .before .before .before .before .args in
-    let said = c .before .number .given in
-    unpacks-refused (a .bytes .now) (a .numbers .now) (said .0 .0) (said .0 .1 .0)
+    let said = c .before .refusal .given in
+    unpacks-refused (a .bytes .now) (a .numbers .now) (said .0 .0)
     (sym (c .before .before .before .judge-order .ensures) ∙ said .1)
 
 same-length : tie.Need-same-length
@@ -83,5 +90,5 @@ returns-3 c =
 pub unpack-spec : {M : Type 1} → statement M
 unpack-spec =
     tie.close
-    (tie.spec judge-order-requires enum-known-number enum-told header-at-requires mul-if1 returns write-numbers-requires returns-2
-    same-length returns-3)
+    (tie.spec judge-order-requires enum-known-refusal enum-told header-at-requires mul-if1 plainly-requires returns
+    write-numbers-requires returns-2 same-length returns-3)

@@ -55,6 +55,7 @@ impl Trial {
         let memory = lent.holds(&wanted.starts) && self.work.holds(wanted.after);
         let figures = (PlanAnswer::from(given), given.seconds_lost);
         let wanted_figures = (wanted.answer, wanted.seconds_lost);
+        self.tally.fields.count("plan_halves", given.field);
         self.tally.compare("plan_halves", (given.refusal, figures, memory), wanted_figures, &bytes);
         self.typed_plan_halves(bytes, &wanted);
         self.count_halves(bytes, wanted_figures);

@@ -8,10 +8,10 @@ use leafanchor::calls::{self, ChooseAnswer, QuestionAnswer};
 use trials::Order;
 
 impl Trial {
-    /// Asks and chooses between bytes of any kind, at times the same bytes twice.
+    /// Asks and chooses between bytes of any kind, at times between two damaged orders or the same bytes twice.
     pub fn openings(&mut self) {
-        let first = inputs::bytes(&mut self.random);
-        let other = inputs::bytes(&mut self.random);
+        let draw = if self.random.once_in(5) { inputs::bytes_of_damaged } else { inputs::bytes };
+        let (first, other) = (draw(&mut self.random), draw(&mut self.random));
         let second = if self.random.once_in(20) { &first } else { &other };
         self.weigh(&first, second);
     }
@@ -21,21 +21,36 @@ impl Trial {
         let t = self.time_for(first, second);
         let given = calls::question(first, second, t, self.work.lend(&mut self.random));
         let wanted = match winner(first, second, t, self.work.is_enough()) {
-            Ok((winner, _)) => QuestionAnswer { refusal: 0, winner },
-            Err(refused) => QuestionAnswer { refusal: refused.number, winner: 0 },
+            Ok((winner, _)) => QuestionAnswer { winner, ..Default::default() },
+            Err(Refused { number, field, .. }) => {
+                QuestionAnswer { refusal: number, field, ..Default::default() }
+            }
         };
         let memory = self.work.holds(after(wanted.refusal));
+        self.tally.fields.count("question", given.field);
         self.tally.compare("question", (given.refusal, given, memory), wanted, &(first, second, t));
 
         let given = calls::choose(first, second, t, self.work.lend(&mut self.random));
         let won = winner(first, second, t, self.work.is_enough());
         let wanted = match won {
-            Ok((winner, jobs)) => ChooseAnswer { refusal: 0, winner, offset: 4, length: 8 * jobs },
-            Err(refused) => ChooseAnswer { refusal: refused.number, ..Default::default() },
+            Ok((winner, jobs)) => ChooseAnswer { winner, offset: 4, length: 8 * jobs, ..Default::default() },
+            Err(Refused { number, field, .. }) => {
+                ChooseAnswer { refusal: number, field, ..Default::default() }
+            }
         };
         let memory = self.work.holds(after(wanted.refusal));
+        self.tally.fields.count("choose", given.field);
+        self.count_both(first, second);
         self.tally.compare("choose", (given.refusal, given, memory), wanted, &(first, second, t));
         self.typed_choose(first, second, t, won.map(|(winner, _)| winner));
+    }
+
+    /// Counts two openings that are both refused with 6, for other fields.
+    fn count_both(&mut self, first: &[u8], second: &[u8]) {
+        if let (Err(one), Err(two)) = (reference::judged(first), reference::judged(second)) {
+            let both = one.number == 6 && two.number == 6 && one.field != two.field;
+            self.tally.fields.both_openings += usize::from(both);
+        }
     }
 
     /// A time near the points of one of the openings.

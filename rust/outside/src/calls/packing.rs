@@ -24,12 +24,13 @@ impl Trial {
         let (wanted, written) = match roomy {
             Ok(Order { t0, jobs }) => {
                 let written = jobs.iter().flat_map(|job| job.numbers()).collect();
-                (UnpackAnswer { refusal: 0, place: 0, jobs: jobs.len(), t0 }, written)
+                (UnpackAnswer { jobs: jobs.len(), t0, ..Default::default() }, written)
             }
-            Err(Refused { number, place }) => {
-                (UnpackAnswer { refusal: number, place, ..Default::default() }, vec![])
+            Err(Refused { number, place, field }) => {
+                (UnpackAnswer { refusal: number, place, field, ..Default::default() }, vec![])
             }
         };
+        self.tally.fields.count("unpack", given.field);
         self.tally.compare("unpack", (given.refusal, given, lent.holds(&written)), wanted, &bytes);
     }
 
@@ -46,13 +47,29 @@ impl Trial {
         let judged = reference::judged_numbers(t0, numbers)
             .and_then(|order| unless(lent.lend().len() >= needed, 10).map(|()| order));
         let (wanted, written) = match judged {
-            Ok(order) => (PackAnswer { refusal: 0, place: 0, bytes: needed }, packed(&order)),
-            Err(Refused { number, place }) => {
-                (PackAnswer { refusal: number, place, ..Default::default() }, vec![])
+            Ok(order) => (PackAnswer { bytes: needed, ..Default::default() }, packed(&order)),
+            Err(Refused { number, place, field }) => {
+                (PackAnswer { refusal: number, place, field, ..Default::default() }, vec![])
             }
         };
+        self.tally.fields.count("pack", given.field);
+        self.count_several(numbers, &wanted);
         self.tally.compare("pack", (given.refusal, given, lent.holds(&written)), wanted, &(t0, numbers));
         self.typed_pack(t0, numbers);
+    }
+
+    /// Counts a job refused with 6 that has a later field out of range too, and one with a job behind it whose
+    /// first field out of range comes earlier.
+    fn count_several(&mut self, numbers: &[i32], wanted: &PackAnswer) {
+        if wanted.refusal != 6 {
+            return;
+        }
+        let fields: Vec<Vec<u32>> =
+            numbers.chunks(6).map(|n| reference::bad_fields(&reference::job_of(n))).collect();
+        let (told, behind) = (&fields[wanted.place], &fields[wanted.place + 1..]);
+        self.tally.fields.several += usize::from(told.len() > 1);
+        let earlier = |fields: &Vec<u32>| fields.first().map_or(false, |&field| field < wanted.field);
+        self.tally.fields.earlier_behind += usize::from(behind.iter().any(earlier));
     }
 
     /// Opens bytes of any kind and steps at places of any kind.
@@ -73,6 +90,7 @@ impl Trial {
         for place in [refused.unwrap_or(0), anywhere, self.random.one_of(&[given.jobs, 48, 64, usize::MAX])] {
             let given = calls::step(bytes, place);
             let wanted = wanted_step(bytes, place);
+            self.tally.fields.count("step", given.field);
             self.tally.compare("step", (given.refusal, given, true), wanted, &(place, bytes));
         }
     }
@@ -81,9 +99,6 @@ impl Trial {
 fn wanted_step(bytes: &[u8], at: usize) -> StepAnswer {
     match reference::reader_job(bytes, at) {
         Ok(Some(job)) => StepAnswer {
-            refusal: 0,
-            place: 0,
-            end: 0,
             number: job.number,
             critical: job.critical,
             weight: job.weight,
@@ -91,10 +106,11 @@ fn wanted_step(bytes: &[u8], at: usize) -> StepAnswer {
             length: job.length,
             deadline: job.deadline,
             next: at + 1,
+            ..Default::default()
         },
         Ok(None) => StepAnswer { end: 1, next: at, ..Default::default() },
-        Err(Refused { number, place }) => {
-            StepAnswer { refusal: number, place, next: at, ..Default::default() }
+        Err(Refused { number, place, field }) => {
+            StepAnswer { refusal: number, place, field, next: at, ..Default::default() }
         }
     }
 }

@@ -56,6 +56,7 @@ impl Trial {
         let given = calls::plan(bytes, lent.lend(), self.work.lend(&mut self.random));
         let wanted = self.wanted(reference::judged(bytes), lent.lend().len());
         let memory = lent.holds(&wanted.starts) && self.work.holds(wanted.after);
+        self.tally.fields.count("plan", given.field);
         self.tally.compare("plan", (given.refusal, given, memory), wanted.answer, &bytes);
         self.typed_plan(bytes, &wanted);
     }
@@ -81,8 +82,8 @@ impl Trial {
                     after: After::Cleared,
                 }
             }
-            Err(Refused { number, place }) => Wanted {
-                answer: PlanAnswer { refusal: number, place, ..Default::default() },
+            Err(Refused { number, place, field }) => Wanted {
+                answer: PlanAnswer { refusal: number, place, field, ..Default::default() },
                 starts: vec![],
                 seconds_lost: 0,
                 after: if number == 11 { After::Cleared } else { After::Untouched },
@@ -137,14 +138,13 @@ fn keeps(best: Best, place: usize) -> bool {
 fn wanted_plan(order: &Order, best: Best) -> PlanAnswer {
     let left_out = order.jobs.iter().enumerate().filter(|&(place, _)| !keeps(best, place));
     PlanAnswer {
-        refusal: 0,
-        place: 0,
         mask: (0..64).filter(|&place| keeps(best, place)).map(|place| 1 << (63 - place)).sum(),
         kept: (0..order.jobs.len()).filter(|&place| keeps(best, place)).count() as u32,
         kept_weight: best.weight as u32,
         lost_weight: left_out.map(|(_, job)| job.weight as u32).sum(),
         finish: best.bus_free,
         points: reference::point_total(order) as u32,
+        ..Default::default()
     }
 }
 

@@ -66,13 +66,16 @@ impl Trial {
             Ok(points) => {
                 let late = profile.iter().step_by(2).any(|&time| time > 100_000);
                 self.tally.rest.late_profiles += usize::from(late);
-                let answer = ExtendAnswer { refusal: 0, place: 0, points: points.len() };
+                let answer = ExtendAnswer { points: points.len(), ..Default::default() };
                 (answer, numbers_of(&points), After::Cleared)
             }
-            Err(Refused { number, place }) => {
-                (ExtendAnswer { refusal: number, place, ..Default::default() }, vec![], After::Untouched)
-            }
+            Err(Refused { number, place, field }) => (
+                ExtendAnswer { refusal: number, place, field, ..Default::default() },
+                vec![],
+                After::Untouched,
+            ),
         };
+        self.tally.fields.count("extend", given.field);
         let memory = lent.holds(&written) && self.work.holds(after);
         self.tally.compare("extend", (given.refusal, given, memory), wanted, &(profile, bytes));
         self.typed_extend(profile, bytes, wanted, &written);

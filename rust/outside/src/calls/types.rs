@@ -6,7 +6,7 @@ use super::{numbers_of, Trial};
 use crate::reference::{self, Refused};
 use crate::tally::Held;
 use leafanchor::calls::{BetterAnswer, ExtendAnswer, LookupAnswer, PlanAnswer};
-use leafanchor::{choose, Job, Opening, Order, Plan, Profile, Refusal, LEFT_OUT, ORDER_BYTES};
+use leafanchor::{choose, Field, Job, Opening, Order, Plan, Profile, Refusal, LEFT_OUT, ORDER_BYTES};
 use std::fmt::Debug;
 
 impl Trial {
@@ -53,7 +53,12 @@ impl Trial {
         let input = (t, format!("{profile:?}"));
         let given = profile.map(|profile| profile.lookup(t));
         let found = if wanted.found == 1 { Some(wanted.weight) } else { None };
-        self.compare_types("Profile::lookup", given, unless_refused(wanted.refusal, 0, found), &input);
+        self.compare_types(
+            "Profile::lookup",
+            given,
+            unless_refused(Refused::new(wanted.refusal), found),
+            &input,
+        );
     }
 
     /// `Profile::better_of` of two lists that profiles take.
@@ -61,7 +66,7 @@ impl Trial {
         let given = Profile::try_from(p)
             .and_then(|p| Profile::try_from(q).map(|q| p.better_of(&q)))
             .map(|better| better.numbers().to_vec());
-        let wanted = unless_refused(wanted.refusal, 0, written.to_vec());
+        let wanted = unless_refused(Refused::new(wanted.refusal), written.to_vec());
         self.compare_types("Profile::better_of", given, wanted, &(p, q));
     }
 
@@ -82,7 +87,8 @@ impl Trial {
         let given = Profile::try_from(profile)
             .and_then(|profile| profile.extended(order, work))
             .map(|extended| extended.numbers().to_vec());
-        let wanted = unless_refused(wanted.refusal, wanted.place, written.to_vec());
+        let ExtendAnswer { refusal: number, place, field, .. } = wanted;
+        let wanted = unless_refused(Refused { number, place, field }, written.to_vec());
         self.compare_types("Profile::extended", given, wanted, &(profile, bytes));
 
         let given = order.profile(&mut self.typed_work).numbers().to_vec();
@@ -118,17 +124,21 @@ impl Trial {
         if matches!(wanted, Err(Refused { number: 10, .. })) {
             return;
         }
-        let given = given.map_err(|refusal| Refused { number: refusal.number(), place: refusal.place() });
+        let given = given.map_err(|refusal| Refused {
+            number: refusal.number(),
+            place: refusal.place(),
+            field: refusal.field().map_or(0, Field::figure),
+        });
         let number = given.as_ref().map_or_else(|refused| refused.number, |_| 0);
         self.tally.compare_held(Held::Type(name), (number, given, true), wanted, input);
     }
 }
 
 /// What is wanted where the call was not refused.
-fn unless_refused<A>(refusal: u32, place: usize, wanted: A) -> Result<A, Refused> {
-    match refusal {
+fn unless_refused<A>(refused: Refused, wanted: A) -> Result<A, Refused> {
+    match refused.number {
         0 => Ok(wanted),
-        number => Err(Refused { number, place }),
+        _ => Err(refused),
     }
 }
 
@@ -165,19 +175,19 @@ type Figures = (PlanAnswer, Vec<i32>, Vec<usize>);
 
 fn wanted_figures(Wanted { answer, starts, .. }: &Wanted) -> Result<Figures, Refused> {
     let kept = (0..starts.len()).filter(|&place| starts[place] != LEFT_OUT).collect();
-    unless_refused(answer.refusal, answer.place, (*answer, starts.clone(), kept))
+    let PlanAnswer { refusal: number, place, field, .. } = *answer;
+    unless_refused(Refused { number, place, field }, (*answer, starts.clone(), kept))
 }
 
 fn figures(plan: Plan) -> Figures {
     let answer = PlanAnswer {
-        refusal: 0,
-        place: 0,
         mask: plan.mask,
         kept: plan.kept,
         kept_weight: plan.kept_weight,
         lost_weight: plan.lost_weight,
         finish: plan.finish,
         points: plan.points,
+        ..Default::default()
     };
     let starts: Vec<i32> = plan.starts().map(|start| start.unwrap_or(LEFT_OUT)).collect();
     assert_eq!(plan.kept_places().len(), plan.kept as usize);

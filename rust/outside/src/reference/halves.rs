@@ -26,7 +26,7 @@ pub fn offending(jobs: &[Job]) -> Vec<usize> {
 pub fn judged_halves(bytes: &[u8]) -> Result<Order, Refused> {
     let order = judged(bytes)?;
     match offending(&order.jobs).first() {
-        Some(&place) => Err(Refused { number: 13, place }),
+        Some(&place) => Err(Refused::at(13, place)),
         None => Ok(order),
     }
 }

@@ -6,24 +6,30 @@ mod plans;
 mod profiles;
 
 pub use halves::{judged_halves, offending, seconds_lost};
-pub use packing::{header, judged, judged_numbers, reader_job};
+pub use packing::{bad_fields, header, job_of, judged, judged_numbers, reader_job};
 pub use plans::{best_by_all_choices, best_forward, point_total, Best, Keep, MOST_JOBS_OF_ALL_CHOICES};
 pub use profiles::{better_of, extended, is_valid, lookup, Point};
 
 /// The seconds that the contactor rests after every job: the bus is free that long after its finish.
 pub const REST: i32 = 15;
 
-/// A refusal number and its place.
+/// A refusal number, its place and its field.
 #[derive(Clone, Copy, Debug, PartialEq, Eq)]
 pub struct Refused {
     pub number: u32,
     pub place: usize,
+    pub field: u32,
 }
 
 impl Refused {
     /// A refusal that is not about one job.
     pub fn new(number: u32) -> Self {
-        Refused { number, place: 0 }
+        Refused::at(number, 0)
+    }
+
+    /// A refusal that is about one job, and no field of it.
+    pub fn at(number: u32, place: usize) -> Self {
+        Refused { number, place, field: 0 }
     }
 }
 

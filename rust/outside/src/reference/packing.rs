@@ -22,17 +22,27 @@ fn is_time(t: i32) -> bool {
     (-100_000..=100_000).contains(&t)
 }
 
-fn is_job(job: &Job) -> bool {
-    let weighed = match job.critical {
-        0 => (1..=50).contains(&job.weight),
-        1 => job.weight == 0,
-        _ => false,
-    };
-    (0..=63).contains(&job.number)
-        && weighed
-        && is_time(job.ready)
-        && is_time(job.deadline)
-        && (1..=10_000).contains(&job.length)
+/// The fields of a job that are out of range, by their place in a record counted from 1.
+pub fn bad_fields(job: &Job) -> Vec<u32> {
+    let weights = if job.critical == 1 { 0..=0 } else { 1..=50 };
+    let times = -100_000..=100_000;
+    let fields = [
+        (job.number, 0..=63),
+        (job.critical, 0..=1),
+        (job.weight, weights),
+        (job.ready, times.clone()),
+        (job.length, 1..=10_000),
+        (job.deadline, times),
+    ];
+    (1..).zip(fields).filter(|(_, (value, range))| !range.contains(value)).map(|(field, _)| field).collect()
+}
+
+/// Refusal 6 of the job at a place, with the first of its fields that is out of range.
+fn judged_job(place: usize, job: &Job) -> Result<(), Refused> {
+    match bad_fields(job).first() {
+        Some(&field) => Err(Refused { number: 6, place, field }),
+        None => Ok(()),
+    }
 }
 
 /// The count and bus-free time of packed bytes, or a refusal 1 to 5.
@@ -76,21 +86,15 @@ pub fn reader_job(bytes: &[u8], place: usize) -> Result<Option<Job>, Refused> {
         return Ok(None);
     }
     let job = job_at(bytes, place);
-    if is_job(&job) {
-        Ok(Some(job))
-    } else {
-        Err(Refused { number: 6, place })
-    }
+    judged_job(place, &job).map(|()| Some(job))
 }
 
 /// Refusals 6, 7 and 9 of jobs.
 fn judged_jobs(jobs: &[Job]) -> Result<(), Refused> {
-    if let Some(place) = jobs.iter().position(|job| !is_job(job)) {
-        return Err(Refused { number: 6, place });
-    }
+    jobs.iter().enumerate().try_for_each(|(place, job)| judged_job(place, job))?;
     let stood_earlier = |place: usize| jobs[..place].iter().any(|job| job.number == jobs[place].number);
     if let Some(place) = (0..jobs.len()).find(|&place| stood_earlier(place)) {
-        return Err(Refused { number: 7, place });
+        return Err(Refused::at(7, place));
     }
     if jobs.iter().map(|job| job.weight).sum::<i32>() > 300 {
         return Err(Refused::new(9));
@@ -106,6 +110,11 @@ pub fn judged(bytes: &[u8]) -> Result<Order, Refused> {
     Ok(Order { t0, jobs })
 }
 
+/// The job of six numbers.
+pub fn job_of(n: &[i32]) -> Job {
+    Job { number: n[0], critical: n[1], weight: n[2], ready: n[3], length: n[4], deadline: n[5] }
+}
+
 /// The order in a bus-free time and six numbers a job, or a refusal 3 to 7 or 9.
 pub fn judged_numbers(t0: i32, numbers: &[i32]) -> Result<Order, Refused> {
     if numbers.len() > 288 {
@@ -117,15 +126,7 @@ pub fn judged_numbers(t0: i32, numbers: &[i32]) -> Result<Order, Refused> {
     if !is_time(t0) {
         return Err(Refused::new(5));
     }
-    let job = |n: &[i32]| Job {
-        number: n[0],
-        critical: n[1],
-        weight: n[2],
-        ready: n[3],
-        length: n[4],
-        deadline: n[5],
-    };
-    let jobs: Vec<Job> = numbers.chunks(6).map(job).collect();
+    let jobs: Vec<Job> = numbers.chunks(6).map(job_of).collect();
     judged_jobs(&jobs)?;
     Ok(Order { t0, jobs })
 }

@@ -26,7 +26,7 @@ const BYTE_MARK: u8 = 170;
 // What unpacking answered.
 fn put_unpacked(answer: Unpacked) {
     match answer {
-        Unpacked::Refused(number, place) => put_refusal(number, place),
+        Unpacked::Refused(refusal) => put_refusal(refusal),
         Unpacked::Jobs(jobs, t0) => {
             put_count(jobs as u64);
             put(t0);
@@ -47,7 +47,7 @@ fn unpack(line: &[u8]) {
 // What packing answered.
 fn put_packed(answer: Packed) {
     match answer {
-        Packed::Refused(number, place) => put_refusal(number, place),
+        Packed::Refused(refusal) => put_refusal(refusal),
         Packed::Bytes(written) => put_count(written as u64),
     }
 }
