@@ -55,6 +55,7 @@ header() { octets 4 $(($1 << 26 | ($2 & 262143) << 8)); } # JOBS T0
 job() { octets 8 $(($1 << 58 | $2 << 57 | $3 << 50 | (${6-0} & 262143) << 32 | $4 << 18 | $5 & 262143)); }
 
 cp examples/p1.order "$room/p1"
+cp examples/refused.order "$room/refused"
 p1=$(cat examples/p1.expected)
 
 # ---- checkouts, and a stand-in for rt
@@ -226,6 +227,8 @@ header 1 0 >order
 refused "a job missing" '4 0 0' 'the length does not fit the number of jobs: 4 bytes and 8 for each'
 header 0 100001 >order
 refused "a bus-free time of 100,001" '5 0 0' 'the bus-free time is out of range'
+cp refused order
+refused "the README's, with a length of 10,001" '6 2 5' 'job at place 2: length out of range'
 { header 2 0 && job 1 0 1 10 10 && job 2 0 51 0 10; } >order
 refused "a weight of 51, and a length of 0" '6 1 3' 'job at place 1: weight out of range'
 { header 2 0 && job 1 0 1 10 10 && job 2 1 1 10 10; } >order

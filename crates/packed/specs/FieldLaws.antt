@@ -62,14 +62,17 @@ failed-first at (true ∷ bs) e =
 abbrev pub outOfRange : List ℤ → ℕ → Bool
 outOfRange zs f = not (getD (fieldTests zs) (f - 1) true)
 
--- The figure is that of the first field of a job that is out of range.
+-- The figure is that of the first field of a job that is out of range, of so many as there are tests.
+abbrev pastLast : List ℤ → ℕ
+pastLast zs = 1 + length (fieldTests zs)
+
 pub record FieldIs (zs : List ℤ) (f : ℕ) : Type 0 where
-  pub first : IsFirst (outOfRange zs) 1 7 f
-  pub named : f < 7
+  pub first : IsFirst (outOfRange zs) 1 (pastLast zs) f
+  pub named : f < pastLast zs
 
 -- There is only one.
 pub field-unique : (zs : List ℤ) (f g : ℕ) → FieldIs zs f → FieldIs zs g → f ≡ g
-field-unique zs f g a b = first-unique (outOfRange zs) 1 7 f g (a .first) (b .first)
+field-unique zs f g a b = first-unique (outOfRange zs) 1 (pastLast zs) f g (a .first) (b .first)
 
 -- No field is named exactly when the job is within its limits.
 pub no-field-within : (zs : List ℤ) → eqb (badField zs) 0 ≡ fieldsWithin zs
