@@ -1,29 +1,27 @@
 -- What callers read by name: a job within its limits, a job and a header that were read.
 use Prim.Native.Nat.{ℕ, _+_, _*_, _^_, _<_}
-use mathlib.Core.Path.{_≡_, refl, sym, ap, _∙_}
-use mathlib.Core.Bool.{true, false, cond}
-use mathlib.Core.Logic.{_↔_, _≢_}
+use mathlib.Core.Path.{_≡_, sym, ap, _∙_}
+use mathlib.Core.Bool.{true}
+use mathlib.Core.Logic.{_↔_}
 use mathlib.Core.List.{List}
 use lib.Dec.{eqb}
-use lib.IntN.{ℤ, pos, negsuc, natAbs}
+use lib.IntN.{ℤ, pos, natAbs}
 use lib.ListN.{getD, take, drop}
 use lib.Signed.{_≤ℤ_, mag}
 use mir.Syntax.{w32}
 use mir.Val.{SFits, toZ, ofZ, hbits}
 use mir.Facts.{toZ-ofZ}
-use borrow.Author.Tests.{eq-eqb, ne-eqb}
 use borrow.Table.Steps.{cases}
 use Rattle.seconds.specs.Limits.{heaviest, longest}
 use Rattle.seconds.specs.Signed.{signed, abs-is}
-use Rattle.seconds.specs.Ranges.{Between, isBetween, InTime, isTime}
+use Rattle.seconds.specs.Ranges.{Between, InTime}
 use Rattle.seconds.specs.RangesLaws.{between-true, time-fits}
 use Rattle.packed.specs.Layout.{decode, numberOf, jobLayout}
 use Rattle.packed.specs.Packed.{headerOf, countOf, t0Of, spareOf, jobFields, fieldsAt}
 use Rattle.packed.specs.PackedLaws.{fields-is, word-is}
 use Rattle.packed.specs.Places.{part}
-use Rattle.packed.specs.Refusals.{weightTest, fieldsWithin, badField}
+use Rattle.packed.specs.Refusals.{weightTest, fieldsWithin}
 use Rattle.packed.specs.RefusalLaws.{within-is}
-use Rattle.packed.specs.FieldLaws.{no-field-within}
 use Rattle.fields.specs.Fields.{fieldsOf, headerFields}
 use Rattle.fields.specs.declared.Job.{Job}
 use Rattle.fields.specs.declared.Header.{Header}
@@ -143,33 +141,6 @@ fromBits j =
 pub fields-kept : (j : Job) → JobFits j → fieldsOf (fromBits j) ≡ fieldsOf j
 fields-kept j f =
     rw (toZ-ofZ (f .number), toZ-ofZ (f .critical), toZ-ofZ (f .weight), toZ-ofZ (f .ready), toZ-ofZ (f .long), toZ-ofZ (f .deadline))
-
--- ---- the tests as the code makes them
-
--- The mark is compared as its bits.
-mark-tested : (mark weight : ℤ) (later : ℕ)
-    → cond (isBetween (pos 0) (pos 1) mark) (cond (weightTest (eqb (ofZ w32 mark) 1) weight) later 3) 2
-    ≡ cond (isBetween (pos 0) (pos 1) mark) (cond (weightTest (eqb (natAbs mark) 1) weight) later 3) 2
-mark-tested (pos n) weight later = refl
-mark-tested (negsuc n) weight later = refl
-
--- The six tests together, the last field's first.
-pub job-tested : (j : Job)
-    → cond (isBetween (pos 0) (pos 63) (j .number))
-    (cond (isBetween (pos 0) (pos 1) (j .critical))
-    (cond (weightTest (eqb (ofZ w32 (j .critical)) 1) (j .weight))
-    (cond (isTime (j .ready))
-    (cond (isBetween (pos 1) (pos longest) (j .length)) (cond (isTime (j .deadline)) 0 6) 5) 4) 3) 2) 1
-    ≡ badField (fieldsOf j)
-unfolding badField
-job-tested j = ap (λ f. cond (isBetween (pos 0) (pos 63) (j .number)) f 1) (mark-tested (j .critical) (j .weight) _)
-
--- No field is named exactly when the job is within its limits: what a branch on the field says.
-pub no-bad-field : (j : Job) → badField (fieldsOf j) ≡ 0 → fieldsWithin (fieldsOf j) ≡ true
-no-bad-field j e = sym (no-field-within (fieldsOf j)) ∙ eq-eqb (badField (fieldsOf j)) 0 e
-
-pub some-bad-field : (j : Job) → badField (fieldsOf j) ≢ 0 → fieldsWithin (fieldsOf j) ≡ false
-some-bad-field j n = sym (no-field-within (fieldsOf j)) ∙ ne-eqb (badField (fieldsOf j)) 0 n
 
 -- ---- a job that was read
 

@@ -1,17 +1,17 @@
 // One job of an order, from and to eight bytes and six numbers, and the header from and to four
 // bytes. A record is one number, read and written in the nesting of its layout. Assumes nothing.
 ghost use mathlib.Core.Path.{_≡_};
-ghost use mathlib.Core.Bool.{true, cond};
+ghost use mathlib.Core.Bool.{true};
 ghost use mathlib.Core.List.{_++_};
 ghost use Prim.Native.Nat.{_+_, _≤_, _<_};
 ghost use lib.IntN.{pos, natAbs};
 ghost use lib.ListN.{length, take, drop};
 ghost use lib.Signed.{_≤ℤ_};
-ghost use Rattle.seconds.specs.Ranges.{InTime, isBetween, isTime};
+ghost use Rattle.seconds.specs.Ranges.{InTime};
 ghost use Rattle.seconds.specs.Twos.{bitsTo, toBits};
 ghost use Rattle.packed.specs.Layout.{decode, encode, numberOf, bytesOf, jobLayout};
 ghost use Rattle.packed.specs.Packed.{headerOf, packedHeader};
-ghost use Rattle.packed.specs.Refusals.{weightTest, fieldsWithin, badField};
+ghost use Rattle.packed.specs.Refusals.{fieldsWithin};
 ghost use Rattle.fields.specs.Fields.{fieldsOf, headerFields, WordIn, WordRoom, JobRoom, HeaderRoom};
 
 // A job's six numbers.
@@ -207,51 +207,4 @@ pub fn put_numbers(numbers: &mut [i32], at: usize, job: Job)
     numbers[at + 3] = ready;
     numbers[at + 4] = length;
     numbers[at + 5] = deadline;
-}
-
-// Whether a number lies from the least to the greatest.
-fn between(least: i32, greatest: i32, z: i32) -> bool
-    ensures { λ r. ⌜ r ≡ isBetween least greatest z ⌝ }
-{
-    if z < least {
-        return false;
-    }
-    z <= greatest
-}
-
-// Whether a bus-free time is one that an order may have.
-pub fn is_time(z: i32) -> bool
-    ensures { λ r. ⌜ r ≡ isTime z ⌝ }
-{
-    between(-100000, 100000, z)
-}
-
-// Whether a weight is within its limits: none for a critical job, 1 to 50 for any other.
-fn weight_within(critical: bool, weight: i32) -> bool
-    ensures { λ r. ⌜ r ≡ weightTest critical weight ⌝ }
-{
-    if critical {
-        return between(0, 0, weight);
-    }
-    between(1, 50, weight)
-}
-
-// A field by its figure where its test is not passed, else the one that is named of those behind it.
-fn field_or(passed: bool, field: u32, later: u32) -> u32
-    ensures { λ r. ⌜ r ≡ cond passed later field ⌝ }
-{
-    if passed { later } else { field }
-}
-
-// The first number of a job that is out of range, 1 for its number to 6 for its deadline; 0 if none is. The last field is tested
-// first, so that the first that is out of range is named.
-pub fn bad_field(job: Job) -> u32
-    ensures { λ r. ⌜ r ≡ badField (fieldsOf job) ⌝ }
-{
-    let mut bad = field_or(is_time(job.deadline), 6, 0);
-    bad = field_or(between(1, 10000, job.length), 5, bad);
-    bad = field_or(is_time(job.ready), 4, bad);
-    bad = field_or(weight_within(job.critical == 1, job.weight), 3, bad);
-    bad = field_or(between(0, 1, job.critical), 2, bad);
-    field_or(between(0, 63, job.number), 1, bad)
 }

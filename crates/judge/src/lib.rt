@@ -78,7 +78,7 @@ pub fn judge_header(bytes: &[u8]) -> Verdict
     if bytes.len() != 4 + 8 * count {
         return Verdict::Refused(plainly(4));
     }
-    if !fields::is_time(t0) {
+    if !limits::is_time(t0) {
         return Verdict::Refused(plainly(5));
     }
     Verdict::Fine
@@ -91,7 +91,7 @@ fn take_in(job: Job, jobs: Gathered, numbers: &mut [u8]) -> Gathered
     ensures notes { λ _. ⌜ now (numbers .exit) ≡ notedIn job (jobs .place) (now (numbers .entry)) ⌝ }
 {
     let place = jobs.place;
-    let field = fields::bad_field(job);
+    let field = limits::bad_field(job);
     if field != 0 {
         return Gathered {
             count: jobs.count,
@@ -245,7 +245,7 @@ fn judge_list(t0: i32, given: &[i32]) -> Verdict
     if given.len() % 6 != 0 {
         return Verdict::Refused(plainly(4));
     }
-    if !fields::is_time(t0) {
+    if !limits::is_time(t0) {
         return Verdict::Refused(plainly(5));
     }
     Verdict::Fine

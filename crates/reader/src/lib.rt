@@ -57,7 +57,7 @@ pub fn step(bytes: &[u8], place: usize) -> Moved
                 };
             }
             let job = fields::job_at(bytes, 4 + 8 * place);
-            let field = fields::bad_field(job);
+            let field = limits::bad_field(job);
             if field != 0 {
                 return Moved {
                     answer: Read::Refused(in_field(6, place, field)),

@@ -10,7 +10,8 @@ use borrow.Author.Needs.{needs}
 use Rattle.seconds.specs.Signed.{signed, abs-is}
 use Rattle.packed.specs.Refusals.{fieldsWithin}
 use Rattle.fields.specs.Fields.{fieldsOf}
-use Rattle.fields.specs.Facts.{JobFacts, job-facts, no-bad-field, some-bad-field}
+use Rattle.fields.specs.Facts.{JobFacts, job-facts}
+use Rattle.limits.specs.Tests.{no-bad-field, some-bad-field}
 use Rattle.fields.specs.declared.Job.{Job}
 use Rattle.judge.specs.declared.Gathered.{Gathered}
 use Rattle.judge.specs.Gathering.{kept, casts}

@@ -1,11 +1,11 @@
--- `fields::is_time` meets its contract, by that of `between`.
+-- `limits::is_time` meets its contract, by that of `between`.
 -- Assumes nothing.
 use mathlib.Core.Path.{_∙_, ap}
 use mir.Facts.{toZ-ofZ}
 use borrow.Author.Needs.{needs}
 use Rattle.seconds.specs.Ranges.{isTime}
-use Rattle.fields.proofs.is_time.Statement.{statement}
-use Rattle.fields.proofs.is_time.Tie as tie
+use Rattle.limits.proofs.is_time.Statement.{statement}
+use Rattle.limits.proofs.is_time.Tie as tie
 
 between-requires : tie.Need-between-requires
 between-requires c κs = search needs

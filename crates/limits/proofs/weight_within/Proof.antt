@@ -1,12 +1,12 @@
--- `fields::weight_within` meets its contract: the branch picks the range.
+-- `limits::weight_within` meets its contract: the branch picks the range.
 -- Assumes nothing.
 use mathlib.Core.Path.{_∙_, ap}
 use lib.IntN.{pos}
 use mir.Facts.{toZ-ofZ}
 use borrow.Author.Needs.{needs}
 use Rattle.seconds.specs.Ranges.{isBetween}
-use Rattle.fields.proofs.weight_within.Statement.{statement}
-use Rattle.fields.proofs.weight_within.Tie as tie
+use Rattle.limits.proofs.weight_within.Statement.{statement}
+use Rattle.limits.proofs.weight_within.Tie as tie
 
 between-requires : tie.Need-between-requires
 between-requires c κs = search needs

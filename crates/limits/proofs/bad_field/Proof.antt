@@ -1,4 +1,4 @@
--- `fields::bad_field` meets its contract: the six tests are those of the definition, and each branch names its field.
+-- `limits::bad_field` meets its contract: the six tests are those of the definition, and each branch names its field.
 -- Assumes nothing.
 use mathlib.Core.Path.{_≡_, _∙_, ap}
 use lib.Dec.{eqb}
@@ -10,10 +10,11 @@ use borrow.Author.Needs.{needs}
 use Rattle.seconds.specs.Limits.{longest}
 use Rattle.seconds.specs.Ranges.{isBetween, isTime}
 use Rattle.packed.specs.Refusals.{weightTest}
-use Rattle.fields.specs.Facts.{JobFits, bounds-fit, job-tested}
+use Rattle.fields.specs.Facts.{JobFits, bounds-fit}
+use Rattle.limits.specs.Tests.{job-tested}
 use Rattle.fields.specs.declared.Job.{Job}
-use Rattle.fields.proofs.bad_field.Statement.{statement}
-use Rattle.fields.proofs.bad_field.Tie as tie
+use Rattle.limits.proofs.bad_field.Statement.{statement}
+use Rattle.limits.proofs.bad_field.Tie as tie
 
 is-time-requires : tie.Need-is-time-requires
 is-time-requires c κs = search needs

@@ -1,12 +1,12 @@
--- `fields::between` meets its contract: the two tests are those of the range.
+-- `limits::between` meets its contract: the two tests are those of the range.
 -- Assumes nothing.
 use mathlib.Core.Path.{_≡_}
 use mathlib.Core.Bool.{true, false}
 use lib.Signed.{leZ}
 use mir.Facts.{toZ-ofZ}
 use Rattle.seconds.specs.Signed.{signed}
-use Rattle.fields.proofs.between.Statement.{statement}
-use Rattle.fields.proofs.between.Tie as tie
+use Rattle.limits.proofs.between.Statement.{statement}
+use Rattle.limits.proofs.between.Tie as tie
 
 returns : tie.Need-returns
 returns c =
