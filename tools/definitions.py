@@ -18,7 +18,7 @@ PARTS = [
         packed Layout, packed Places, packed Packed, packed Judge, packed Refusals,
         unpack Answer, pack Answer, fields Fields, reader Reading, reader_struct Standing,
         profiles Numbers, profiles Answer, point_records Records, better Answer,
-        cells Area, filling After, planner Calls, halves Calls, extending Calls, openings Choosing,
+        area Area, filling After, planner Calls, halves Calls, extending Calls, openings Choosing,
         packed_answers Numbers, plan_answers Numbers, text Decimal, report Report'''),
 ]
 IMPORT = re.compile(r'(?:unfoldable )?(?:pub |ghost )?use Rattle·(\w+?)(?:·specs\.specs|\.specs)\.(\w+)\.')

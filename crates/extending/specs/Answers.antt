@@ -19,7 +19,7 @@ use Rattle.packed.specs.Packed.{numbersOf, jobsOf, orderOf}
 use Rattle.packed.specs.Refusals.{headerChecks, jobChecks, weightChecks}
 use Rattle.packed.specs.RefusalPlaces.{BadField, RefusalIs, nowhere, SixIs, six-behind, six-jobs, answer-refusal, answer-says}
 use Rattle.profiles.specs.Numbers.{mostNumbers, holdsProfile}
-use Rattle.cells.specs.Work.{area}
+use Rattle.area.specs.Area.{area}
 use Rattle.judge.specs.Told.{stays, up-to-ten, Named, holds-behind, named-check, named-rooms, named-order, six-rooms}
 use Rattle.extending.specs.Calls.{profileGiven, profileChecks, extendJudged, extendChecks, extendVerdict}
 use Rattle.extending.specs.Calls.{extension, extendedBy, extendedOf, ExtendCall, extendRefusal, pointsWritten}

@@ -4,7 +4,7 @@ use mathlib.Core.Path.{_≡_, sym, ap, _∙_}
 use mathlib.Core.Bool.{true, false}
 use mathlib.Core.List.{List, _++_}
 use lib.IntN.{ℤ}
-use lib.ListN.{length}
+use lib.ListN.{length, drop}
 use Rattle.profile.specs.Profile.{lastWeight}
 use Rattle.packed.specs.declared.Refusal.{Refusal}
 use Rattle.packed.specs.Judge.{plainly, Check, fine, refused, judge}
@@ -13,8 +13,8 @@ use Rattle.packed.specs.Refusals.{headerChecks, jobChecks, weightChecks, roomCh
 use Rattle.profiles.specs.Numbers.{mostNumbers, holdsProfile}
 use Rattle.profiles.specs.Places.{pointsOf}
 use Rattle.profiles.specs.NumbersLaws.{profile-there}
-use Rattle.cells.specs.Work.{area, cleared}
-use Rattle.cells.specs.Keeping.{cleared-same}
+use Rattle.area.specs.Area.{area, cleared}
+use Rattle.area.specs.Clearing.{cleared-same}
 use Rattle.judge.specs.Verdicts.{verdictOf}
 use Rattle.judge.specs.Told.{told-fine, refusal-told, told-next, stays, no-room, no-space, all-fine}
 use Rattle.judge.specs.declared.Verdict.the-variants.{Fine, Refused as Stopped}
@@ -91,7 +91,7 @@ module _ (ns : List ℤ) (bytes : List ℕ) where
       extend-no-room h = extend-refused (no-room (extendJudged ns bytes) passed mostNumbers (length out) area (length work) h)
 
       module _ (places : mostNumbers ≤ length out) where
-        -- or by that for the rows.
+        -- or by that for the lists.
         pub extend-no-space : length work < area → ExtendCall ns bytes out work (Refused (plainly 10)) out work
         unfolding extendChecks
         extend-no-space h =
@@ -102,13 +102,13 @@ module _ (ns : List ℤ) (bytes : List ℕ) where
         unfolding extendChecks
         extend-fine h = all-fine (extendJudged ns bytes) passed mostNumbers (length out) area (length work) places h
 
-        pub extend-done : {points : ℕ} {written filled left : List ℤ} → area ≤ length work
-            → ExtendedIn ns bytes out work points written filled → left ≡ cleared filled
+        pub extend-done : {points : ℕ} {written left : List ℤ} (filled : List ℤ) → area ≤ length work
+            → ExtendedIn ns bytes out points written → drop area filled ≡ drop area work → left ≡ cleared filled
             → ExtendCall ns bytes out work (Points points) written left
-        extend-done {filled = filled} h x c =
+        extend-done filled h x past c =
             let e = extend-fine h in
             record {
               answer = rw (e, x .count);
               written = rw e (x .written);
-              area = rw e (c ∙ cleared-same work filled (x .past));
+              area = rw e (c ∙ cleared-same work filled past);
             }

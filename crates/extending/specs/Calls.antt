@@ -13,7 +13,7 @@ use Rattle.packed.specs.Judge.{noRefusal, Check, Verdict, fine, refused, judge,
 use Rattle.packed.specs.Packed.{numbersOf, orderOf}
 use Rattle.packed.specs.Refusals.{headerChecks, jobChecks, weightChecks, roomChecks}
 use Rattle.profiles.specs.Numbers.{mostNumbers, alternating, profileIn, holdsProfile, writtenOver}
-use Rattle.cells.specs.Area.{area}
+use Rattle.area.specs.Area.{area}
 use Rattle.filling.specs.After.{workBy}
 use Rattle.extending.specs.declared.Extended.{Extended}
 use Rattle.extending.specs.declared.Extended.the-variants.{Refused, Points}
@@ -32,7 +32,7 @@ extendJudged ns bytes =
     headerChecks bytes ++ jobChecks (numbersOf bytes) ++ profileChecks ns
     ++ weightChecks (lastWeight (profileGiven ns)) (numbersOf bytes)
 
--- Then room for the longest profile, then room for the rows.
+-- Then room for the longest profile, then room for the work area.
 unfoldable pub extendChecks : List ℤ → List ℕ → List ℤ → List ℤ → List Check
 extendChecks ns bytes out work =
     extendJudged ns bytes ++ roomChecks mostNumbers (length out) ++ roomChecks area (length work)

@@ -1,5 +1,5 @@
--- The laws of extending by rows: what it is to be accepted, and the profile that is written from the last row.
-use Prim.Native.Nat.{ℕ, _+_, _*_, _≤_}
+-- The laws of extending by lists: what it is to be accepted, and the profile that is written from the last list.
+use Prim.Native.Nat.{ℕ, _+_, _≤_}
 use mathlib.Core.Path.{_≡_, sym, ap, _∙_}
 use mathlib.Core.Bool.{true}
 use mathlib.Core.Logic.{_↔_}
@@ -8,24 +8,26 @@ use native.Mathlib.Omega.{arith}
 use lib.IntN.{ℤ}
 use lib.ListN.{length}
 use borrow.Author.Tests.{not-false}
-use Rattle.seconds.specs.Limits.{mostWeight}
+use Rattle.seconds.specs.Limits.{mostWeight, mostPoints}
 use Rattle.order.specs.Job.{Point, weightOf}
 use Rattle.profile.specs.Profile.{extend, lastWeight}
-use Rattle.rows.specs.Row.{readOff}
+use Rattle.profile.specs.Closure.{extend-short}
 use Rattle.packed.specs.Judge.{fine, judge}
 use Rattle.packed.specs.JudgeLaws.{stages-fine, judge-at}
 use Rattle.packed.specs.Packed.{countOf, numbersOf, orderOf, jobsIn}
 use Rattle.packed.specs.Refusals.{headerChecks, jobChecks}
 use Rattle.packed.specs.RefusalLaws.{HeaderFine, header-fine, JobsFine, jobs-fine, weight-fine}
-use Rattle.packed.specs.Accepted.{OrderFine}
+use Rattle.packed.specs.Accepted.{OrderFine, jobs-fit}
 use Rattle.profiles.specs.Numbers.{alternating, holdsProfile, writtenOver}
 use Rattle.profiles.specs.Places.{pointsOf}
-use Rattle.cells.specs.Work.{rowAt}
-use Rattle.cells.specs.Keeping.{area-kept}
-use Rattle.filling.specs.Rows.{CanFill, Filled}
-use Rattle.filling.specs.RowsLaws.{last-profile}
-use Rattle.filling.specs.FirstRow.{CanStartProfile, ProfileStarted}
-use Rattle.counting.specs.Profile.{CanWrite, ProfileWritten}
+use Rattle.area.specs.Area.{area}
+use Rattle.codes.specs.Code.{listAt}
+use Rattle.codes.specs.HeldLaws.{held-read, list-length}
+use Rattle.stepping.specs.declared.Prefix.{Prefix}
+use Rattle.reading.specs.Reading.{CanWrite}
+use Rattle.filling.specs.Lists.{CanFillLast, FilledLast}
+use Rattle.filling.specs.Begin.{CanBegin, Begun}
+use Rattle.filling.specs.BeginLaws.{profile-valid}
 use Rattle.extending.specs.Calls.{profileGiven, profileChecks, extendJudged, extension}
 use Rattle.extending.specs.CallLaws.{given-read, seven, eight, nine}
 use Rattle.extending.specs.Extending.{CanExtend, ExtendedIn}
@@ -71,7 +73,7 @@ module _ (ns : List ℤ) (bytes : List ℕ) where
 pub accepted-order : {ns : List ℤ} {bytes : List ℕ} → Accepted ns bytes → OrderFine bytes
 accepted-order a = record { header = a .header; jobs = a .jobs; light = omega (arith, a .light) }
 
--- ---- by rows
+-- ---- by lists
 
 module _ {ns : List ℤ} {bytes : List ℕ} {out work : List ℤ} (f : CanExtend ns bytes out work) where
   all : Accepted ns bytes
@@ -81,50 +83,61 @@ module _ {ns : List ℤ} {bytes : List ℕ} {out work : List ℤ} (f : CanExtend
   pub header-there : 4 ≤ length bytes
   header-there = all .header .long
 
-  -- The profile's row can be started,
-  pub can-begin : CanStartProfile ns work
+  -- The profile's points can be put in front,
+  pub can-begin : CanBegin ns work
   can-begin = record { valid = all .valid; room = omega (arith, f .room) }
 
-  module _ {n first : ℕ} {begun : List ℤ} (count : n ≡ countOf bytes) (started : ProfileStarted ns work begun first) where
-    light : first + weightOf (jobsIn bytes) ≤ mostWeight
-    light = omega (arith, all .light, started .reaches, ap lastWeight (given-read ns (all .valid)))
+  module _ {n count : ℕ} {begun : List ℤ} (jobs : n ≡ countOf bytes) (b : Begun (pointsOf ns) count begun)
+      (room : area ≤ length begun)
+    where
+      -- where they are the first list,
+      first-is : listAt begun 0 count ≡ pointsOf ns
+      first-is = rw (b .counted) (held-read (b .held))
 
-    -- the rows of all jobs can be filled behind it,
-    pub can-fill : CanFill bytes n first begun
-    can-fill =
-        record {
-          order = accepted-order all;
-          count = count;
-          light = light;
-          room = omega (arith, f .room, started .wrote .size);
-        }
+      light : lastWeight (pointsOf ns) + weightOf (jobsIn bytes) ≤ mostWeight
+      light = omega (arith, all .light, ap lastWeight (given-read ns (all .valid)))
 
-    pub count-small : n ≤ 48
-    count-small = omega (arith, count, all .header .few)
-
-    module _ {top : ℕ} {filled : List ℤ} (rows : Filled bytes first begun filled top) where
-      -- the profile of the last row can be written,
-      pub can-put : CanWrite (n * 301) top filled out
-      can-put =
+      -- the lists of all jobs can be filled behind it,
+      pub can-fill : CanFillLast bytes n count begun
+      can-fill =
           record {
-            small = omega (arith, rows .reaches, light);
-            row = omega (arith, rows .reaches, light, rows .stands .size, started .wrote .size, f .room, count-small);
-            room = f .places;
+            order = accepted-order all;
+            jobs = jobs;
+            held = rw first-is (b .held);
+            valid = rw first-is (profile-valid ns (all .valid));
+            light = rw first-is light;
+            room = room;
           }
 
-      -- and is the extended profile.
-      profile-read : readOff (rowAt filled (n * 301) top) top ≡ extension ns bytes
-      unfolding orderOf
-      profile-read =
-          ap (λ (k : ℕ). readOff (rowAt filled (k * 301) top) top) count
-          ∙ last-profile bytes rows (pointsOf ns) (started .wrote .reads)
-          ∙ ap (λ (ps : List Point). extend ps (jobsIn bytes)) (sym (given-read ns (all .valid)))
+      module _ {last : Prefix} {filled : List ℤ} (lists : FilledLast bytes count begun last filled) where
+        last-extends : listAt filled (last .place) (last .count) ≡ extend (pointsOf ns) (jobsIn bytes)
+        last-extends = lists .is ∙ ap (λ (ps : List Point). extend ps (jobsIn bytes)) first-is
 
-      pub extended : {points : ℕ} {written : List ℤ} → ProfileWritten (rowAt filled (n * 301) top) top out written points
-          → ExtendedIn ns bytes out work points written filled
-      extended w =
-          record {
-            count = w .count ∙ ap length profile-read;
-            written = w .numbers ∙ ap (λ (ps : List Point). writtenOver (alternating ps) out) profile-read;
-            past = rows .stands .past ∙ area-kept (started .wrote) (omega arith);
-          }
+        -- the last of them has no more points than a profile may have,
+        last-few : last .count ≤ mostPoints
+        last-few =
+            omega (
+              arith,
+              light,
+              list-length filled (last .place) (last .count),
+              ap length last-extends,
+              extend-short (jobsIn bytes) (profile-valid ns (all .valid) .rises) (jobs-fit bytes (accepted-order all)),
+            )
+
+        -- so it can be written,
+        pub can-put : CanWrite filled (last .place) (last .count) out
+        can-put =
+            record { held = lists .list .held; room = lists .list .room; places = omega (arith, f .places, last-few) }
+
+        -- and is the extended profile.
+        last-is : listAt filled (last .place) (last .count) ≡ extension ns bytes
+        unfolding orderOf
+        last-is = last-extends ∙ ap (λ (ps : List Point). extend ps (jobsIn bytes)) (sym (given-read ns (all .valid)))
+
+        pub extended : {written : List ℤ} → written ≡ writtenOver (alternating (listAt filled (last .place) (last .count))) out
+            → ExtendedIn ns bytes out (last .count) written
+        extended w =
+            record {
+              count = sym (list-length filled (last .place) (last .count)) ∙ ap length last-is;
+              written = w ∙ ap (λ (ps : List Point). writtenOver (alternating ps) out) last-is;
+            }

@@ -1,11 +1,9 @@
 // The call that extends a profile by a packed order. Any numbers, bytes and buffers have an answer. Assumes
 // nothing.
-use cells::AREA;
-use cells::ROW;
-use cells::clear;
-use counting::write_profile;
+use area::AREA;
+use area::clear;
 use fields::header_at;
-use filling::fill_rows;
+use filling::fill_last;
 use filling::last_weight;
 use filling::start_profile;
 use judge::Verdict;
@@ -15,6 +13,7 @@ use packed::Refusal;
 use packed::plainly;
 use profiles::MOST_NUMBERS;
 use profiles::valid;
+use reading::write_list;
 ghost use mathlib.Core.Path.{_≡_};
 ghost use mathlib.Core.List.{_++_};
 ghost use Rattle.packed.specs.Judge.{fine, judge};
@@ -29,19 +28,18 @@ pub enum Extended {
     Points(usize),
 }
 
-// The extended profile by the rows of all jobs, written to the front of `out`. Returns how many points.
-fn extend_by_rows(profile: &[i32], bytes: &[u8], out: &mut [i32], work: &mut [i32]) -> usize
+// The extended profile by the lists of all jobs, the last of them written to the front of `out`. Returns how many points.
+fn extend_by_lists(profile: &[i32], bytes: &[u8], out: &mut [i32], work: &mut [i32]) -> usize
     requires { ⌜ CanExtend (now profile) (now bytes) (now out) (now work) ⌝ }
     ensures { λ r. ⌜
-        ExtendedIn (now (profile .entry)) (now (bytes .entry)) (now (out .entry)) (now (work .entry)) r
-        (now (out .exit)) (now (work .exit)) ⌝ }
+        ExtendedIn (now (profile .entry)) (now (bytes .entry)) (now (out .entry)) r (now (out .exit)) ⌝ }
 {
     let header = header_at(bytes);
     let n = header.count;
-    let first = start_profile(work, profile);
-    let top = fill_rows(work, bytes, n, first);
-    let last = n * ROW;
-    write_profile(work, last, top, out)
+    let count = start_profile(work, profile);
+    let last = fill_last(work, bytes, n, count);
+    write_list(work, last.place, last.count, out);
+    last.count
 }
 
 // Extending by an order that has passed the checks before the room: the room is judged, and the work area
@@ -58,7 +56,7 @@ fn extend_with_room(profile: &[i32], bytes: &[u8], out: &mut [i32], work: &mut [
     if work.len() < AREA {
         return Extended::Refused(plainly(10));
     }
-    let points = extend_by_rows(profile, bytes, out, work);
+    let points = extend_by_lists(profile, bytes, out, &mut work[..AREA]);
     clear(work);
     Extended::Points(points)
 }

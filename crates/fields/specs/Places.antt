@@ -10,7 +10,7 @@ use lib.IntN.{ℤ, natAbs}
 use lib.ListN.{length, take, drop, getElem?}
 use Rattle.seconds.specs.Signed.{true-T}
 use Rattle.order.specs.Job.{Rate, Job, rateOf, weightOf}
-use Rattle.order.specs.Within.{JobWithin, job-within, weightOf-append}
+use Rattle.order.specs.Within.{JobWithin, job-within}
 use Rattle.order.specs.Moves.{one-rate-whole}
 use Rattle.order.specs.OneRate.{OneRate}
 use Rattle.packed.specs.Layout.{decode, numberOf, jobLayout}
@@ -48,11 +48,6 @@ module _ {j : Job} where
   -- Told from the last to the first, it stands before those up to it.
   pub back-more : (js : List Job) (k : ℕ) → getElem? js k ≡ some j → reverse (take (suc k) js) ≡ j ∷ reverse (take k js)
   back-more js k e = rw (take-more js k e) (reverse-append (take k js) (j ∷ []))
-
-  -- Its weight comes on top of theirs.
-  pub weight-more : (js : List Job) (k : ℕ) → getElem? js k ≡ some j
-      → weightOf (take (suc k) js) ≡ weightOf (take k js) + j .weight
-  weight-more js k e = rw (take-more js k e) (omega (arith, weightOf-append (take k js) (j ∷ [])))
 
 -- No jobs up to a place weigh more than all.
 pub weight-up-to : (js : List Job) (k : ℕ) → weightOf (take k js) ≤ weightOf js

@@ -1,7 +1,7 @@
--- The job at a place as the code reads it from its bytes: its numbers are within their limits, and stepping a row by them is
+-- The job at a place as the code reads it from its bytes: its numbers are within their limits, and stepping a list by them is
 -- stepping it by the job.
 use Prim.Native.Nat.{ℕ, _+_, _*_, _<_}
-use mathlib.Core.Path.{_≡_, refl, sym, ap}
+use mathlib.Core.Path.{_≡_, refl, sym, ap, _∙_}
 use mathlib.Core.List.{List}
 use native.Mathlib.Omega.{arith}
 use lib.Dec.{T, eqb}
@@ -13,7 +13,7 @@ use mir.Val.{Fits, toZ, ofZ}
 use mir.Facts.{toZ-ofZ}
 use Rattle.seconds.specs.Ranges.{Between}
 use Rattle.seconds.specs.Signed.{signed, abs-is}
-use Rattle.order.specs.Job.{Job, oneRate}
+use Rattle.order.specs.Job.{Job, oneRate, Point}
 use Rattle.packed.specs.Layout.{decode, jobLayout, numberOf}
 use Rattle.packed.specs.Packed.{countOf, jobFields, jobOf, jobIn}
 use Rattle.packed.specs.PackedLaws.{fields-of-numbers, numbers-count}
@@ -22,8 +22,12 @@ use Rattle.packed.specs.Accepted.{OrderFine}
 use Rattle.fields.specs.Fields.{fieldsOf}
 use Rattle.fields.specs.Facts.{JobFacts, JobFits, job-facts, facts-fit, read-at}
 use Rattle.fields.specs.declared.Job.{Job as Numbers}
-use Rattle.cells.specs.Work.{CanStep, Stepped}
-use Rattle.filling.specs.Rows.{rowPlace, CanFillOne, FilledOne}
+use Rattle.points.specs.Steps.{listStep}
+use Rattle.codes.specs.Code.{listAt}
+use Rattle.stepping.specs.declared.Prefix.{Prefix}
+use Rattle.stepping.specs.Stepping.{stepped, CanStep, Stepped}
+use Rattle.stepping.specs.Cases.{any-number}
+use Rattle.filling.specs.Lists.{CanFillOne, FilledOne}
 
 -- A number, as the code reads it back from its bits.
 abbrev read : ℤ → ℤ
@@ -72,23 +76,52 @@ module _ (bytes : List ℕ) (k : ℕ) (order : OrderFine bytes) (there : k < cou
     pub weight-is : jobIn bytes k .weight ≡ natAbs (read (job .weight))
     weight-is = ap (λ (j : Job). j .weight) job-is
 
-    -- A row can be stepped by the job where there is room and weight for it,
-    pub job-steps : (top : ℕ) (l : List ℤ) → CanFillOne bytes k top l
-        → CanStep (rowPlace k) top (natAbs (read (job .weight))) (read (job .ready)) (read (job .length)) (read (job .deadline)) l
-    job-steps top l f =
+    -- and so can its length.
+    pub long-casts : T (nonNeg (read (job .length))) × Fits w64 (natAbs (read (job .length)))
+    long-casts = rw (toZ-ofZ (fits .long)) (omega (signed, abs-is (job .length), within .long))
+
+    -- A list can be stepped by the job,
+    pub job-steps : (place count : ℕ) (work pushed : List ℤ) → CanFillOne bytes k place count work pushed
+        → CanStep (eqb (ofZ w32 (job .critical)) 1) (natAbs (read (job .weight))) (read (job .ready)) (natAbs (read (job .length)))
+        (read (job .deadline)) place count work pushed
+    job-steps place count work pushed f =
         record {
-          room = f .room;
-          light = rw (← weight-is) (f .light);
+          held = f .held;
+          rises = f .rises;
           starts = rw (toZ-ofZ (fits .ready)) (within .ready);
-          least = rw (toZ-ofZ (fits .long)) (omega (signed, within .long));
-          most = rw (toZ-ofZ (fits .long)) (within .long .high);
           ends = rw (toZ-ofZ (fits .deadline)) (within .deadline);
+          fits = record {
+            least = rw (toZ-ofZ (fits .long)) (omega (signed, abs-is (job .length), within .long));
+            most = rw (toZ-ofZ (fits .long)) (omega (signed, abs-is (job .length), within .long));
+            light = rw (toZ-ofZ (fits .weight)) (omega (signed, abs-is (job .weight), within .weight));
+          };
+          light = rw (← weight-is) (f .light);
+          room = f .room;
+          roomMore = λ free. f .roomMore (ap (λ (j : Job). j .critical) job-is ∙ free);
+          buffer = f .buffer;
         }
 
-    -- and then the next row is that after the job.
-    pub job-stepped : (top : ℕ) (old new : List ℤ) (reached : ℕ)
-        → Stepped (eqb (ofZ w32 (job .critical)) 1) (natAbs (read (job .weight))) (read (job .ready)) (read (job .length))
-        (read (job .deadline)) (rowPlace k) top old new reached
-        → FilledOne bytes k top old new reached
-    job-stepped top old new reached s =
-        record { reaches = rw weight-is (s .reaches); wrote = rw job-is (s .wrote (natAbs (job .number))) }
+    step-by : (ps : List Point) → listStep (jobIn bytes k) ps
+        ≡ stepped (eqb (ofZ w32 (job .critical)) 1) (natAbs (read (job .weight))) (read (job .ready)) (natAbs (read (job .length)))
+        (read (job .deadline)) ps
+    step-by ps =
+        ap (λ (j : Job). listStep j ps) job-is
+        ∙ any-number (natAbs (job .number)) (eqb (ofZ w32 (job .critical)) 1) (natAbs (read (job .weight))) (read (job .ready))
+        (natAbs (read (job .length))) (read (job .deadline)) ps
+
+    -- and then the next list is that after the job.
+    pub job-stepped : (place count : ℕ) (work : List ℤ) (r : Prefix) (work′ pushed′ : List ℤ)
+        → Stepped (eqb (ofZ w32 (job .critical)) 1) (natAbs (read (job .weight))) (read (job .ready)) (natAbs (read (job .length)))
+        (read (job .deadline)) place count work r work′ pushed′
+        → FilledOne bytes k place count work (r .place) (r .count) (natAbs (read (job .weight))) work′ pushed′
+    job-stepped place count work r work′ pushed′ s =
+        record {
+          weighs = sym weight-is;
+          size = s .size;
+          stays = s .stays;
+          held = rw (step-by (listAt work place count)) (s .held);
+          counted = rw (step-by (listAt work place count)) (s .counted);
+          further = s .further;
+          few = rw job-is (s .few);
+          buffer = s .buffer;
+        }

@@ -1,50 +1,162 @@
-// The rows of an order in the lent work area: the first row of a profile, and behind a first row the
-// row after each job of a packed order. Assumes nothing.
-use cells::NEVER;
-use cells::ROW;
-use cells::fill_cells;
-use cells::next_row;
+// The lists of an order in the lent work area: the list of points before its first job, from a bus-free time or a profile, and
+// behind it the list after each job of a packed order. Assumes nothing.
+use codes::PAST;
+use codes::code_of;
 use fields::job_at;
+use stepping::Prefix;
+use stepping::step;
 ghost use mathlib.Core.Path.{_≡_};
 ghost use mathlib.Core.Bool.{true};
-ghost use Rattle.profile.specs.Profile.{lastWeight};
+ghost use mathlib.Core.List.{[], _∷_};
+ghost use lib.ListN.{length};
+ghost use Rattle.profile.specs.Profile.{lastWeight, startPoint};
 ghost use Rattle.profiles.specs.Numbers.{holdsProfile};
 ghost use Rattle.profiles.specs.Places.{pointsOf};
-ghost use Rattle.filling.specs.Rows.{CanFillOne, FilledOne, CanFill, Filled};
-ghost use Rattle.filling.specs.FirstRow.{CanStartProfile, CanSetPoints, ProfileSet, ProfileStarted};
+ghost use Rattle.codes.specs.Held.{Held};
+ghost use Rattle.stepping.specs.Stepping.{Buffer};
+ghost use Rattle.filling.specs.Lists.{CanFillOne, FilledOne, CanFill, Filled, CanFillLast, FilledLast};
+ghost use Rattle.filling.specs.Begin.{CanStart, CanBegin, Begun};
 
-// The row after the job at a place, behind the row before it. Returns the greatest weight it reaches.
-fn fill_row(work: &mut [i32], bytes: &[u8], k: usize, top: usize) -> usize
-    requires { ⌜ CanFillOne (now bytes) k top (now work) ⌝ }
-    ensures { λ r. ⌜ FilledOne (now (bytes .entry)) k top (now (work .entry)) (now (work .exit)) r ⌝ }
+// The list after one more job: where it begins, how many points it has, and the weight of the job.
+struct Next {
+    place: usize,
+    count: usize,
+    weight: usize,
+}
+
+// What all lists after a job have in points, and all jobs in weight.
+pub struct Totals {
+    pub points: usize,
+    pub weight: usize,
+}
+
+// The list after the job at a place, from the list before it.
+fn fill_one(
+    work: &mut [i32],
+    bytes: &[u8],
+    k: usize,
+    place: usize,
+    count: usize,
+    pushed: &mut [i32],
+) -> Next
+    requires { ⌜ CanFillOne (now bytes) k place count (now work) (now pushed) ⌝ }
+    ensures { λ r. ⌜
+        FilledOne (now (bytes .entry)) k place count (now (work .entry)) (r .place) (r .count) (r .weight)
+        (now (work .exit)) (now (pushed .exit)) ⌝ }
 {
     let job = job_at(bytes, 4 + 8 * k);
     let weight = job.weight as usize;
-    next_row(
+    let takes = job.length as usize;
+    let next = step(
         work,
-        k * ROW,
-        top,
+        place,
+        count,
         job.critical == 1,
         weight,
         job.ready,
-        job.length,
+        takes,
         job.deadline,
-    )
+        pushed,
+    );
+    Next {
+        place: next.place,
+        count: next.count,
+        weight: weight,
+    }
 }
 
-// The rows after each of the n jobs, behind a first row that reaches `top`. Returns the greatest
-// weight that the last row reaches.
-pub fn fill_rows(work: &mut [i32], bytes: &[u8], n: usize, top: usize) -> usize
-    requires { ⌜ CanFill (now bytes) n top (now work) ⌝ }
-    ensures { λ r. ⌜ Filled (now (bytes .entry)) top (now (work .entry)) (now (work .exit)) r ⌝ }
+// A buffer for a pushed list: a number past all at its top.
+pub fn buffer() -> [i32; 303]
+    ensures { λ r. ⌜ Buffer r ⌝ }
 {
-    let mut reached = top;
+    [PAST; 303]
+}
+
+// A note for the list before each job and after the last.
+pub fn notes() -> [usize; 49]
+    ensures { λ r. ⌜ length r ≡ 49 ⌝ }
+{
+    [0; 49]
+}
+
+// The lists after each of the n jobs, behind a first list at the front; their places and counts are noted, the first list's
+// at 0.
+pub fn fill_lists(
+    work: &mut [i32],
+    bytes: &[u8],
+    n: usize,
+    count: usize,
+    places: &mut [usize],
+    counts: &mut [usize],
+    pushed: &mut [i32],
+) -> Totals
+    requires { ⌜ CanFill (now bytes) n count (now work) (now places) (now counts) (now pushed) ⌝ }
+    ensures { λ r. ⌜
+        Filled (now (bytes .entry)) n count (now (work .entry)) (r .points) (r .weight) (now (places .exit))
+        (now (counts .exit)) (now (work .exit)) ⌝ }
+{
+    places[0] = 0;
+    counts[0] = count;
+    let mut place = 0;
+    let mut many = count;
+    let mut points = 0;
+    let mut weight = 0;
     let mut k = 0;
     while k < n {
-        reached = fill_row(work, bytes, k, reached);
+        let next = fill_one(work, bytes, k, place, many, pushed);
+        place = next.place;
+        many = next.count;
+        points += many;
+        weight += next.weight;
         k += 1;
+        places[k] = place;
+        counts[k] = many;
     }
-    reached
+    Totals {
+        points: points,
+        weight: weight,
+    }
+}
+
+// The list after all of the n jobs, behind a first list at the front.
+pub fn fill_last(work: &mut [i32], bytes: &[u8], n: usize, count: usize) -> Prefix
+    requires { ⌜ CanFillLast (now bytes) n count (now work) ⌝ }
+    ensures { λ r. ⌜ FilledLast (now (bytes .entry)) count (now (work .entry)) r (now (work .exit)) ⌝ }
+{
+    let mut places = notes();
+    let mut counts = notes();
+    let mut pushed = buffer();
+    fill_lists(work, bytes, n, count, &mut places, &mut counts, &mut pushed);
+    let place = places[n];
+    let many = counts[n];
+    Prefix {
+        place: place,
+        count: many,
+    }
+}
+
+// The list before the first job: the bus is free at `t0` with nothing kept.
+pub fn start_at(work: &mut [i32], t0: i32)
+    requires { ⌜ CanStart t0 (now work) ⌝ }
+    ensures { λ _. ⌜ Held (now (work .exit)) 0 (startPoint t0 ∷ []) ⌝ }
+{
+    work[0] = code_of(t0, 0);
+}
+
+// The list before the first job: a profile. Returns how many points it has.
+pub fn start_profile(work: &mut [i32], numbers: &[i32]) -> usize
+    requires { ⌜ CanBegin (now numbers) (now work) ⌝ }
+    ensures { λ r. ⌜ Begun (pointsOf (now (numbers .entry))) r (now (work .exit)) ⌝ }
+{
+    let mut i = 0;
+    let mut many = 0;
+    while i < numbers.len() {
+        let weight = numbers[i + 1] as usize;
+        work[many] = code_of(numbers[i], weight);
+        i += 2;
+        many += 1;
+    }
+    many
 }
 
 // The last weight of a profile, 0 if it is empty.
@@ -57,28 +169,4 @@ pub fn last_weight(numbers: &[i32]) -> usize
         return 0;
     }
     numbers[n - 1] as usize
-}
-
-// The points of a profile, each set as a cell of a row that has none.
-fn set_points(work: &mut [i32], numbers: &[i32])
-    requires { ⌜ CanSetPoints (now numbers) (now work) ⌝ }
-    ensures { λ _. ⌜ ProfileSet (now (numbers .entry)) (now (work .entry)) (now (work .exit)) ⌝ }
-{
-    let mut i = 0;
-    while i < numbers.len() {
-        let weight = numbers[i + 1] as usize;
-        work[weight] = numbers[i];
-        i += 2;
-    }
-}
-
-// The first row from a profile. Returns the greatest weight it reaches.
-pub fn start_profile(work: &mut [i32], numbers: &[i32]) -> usize
-    requires { ⌜ CanStartProfile (now numbers) (now work) ⌝ }
-    ensures { λ r. ⌜ ProfileStarted (now (numbers .entry)) (now (work .entry)) (now (work .exit)) r ⌝ }
-{
-    let top = last_weight(numbers);
-    fill_cells(work, 0, top + 1, NEVER);
-    set_points(work, numbers);
-    top
 }

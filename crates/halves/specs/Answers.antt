@@ -28,7 +28,7 @@ use Rattle.packed.specs.RefusalLaws.{offending-is-first, halves-fine}
 use Rattle.packed.specs.RefusalPlaces.{BadField, RefusalIs, bad, repeated, offending, nowhere, halves-tell}
 use Rattle.packed.specs.RefusalPlaces.{SixIs, six-behind, six-order, answer-refusal, answer-says}
 use Rattle.fields.specs.Places.{jobs-count}
-use Rattle.cells.specs.Work.{area}
+use Rattle.area.specs.Area.{area}
 use Rattle.filling.specs.After.{workBy}
 use Rattle.judge.specs.Told.{stays, told-next, Named, holds-behind, named-rooms, named-order, six-rooms}
 use Rattle.planner.specs.Calls.{planChecks, planVerdict, plannedBy, startsBy, plannedOf, startsAfter, planWorkAfter, PlanCall}

@@ -24,7 +24,7 @@ use Rattle.packed.specs.Refusals.{firstOffending, orderChecks, halvesChecks, ro
 use Rattle.packed.specs.RefusalLaws.{halves-fine}
 use Rattle.packed.specs.Accepted.{order-fine}
 use Rattle.fields.specs.Places.{jobs-whole}
-use Rattle.cells.specs.Work.{area}
+use Rattle.area.specs.Area.{area}
 use Rattle.filling.specs.After.{workBy}
 use Rattle.judge.specs.Verdicts.{verdictOf}
 use Rattle.judge.specs.Told.{refusal-told, stays, told-next}

@@ -12,7 +12,7 @@ use Rattle.plan.specs.Plan.{Ended, plan, planAnswer}
 use Rattle.packed.specs.Judge.{Check, Verdict, judge}
 use Rattle.packed.specs.Packed.{countOf, numbersOf, orderOf}
 use Rattle.packed.specs.Refusals.{orderChecks, halvesChecks, roomChecks}
-use Rattle.cells.specs.Area.{area}
+use Rattle.area.specs.Area.{area}
 use Rattle.filling.specs.After.{workBy}
 use Rattle.planner.specs.Calls.{plannedBy, startsBy, PlanNumbers, planNumbers}
 use Rattle.planner.specs.declared.Planned.{Planned}
@@ -20,7 +20,7 @@ use Rattle.planner.specs.declared.Planned.the-variants as planned
 use Rattle.halves.specs.declared.HalvesPlanned.{HalvesPlanned}
 use Rattle.halves.specs.declared.HalvesPlanned.the-variants.{Refused, Made}
 
--- 1 to 7 and 9 of the order, 13, then room for a start of each job, then room for the rows.
+-- 1 to 7 and 9 of the order, 13, then room for a start of each job, then room for the work area.
 unfoldable pub planHalvesChecks : List ℕ → List ℤ → List ℤ → List Check
 planHalvesChecks bytes starts work =
     orderChecks bytes ++ halvesChecks (numbersOf bytes)

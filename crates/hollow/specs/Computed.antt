@@ -17,7 +17,7 @@ use Rattle.packed.specs.Packed.{jobCount, fieldsAt, packedHeader, packedJob, pa
 use Rattle.packed.specs.Refusals.{fieldsWithin, badField, firstBad, numberAt, firstRepeat, firstOffending, headerChecks, jobChecks, weightChecks}
 use Rattle.packed.specs.Refusals.{halvesChecks}
 use Rattle.profiles.specs.Numbers.{mostNumbers}
-use Rattle.cells.specs.Work.{area, cleared, clearedTo}
+use Rattle.area.specs.Area.{area, cleared, clearedTo}
 use Rattle.extending.specs.Calls.{extendJudged, extendChecks, extendVerdict}
 use Rattle.planner.specs.Calls.{planChecks, planVerdict}
 use Rattle.halves.specs.Calls.{planHalvesChecks, halvesVerdict}
@@ -28,7 +28,7 @@ use Rattle.report.specs.Report.{textRoom, printed}
 use Rattle.report.specs.AsPrinted.{morningBytes, morningText, morning-printed}
 use Rattle.worked.specs.Examples.{morning}
 use Rattle.worked.specs.Halves.{twoChecks}
-use Rattle.hollow.specs.Named.{ones, front, room, rows, refusedBytes, oneJobBytes, start, page}
+use Rattle.hollow.specs.Named.{ones, front, room, workArea, refusedBytes, oneJobBytes, start, page}
 
 -- P4 as an order.
 abbrev pub oneJob : Order
@@ -47,7 +47,7 @@ checked =
           ∷ [];
     }
 
--- With room for a profile and for the rows,
+-- With room for a profile and for the work area,
 pub record Accepted (out work : List ℤ) : Type 0 where
   pub plan-morning : planVerdict morningBytes (ones 5) work ≡ fine
   pub plan-refused : planVerdict refusedBytes (ones 5) work ≡ refused (inField 6 2 5)
@@ -87,8 +87,8 @@ pub length-ones : (n : ℕ) → length (ones n) ≡ n
 unfolding ones
 length-ones n = length-replicate n (pos 1)
 
-pub accepted : Accepted room rows
-accepted = with-room room rows (length-ones mostNumbers) (length-ones area)
+pub accepted : Accepted room workArea
+accepted = with-room room workArea (length-ones mostNumbers) (length-ones area)
 
 -- What stands in front of them, and of any work area that is cleared.
 pub front-ones : (n : ℕ) → front (ones (suc n)) ≡ pos 1

@@ -8,7 +8,7 @@ use lib.ListN.{getD, set, replicate}
 use Rattle.packed.specs.Packed.{numbersOf}
 use Rattle.profiles.specs.Numbers.{mostNumbers}
 use Rattle.point_records.specs.declared.Point.{Point}
-use Rattle.cells.specs.Work.{area}
+use Rattle.area.specs.Area.{area}
 use Rattle.reader_struct.specs.declared.Reader.{Reader}
 use Rattle.report.specs.Report.{textRoom}
 use Rattle.report.specs.AsPrinted.{morningBytes}
@@ -25,12 +25,12 @@ ones n = replicate n (pos 1)
 abbrev pub front : List ℤ → ℤ
 front l = getD l 0 (pos 0)
 
--- Room for a profile, and for the rows.
+-- Room for a profile, and for the work area.
 abbrev pub room : List ℤ
 room = ones mostNumbers
 
-abbrev pub rows : List ℤ
-rows = ones area
+abbrev pub workArea : List ℤ
+workArea = ones area
 
 -- ---- orders and profiles
 
@@ -58,24 +58,24 @@ point t w = record { time = pos t; weight = pos w }
 
 -- Planning P1, the refused order, and P4.
 abbrev pub planMorning : PlanInput
-planMorning = (morningBytes, ones 5, rows)
+planMorning = (morningBytes, ones 5, workArea)
 
 abbrev pub planRefused : PlanInput
-planRefused = (refusedBytes, ones 5, rows)
+planRefused = (refusedBytes, ones 5, workArea)
 
 abbrev pub planOneJob : PlanInput
-planOneJob = (oneJobBytes, ones 1, rows)
+planOneJob = (oneJobBytes, ones 1, workArea)
 
 -- Planning the README's order of halves; P4 is one too.
 abbrev pub halvesChecked : PlanInput
-halvesChecked = (twoChecks, ones 4, rows)
+halvesChecked = (twoChecks, ones 4, workArea)
 
 -- Extending by P1, and by P4.
 abbrev pub extendMorning : ExtendInput
-extendMorning = (start, morningBytes, room, rows)
+extendMorning = (start, morningBytes, room, workArea)
 
 abbrev pub extendOneJob : ExtendInput
-extendOneJob = (start, oneJobBytes, room, rows)
+extendOneJob = (start, oneJobBytes, room, workArea)
 
 -- Better-of as in P9, and with nothing for the first.
 abbrev pub joinTwo : List ℤ × List ℤ × List ℤ
@@ -114,8 +114,8 @@ page = replicate textRoom 1
 
 -- Two openings, P1 and P4, at a time: P4 has a point long before P1, which has the heavier one in the end.
 abbrev pub askAt : ℤ → List ℕ × List ℕ × ℤ × List ℤ
-askAt t = (morningBytes, oneJobBytes, t, rows)
+askAt t = (morningBytes, oneJobBytes, t, workArea)
 
 -- The same openings in two blocks.
 abbrev pub chooseAt : ℤ → RefT (List ℕ) × RefT (List ℕ) × ℤ × List ℤ
-chooseAt t = (block 0 morningBytes, block 1 oneJobBytes, t, rows)
+chooseAt t = (block 0 morningBytes, block 1 oneJobBytes, t, workArea)

@@ -34,7 +34,7 @@ use Rattle.hollow.specs.Contracts.{PlanInput, planning, ExtendInput, ext
 use Rattle.hollow.specs.Contracts.{unpacking, packing, openingReader, stepping, beginning, steppingReader, readingAt}
 use Rattle.hollow.specs.Contracts.{planningHalves, reporting, heatingUp, asking, choosing}
 use Rattle.hollow.specs.Laws.{unwritten, not-hollow, not-hollow-in}
-use Rattle.hollow.specs.Named.{ones, front, rows, oneJobBytes, planMorning, planOneJob, halvesChecked}
+use Rattle.hollow.specs.Named.{ones, front, workArea, oneJobBytes, planMorning, planOneJob, halvesChecked}
 use Rattle.hollow.specs.Named.{extendMorning, extendOneJob}
 use Rattle.hollow.specs.Named.{joinTwo, joinOne, lookupAt, lookupRecordsAt, unpackMorning, unpackOneJob}
 use Rattle.hollow.specs.Named.{packMorning, packOneJob, block, readerAt, page, askAt, chooseAt}
@@ -72,19 +72,19 @@ pub plan-clears : (f : PlanInput → Planned × (List ℤ × List ℤ)) → Leav
     → ShutOut planning f planMorning
 plan-clears f leaves =
     unwritten planning (λ b. b .1) f planMorning front
-    (rw (accepted .plan-morning, front-cleared rows, front-ones 14748) (omega signed)) (leaves planMorning)
+    (rw (accepted .plan-morning, front-cleared workArea, front-ones 14748) (omega signed)) (leaves planMorning)
 
 pub plan-halves-clears : (f : PlanInput → HalvesPlanned × (List ℤ × List ℤ)) → Leaves planningHalves (λ b. b .1) f
     → ShutOut planningHalves f halvesChecked
 plan-halves-clears f leaves =
     unwritten planningHalves (λ b. b .1) f halvesChecked front
-    (rw (accepted .halves-checked, front-cleared rows, front-ones 14748) (omega signed)) (leaves halvesChecked)
+    (rw (accepted .halves-checked, front-cleared workArea, front-ones 14748) (omega signed)) (leaves halvesChecked)
 
 pub extend-clears : (f : ExtendInput → Extended × (List ℤ × List ℤ)) → Leaves extending (λ b. b .1) f
     → ShutOut extending f extendMorning
 extend-clears f leaves =
     unwritten extending (λ b. b .1) f extendMorning front
-    (rw (accepted .extend-morning, front-cleared rows, front-ones 14748) (omega signed)) (leaves extendMorning)
+    (rw (accepted .extend-morning, front-cleared workArea, front-ones 14748) (omega signed)) (leaves extendMorning)
 
 -- ---- better-of on P9, lookup as in P3, heat-up as in P10
 
@@ -113,7 +113,7 @@ unfolding rest
 question-not-hollow =
     not-hollow-in asking (rw (accepted .choose, accepted .morning-order, accepted .one-job-order)) winnerOf
     (rw (accepted .choose, accepted .morning-order, accepted .one-job-order) (omega arith)) (λ b. b) front
-    (rw (accepted .choose, accepted .morning-order, accepted .one-job-order, front-cleared rows, front-ones 14748)
+    (rw (accepted .choose, accepted .morning-order, accepted .one-job-order, front-cleared workArea, front-ones 14748)
     (omega signed))
 
 pub choose-not-hollow : NotHollowIn choosing (λ b. b) (chooseAt (pos 1000)) (chooseAt (pos 100))
@@ -121,7 +121,7 @@ unfolding rest
 choose-not-hollow =
     not-hollow-in choosing (rw (accepted .choose, accepted .morning-order, accepted .one-job-order)) (λ r. length (r .0))
     (rw (accepted .choose, accepted .morning-order, accepted .one-job-order) (omega arith)) (λ b. b) front
-    (rw (accepted .choose, accepted .morning-order, accepted .one-job-order, front-cleared rows, front-ones 14748)
+    (rw (accepted .choose, accepted .morning-order, accepted .one-job-order, front-cleared workArea, front-ones 14748)
     (omega signed))
 
 -- ---- packed orders, on P1 and P4

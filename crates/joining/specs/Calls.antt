@@ -14,7 +14,7 @@ use Rattle.better.specs.declared.Joined.{Joined}
 use Rattle.better.specs.declared.Joined.the-variants.{Points as JoinedPoints}
 use Rattle.better.proofs.better_of as better-of
 use Rattle.better.proofs.better_of.Reads as better-of-reads
-use Rattle.cells.specs.Work.{area}
+use Rattle.area.specs.Area.{area}
 use Rattle.extending.specs.Calls.{pointsWritten}
 use Rattle.extending.specs.declared.Extended.{Extended}
 use Rattle.extending.specs.declared.Extended.the-variants.{Points}
@@ -33,7 +33,7 @@ pub record Extending (P : List ℤ) (A : List ℕ) : Type 0 where
   pub profile : args .0 .now ≡ P
   pub order : args .1 .0 .now ≡ A
   pub room : mostNumbers ≤ length (args .1 .1 .0 .now)
-  pub rows : area ≤ length (args .1 .1 .1 .0 .now)
+  pub work-room : area ≤ length (args .1 .1 .1 .0 .now)
 
 module _ {P : List ℤ} {A : List ℕ} (e : Extending P A) where
   -- It is accepted: it answers with a number of points.

@@ -29,7 +29,7 @@ use Rattle.profiles.specs.NumbersLaws.{alternating-length, profile-back, held, 
 use Rattle.better.specs.Answer.{joinedOf, outAfter as joinedAfter, pointsWritten as pointsJoined}
 use Rattle.better.specs.declared.Joined.{Joined}
 use Rattle.better.specs.declared.Joined.the-variants.{Points as JoinedPoints}
-use Rattle.cells.specs.Work.{area}
+use Rattle.area.specs.Area.{area}
 use Rattle.extending.specs.Calls.{profileGiven, extendJudged, extendChecks, extendVerdict, extension, extendedBy, extendedOf}
 use Rattle.extending.specs.Calls.{ExtendCall, pointsWritten}
 use Rattle.extending.specs.CallLaws.{given-read, extend-fine}
@@ -107,10 +107,10 @@ module _ (P : List ℤ) (A : List ℕ) (after : AcceptedAfter P A) where
   -- A call answers with it and writes it.
   module _ (e : Extending P A) where
     answers : e .answer ≡ Points (length (extension P A))
-    answers = call e .answer ∙ rw (extend-fine P A (lent e) _ after (e .room) (e .rows))
+    answers = call e .answer ∙ rw (extend-fine P A (lent e) _ after (e .room) (e .work-room))
 
     leaves : left e ≡ writtenOver (alternating (extension P A)) (lent e)
-    leaves = call e .written ∙ rw (extend-fine P A (lent e) _ after (e .room) (e .rows))
+    leaves = call e .written ∙ rw (extend-fine P A (lent e) _ after (e .room) (e .work-room))
 
     writes : extended e ≡ alternating (extension P A)
     writes =

@@ -9,7 +9,7 @@ use denote.Triple.Clauses.{AtExit}
 use denote.Triple.Entry.{Args}
 use Rattle.packed.specs.Judge.{inField, fine, judge}
 use Rattle.packed.specs.Refusals.{orderChecks}
-use Rattle.cells.specs.Work.{cleared}
+use Rattle.area.specs.Area.{cleared}
 use Rattle.openings.specs.Choosing.{refusalOf}
 use Rattle.openings.specs.WinnerLaws.{NeitherInTime, asked-eleven, eleven-clears, BadIn, asked-six, asked-names}
 use Rattle.openings.specs.declared.Chosen.{Chosen}

@@ -15,7 +15,7 @@ use Rattle.packed.specs.declared.Refusal.{Refusal}
 use Rattle.packed.specs.Judge.{plainly, noRefusal, withoutPlace, Check, Verdict, fine, refused, judge}
 use Rattle.packed.specs.Packed.{orderOf}
 use Rattle.packed.specs.Refusals.{roomChecks, orderChecks}
-use Rattle.cells.specs.Area.{area, cleared}
+use Rattle.area.specs.Area.{area, cleared}
 use Rattle.openings.specs.declared.Chosen.{Chosen}
 use Rattle.openings.specs.declared.Chosen.the-variants.{Refused, First, Second}
 
@@ -46,7 +46,7 @@ winnerBy tie first second t = byWorth (tie first second t) (openingWorth first t
 
 -- ---- the calls
 
--- 1 to 9 of the first order, then of the second, then room for the rows.
+-- 1 to 9 of the first order, then of the second, then room for the work area.
 unfoldable pub choosingChecks : List ℕ → List ℕ → List ℤ → List Check
 choosingChecks first second work = orderChecks first ++ orderChecks second ++ roomChecks area (length work)
 
@@ -59,7 +59,7 @@ abbrev pub chosenBy : Verdict → Chosen → Chosen
 chosenBy (refused r) won = Refused (withoutPlace r)
 chosenBy fine won = won
 
--- The work area by both: a refusal by these checks leaves it as it was; past them what the rows take is cleared, with 11 too.
+-- The work area by both: a refusal by these checks leaves it as it was; past them the area is cleared, with 11 too.
 abbrev pub workBy : Verdict → Chosen → List ℤ → List ℤ
 workBy (refused r) won work = work
 workBy fine (Refused r) work = cleared work

@@ -3,10 +3,11 @@ use Prim.Native.Nat.{ℕ, _≤_, _<_}
 use mathlib.Core.Path.{_≡_, refl, sym, ap₂, _∙_}
 use mathlib.Core.Bool.{true}
 use mathlib.Core.List.{List, _++_}
+use mathlib.Core.Option.{Option}
 use native.Mathlib.Omega.{arith}
 use lib.Dec.{ltb}
 use lib.IntN.{ℤ}
-use lib.ListN.{length}
+use lib.ListN.{length, drop}
 use denote.Ref.{RefT, now}
 use borrow.Author.Tests.{lt-ltb, le-ltb}
 use borrow.Table.Steps.{cases}
@@ -15,20 +16,20 @@ use Rattle.packed.specs.Judge.{plainly, withoutPlace, Verdict as Judged, fine, 
 use Rattle.packed.specs.JudgeLaws.{stages-fine}
 use Rattle.packed.specs.Refusals.{roomChecks, orderChecks}
 use Rattle.packed.specs.Accepted.{order-fine}
-use Rattle.cells.specs.Work.{area, cleared}
-use Rattle.cells.specs.Keeping.{cleared-same}
-use Rattle.cells.specs.declared.Found.{Found}
-use Rattle.cells.specs.declared.Found.the-variants.{At}
+use Rattle.area.specs.Area.{area, cleared}
+use Rattle.area.specs.Clearing.{cleared-same}
+use Rattle.reading.specs.declared.Found.{Found}
+use Rattle.reading.specs.declared.Found.the-variants.{At}
 use Rattle.judge.specs.Verdicts.{verdictOf}
 use Rattle.judge.specs.Told.{refusal-told, stays, told-next}
 use Rattle.judge.specs.declared.Verdict.the-variants.{Refused as Stopped}
-use Rattle.openings.specs.Choosing.{byWorth, toFirst, winnerBy, choosingChecks, choosingVerdict, chosenBy, workBy}
-use Rattle.openings.specs.Choosing.{chosenOf, Asked, partOf, placeOf, Handed, winnerOf}
-use Rattle.openings.specs.Weighing.{weightIn, WeighedIn, CanCompare}
+use Rattle.openings.specs.Choosing.{openingWorth, byWorth, toFirst, winnerBy, choosingChecks, choosingVerdict}
+use Rattle.openings.specs.Choosing.{chosenBy, workBy, chosenOf, Asked, partOf, placeOf, Handed, winnerOf}
+use Rattle.openings.specs.Weighing.{weightIn, CanCompare}
 use Rattle.openings.specs.declared.Chosen.{Chosen}
 use Rattle.openings.specs.declared.Chosen.the-variants.{Refused, First, Second}
 
--- ---- which of two cells wins
+-- ---- which of two points wins
 
 -- The first, where the second is no heavier,
 pub first-wins : {one other : Found} {v w : ℕ} {t u : ℤ} → one ≡ At v t → other ≡ At w u → w ≤ v
@@ -82,15 +83,15 @@ module _ (first second : List ℕ) (t : ℤ) (work : List ℤ) where
     no-room h = by-verdict {r = plainly 10} (room-told ∙ rw (lt-ltb (length work) area h))
 
     -- Past all of them both are weighed, the winner is told, and the work area cleared.
-    pub compared : {one other : Found} {after left end : List ℤ} {r : Chosen} → area ≤ length work
-        → WeighedIn first t work one after → WeighedIn second t after other left → end ≡ cleared left
-        → r ≡ byWorth true (weightIn one) (weightIn other) → Asked first second t work r end
-    compared {left = left} h v w c e =
+    pub compared : {one other : Option ℕ} {end : List ℤ} {r : Chosen} (left : List ℤ) → area ≤ length work
+        → one ≡ openingWorth first t → other ≡ openingWorth second t → drop area left ≡ drop area work → end ≡ cleared left
+        → r ≡ byWorth true one other → Asked first second t work r end
+    compared left h v w past c e =
         let passed : choosingVerdict first second work ≡ fine = room-told ∙ rw (le-ltb (length work) area h) in
         let after = cleared-past (winnerBy toFirst first second t) work in
         record {
-          answer = rw passed (e ∙ ap₂ (byWorth true) (v .worth) (w .worth));
-          area = rw passed (c ∙ cleared-same work left (w .past ∙ v .past) ∙ sym after);
+          answer = rw passed (e ∙ ap₂ (byWorth true) v w);
+          area = rw passed (c ∙ cleared-same work left past ∙ sym after);
         }
 
 -- ---- the part handed back

@@ -4,28 +4,22 @@ use mathlib.Core.Path.{_≡_}
 use mathlib.Core.List.{List}
 use mathlib.Core.Option.{Option, none, some}
 use lib.IntN.{ℤ}
-use lib.ListN.{length, drop}
+use lib.ListN.{length}
 use Rattle.packed.specs.Judge.{fine, judge}
 use Rattle.packed.specs.Refusals.{orderChecks}
-use Rattle.cells.specs.Work.{area}
-use Rattle.cells.specs.declared.Found.{Found}
-use Rattle.cells.specs.declared.Found.the-variants.{Nothing, At}
-use Rattle.openings.specs.Choosing.{openingWorth}
+use Rattle.area.specs.Area.{area}
+use Rattle.reading.specs.declared.Found.{Found}
+use Rattle.reading.specs.declared.Found.the-variants.{Nothing, At}
 
 -- The weight that was found, if one was.
 abbrev pub weightIn : Found → Option ℕ
 weightIn Nothing = none
 weightIn (At w t) = some w
 
--- An opening can be weighed: it is accepted, and there is room for its rows.
+-- An opening can be weighed: it is accepted, and there is room for its lists.
 pub record CanWeigh (bytes : List ℕ) (work : List ℤ) : Type 0 where
   pub accepted : judge (orderChecks bytes) ≡ fine
   pub room : area ≤ length work
-
--- The weight found is what the opening is worth at the time; what is past the rows is as it was.
-pub record WeighedIn (bytes : List ℕ) (t : ℤ) (work : List ℤ) (r : Found) (work′ : List ℤ) : Type 0 where
-  pub worth : weightIn r ≡ openingWorth bytes t
-  pub past : drop area work′ ≡ drop area work
 
 -- Two openings can be compared: both are accepted.
 pub record CanCompare (first second : List ℕ) : Type 0 where

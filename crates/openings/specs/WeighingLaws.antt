@@ -1,45 +1,40 @@
--- The laws of weighing an opening by its rows: each step can be made, and the weight found is what the opening is worth.
-use Prim.Native.Nat.{ℕ, suc, _+_, _≤_, _<_}
-use mathlib.Core.Path.{_≡_, refl, sym, ap, _∙_}
+-- The laws of weighing an opening by its lists: each step can be made, and the weight found is what the opening is worth.
+use Prim.Native.Nat.{ℕ, _≤_}
+use mathlib.Core.Path.{_≡_, refl, ap, _∙_}
 use mathlib.Core.List.{List, [], _∷_}
-use mathlib.Core.Option.{Option, none, some}
+use mathlib.Core.Option.{Option, none, some, Option·map}
 use native.Mathlib.Omega.{arith}
 use lib.IntN.{ℤ}
 use lib.ListN.{length}
 use mir.Syntax.{w32}
 use mir.Val.{toZ, ofZ}
 use mir.Facts.{toZ-ofZ}
-use Rattle.seconds.specs.Limits.{mostJobs}
-use Rattle.seconds.specs.RangesLaws.{time-fits}
-use Rattle.seconds.specs.Signed.{signed}
+use Rattle.seconds.specs.Ranges.{InTime}
+use Rattle.seconds.specs.RangesLaws.{time-fits, time-free}
 use Rattle.order.specs.Job.{Point}
-use Rattle.order.specs.Choice.{outcomes}
-use Rattle.profile.specs.Profile.{startPoint}
-use Rattle.profile.specs.Points.{profileOf-same}
-use Rattle.profile.specs.Worth.{same-worth}
-use Rattle.rows.specs.Row.{Row, startRow}
-use Rattle.rows.specs.RowLaws.{rows-say}
-use Rattle.packed.specs.Packed.{t0Of, orderOf, jobsIn}
+use Rattle.profile.specs.Profile.{worth, lookup, lastWeight, extend, startPoint, orderProfile}
+use Rattle.profile.specs.Closure.{valid-holds, valid-start}
+use Rattle.profile.specs.Worth.{lookup-worth}
+use Rattle.packed.specs.Packed.{orderOf, jobsIn}
 use Rattle.packed.specs.Accepted.{OrderFine, order-fine}
 use Rattle.fields.specs.Facts.{HeaderRead}
 use Rattle.fields.specs.declared.Header.{Header}
-use Rattle.cells.specs.Work.{rowAt, RowWritten, CanStart}
-use Rattle.cells.specs.Keeping.{area-kept}
-use Rattle.cells.specs.Found.{heaviestBy, found}
-use Rattle.cells.specs.declared.Found.{Found}
-use Rattle.cells.specs.FoundLaws.{weightBy, weight-worth}
-use Rattle.filling.specs.Rows.{rowPlace, CanFill, Filled}
-use Rattle.filling.specs.RowsLaws.{last-row, last-none-past}
+use Rattle.area.specs.Area.{area}
+use Rattle.codes.specs.Code.{listAt}
+use Rattle.codes.specs.Held.{Held}
+use Rattle.codes.specs.HeldLaws.{held-read}
+use Rattle.stepping.specs.declared.Prefix.{Prefix}
+use Rattle.reading.specs.Reading.{found}
+use Rattle.reading.specs.declared.Found.{Found}
+use Rattle.filling.specs.Lists.{CanFillLast, FilledLast}
+use Rattle.filling.specs.Begin.{CanStart}
 use Rattle.openings.specs.Choosing.{openingWorth}
-use Rattle.openings.specs.Weighing.{weightIn, CanWeigh, WeighedIn}
+use Rattle.openings.specs.Weighing.{weightIn, CanWeigh}
 
 -- The weight in the code's answer is the weight of the point that was found.
-found-weight : (row : Row) (t : ℤ) (n : ℕ) → weightIn (found (heaviestBy row t n)) ≡ weightBy row t n
-found-weight row t n = go (heaviestBy row t n) refl
-  where
-    go : (o : Option Point) → heaviestBy row t n ≡ o → weightIn (found (heaviestBy row t n)) ≡ weightBy row t n
-    go none e = rw e
-    go (some p) e = rw e
+found-weight : (o : Option Point) → weightIn (found o) ≡ Option·map (λ (p : Point). p .weight) o
+found-weight none = refl
+found-weight (some p) = refl
 
 module _ {bytes : List ℕ} {work : List ℤ} (f : CanWeigh bytes work) where
   order : OrderFine bytes
@@ -50,51 +45,46 @@ module _ {bytes : List ℕ} {work : List ℤ} (f : CanWeigh bytes work) where
   header-there = order .header .long
 
   module _ {h : Header} (read : HeaderRead bytes h) where
+    timely : InTime (h .t0)
+    timely = rw (read .t0) (order .header .timely)
+
     -- Its bus-free time is as the code reads it,
     pub t0-kept : toZ w32 (ofZ w32 (h .t0)) ≡ h .t0
-    t0-kept = toZ-ofZ (time-fits (rw (read .t0) (order .header .timely)))
+    t0-kept = toZ-ofZ (time-fits timely)
 
-    -- the first row can be started,
+    -- the first list can be started,
     pub can-start : CanStart (h .t0) work
-    can-start = record { room = omega (arith, f .room); early = rw (read .t0) (omega (signed, order .header .timely)) }
+    can-start = record { timely = timely; room = omega (arith, f .room) }
 
-    -- with few jobs,
-    pub few-jobs : h .count ≤ mostJobs
-    few-jobs = omega (arith, read .count, order .header .few)
+    module _ {begun : List ℤ} (started : Held begun 0 (startPoint (h .t0) ∷ [])) (room : area ≤ length begun) where
+      first-is : listAt begun 0 1 ≡ startPoint (h .t0) ∷ []
+      first-is = held-read started
 
-    module _ {begun : List ℤ} (started : RowWritten (startRow (h .t0)) 0 0 work begun) where
-      -- the rows of all jobs can be filled behind it,
-      pub can-fill : CanFill bytes (h .count) 0 begun
+      -- the lists of all jobs can be filled behind it,
+      pub can-fill : CanFillLast bytes (h .count) 1 begun
       can-fill =
           record {
             order = order;
-            count = read .count;
-            light = omega (arith, order .light);
-            room = omega (arith, f .room, started .size);
+            jobs = read .count;
+            held = rw first-is started;
+            valid = rw first-is (valid-holds (startPoint (h .t0) ∷ []) (valid-start (h .t0) (time-free timely)));
+            light = omega (arith, order .light, ap lastWeight first-is);
+            room = room;
           }
 
-      module _ {filled : List ℤ} {top : ℕ} (rows : Filled bytes 0 begun filled top) where
-        -- the last row can be searched,
-        pub row-there : rowPlace (h .count) + top < length filled
-        row-there = omega (arith, few-jobs, rows .reaches, order .light, rows .stands .size, started .size, f .room)
-
-        first-reads : (w : ℕ) → rowAt begun 0 0 w ≡ startRow (t0Of bytes) w
-        first-reads w = started .reads w ∙ ap (λ (t : ℤ). startRow t w) (read .t0)
-
-        -- and the weight found there is what the opening is worth.
-        worth-found : (t : ℤ)
-            → weightIn (found (heaviestBy (rowAt filled (rowPlace (h .count)) top) t (suc top))) ≡ openingWorth bytes t
+      module _ {last : Prefix} {filled : List ℤ} (lists : FilledLast bytes 1 begun last filled) where
+        -- the last of them is the opening's profile,
+        last-is : listAt filled (last .place) (last .count) ≡ orderProfile (orderOf bytes)
         unfolding orderOf
-        worth-found t =
-            let start : List Point = startPoint (t0Of bytes) ∷ [] in
-            found-weight (rowAt filled (rowPlace (h .count)) top) t (suc top)
-            ∙ ap (λ (k : ℕ). weightBy (rowAt filled (rowPlace k) top) t (suc top)) (read .count)
-            ∙ ap (λ (row : Row). weightBy row t (suc top)) (last-row bytes rows start first-reads)
-            ∙ weight-worth top (rows-say (jobsIn bytes) start) (last-none-past bytes rows start first-reads) t
-            ∙ sym (same-worth (profileOf-same (outcomes (jobsIn bytes) start)) t)
+        last-is =
+            lists .is
+            ∙ ap (λ (ps : List Point). extend ps (jobsIn bytes)) (first-is ∙ ap (λ (t : ℤ). startPoint t ∷ []) (read .t0))
 
-        -- So the opening is weighed.
-        pub weighed : {t by : ℤ} {r : Found} → by ≡ t
-            → r ≡ found (heaviestBy (rowAt filled (rowPlace (h .count)) top) by (suc top)) → WeighedIn bytes t work r filled
+        -- and the weight of its last point by a time is what the opening is worth.
+        pub weighed : {t by : ℤ} {r : Found} → by ≡ t → r ≡ found (lookup (listAt filled (last .place) (last .count)) by)
+            → weightIn r ≡ openingWorth bytes t
         weighed {t} same e =
-            record { worth = rw (e, same) (worth-found t); past = rows .stands .past ∙ area-kept started (omega arith) }
+            rw (e, same)
+            (found-weight (lookup (listAt filled (last .place) (last .count)) t)
+            ∙ lookup-worth (lists .list .rises) t
+            ∙ ap (λ (ps : List Point). worth ps t) last-is)

@@ -24,7 +24,7 @@ use Rattle.packed.specs.Refusals.{headerChecks, jobChecks, weightChecks, roomCh
 use Rattle.packed.specs.RefusalLaws.{room-fine}
 use Rattle.packed.specs.RefusalPlaces.{BadField, no-field, six-stays, six-order}
 use Rattle.packed.specs.Accepted.{order-fine}
-use Rattle.cells.specs.Work.{area, cleared}
+use Rattle.area.specs.Area.{area, cleared}
 use Rattle.judge.specs.Told.{stays, told-next, up-to-ten, Holds, holds-behind, named-check, named-order}
 use Rattle.openings.specs.Choosing.{openingWorth, byWorth, Tie, toFirst, winnerBy, choosingChecks, choosingVerdict}
 use Rattle.openings.specs.Choosing.{chosenBy, chosenOf, Asked, refusalOf}
@@ -67,7 +67,7 @@ equal-first first second t w e f = rw (e, f) (cases (ltb w w) (λ d. rw d) (λ d
 
 -- ---- 11
 
--- Neither opening has a point by the time: both orders are accepted, and there is room for the rows.
+-- Neither opening has a point by the time: both orders are accepted, and there is room for the lists.
 pub record NeitherInTime (first second : List ℕ) (t : ℤ) (work : List ℤ) : Type 0 where
   pub one : judge (orderChecks first) ≡ fine
   pub other : judge (orderChecks second) ≡ fine

@@ -1,22 +1,21 @@
 // Choosing between two openings at a time: which of two packed orders keeps more weight by then, and the
 // winner's records. Any bytes, time and work area have an answer. Assumes nothing.
-use cells::AREA;
-use cells::Found;
-use cells::ROW;
-use cells::clear;
-use cells::heaviest_by;
-use cells::start_row;
+use area::AREA;
+use area::clear;
 use fields::header_at;
-use filling::fill_rows;
+use filling::fill_last;
+use filling::start_at;
 use judge::Verdict;
 use judge::judge_order;
 use packed::Refusal;
 use packed::plainly;
 use packed::without_place;
+use reading::Found;
+use reading::last_by;
 ghost use mathlib.Core.Path.{_≡_};
 ghost use mathlib.Core.Bool.{true};
-ghost use Rattle.openings.specs.Choosing.{byWorth, Asked, Handed};
-ghost use Rattle.openings.specs.Weighing.{weightIn, CanWeigh, WeighedIn, CanCompare};
+ghost use Rattle.openings.specs.Choosing.{openingWorth, byWorth, Asked, Handed};
+ghost use Rattle.openings.specs.Weighing.{weightIn, CanWeigh, CanCompare};
 
 // What the question answers: a refusal, without its place since it does not say of which opening it would be; or which of the
 // two openings wins.
@@ -26,20 +25,20 @@ pub enum Chosen {
     Second,
 }
 
-// The heaviest cell of an opening that is there by a time, from the rows of all its jobs.
+// The last point of an opening's profile by a time, from the lists of all its jobs.
 fn weigh(bytes: &[u8], t: i32, work: &mut [i32]) -> Found
     requires { ⌜ CanWeigh (now bytes) (now work) ⌝ }
-    ensures { λ r. ⌜ WeighedIn (now (bytes .entry)) t (now (work .entry)) r (now (work .exit)) ⌝ }
+    ensures { λ r. ⌜ weightIn r ≡ openingWorth (now (bytes .entry)) t ⌝ }
 {
     let header = header_at(bytes);
     let n = header.count;
     let t0 = header.t0;
-    start_row(work, t0);
-    let top = fill_rows(work, bytes, n, 0);
-    heaviest_by(work, n * ROW, top, t)
+    start_at(work, t0);
+    let last = fill_last(work, bytes, n, 1);
+    last_by(work, last.place, last.count, t)
 }
 
-// Which of two openings wins, by the cell that was found for each: the heavier, and of equal ones the first.
+// Which of two openings wins, by the point that was found for each: the heavier, and of equal ones the first.
 fn winner(first: Found, second: Found) -> Chosen
     ensures { λ r. ⌜ r ≡ byWorth true (weightIn first) (weightIn second) ⌝ }
 {
@@ -70,8 +69,8 @@ fn compare(first: &[u8], second: &[u8], t: i32, work: &mut [i32]) -> Chosen
     if work.len() < AREA {
         return Chosen::Refused(plainly(10));
     }
-    let one = weigh(first, t, work);
-    let other = weigh(second, t, work);
+    let one = weigh(first, t, &mut work[..AREA]);
+    let other = weigh(second, t, &mut work[..AREA]);
     clear(work);
     winner(one, other)
 }

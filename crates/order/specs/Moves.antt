@@ -141,6 +141,52 @@ moved j x p {q} e = go (allowed j x (p .time)) refl
 pub moves : (j : Job) (x : ℕ) (p : Point) {q : Point} → Moved j x p q → move j x p ≡ some q
 moves j x p m = move-allowed j x p (m .may) ∙ ap {B = Option Point} some (point-path (sym (m .free)) (sym (m .sum)))
 
+-- Left out, a point stays where it is, and the job is not critical.
+pub left-out-moves : (j : Job) (p : Point) → j .critical ≡ false → move j 0 p ≡ some p
+left-out-moves j p c = moves j 0 p (record { may = ap not c; free = refl; sum = omega arith })
+
+pub moves-left-out : (j : Job) (p q : Point) → move j 0 p ≡ some q → (j .critical ≡ false) × (q ≡ p)
+moves-left-out j p q e =
+    let m = moved j 0 p e in
+    (go (j .critical) (m .may), point-path (m .free) (omega (arith, m .sum)))
+  where
+    go : (c : Bool) → not c ≡ true → c ≡ false
+    go true a = absurd (false≢true a)
+    go false a = refl
+
+-- Kept at a rate, it moves exactly when the job starts by its last start: it waits until the job is ready, and is then later
+-- by the rate's seconds and a rest, and heavier by what the rate counts.
+abbrev pub keptTo : Job → Rate → Point → Point
+keptTo j r p = record { time = finishAt j r (p .time) +ℤ pos rest; weight = p .weight + r .gain }
+
+module _ (j : Job) (k : ℕ) (r : Rate) (is : rateOf j k ≡ some r) (p : Point) where
+  pub kept-moves : startAt j (p .time) ≤ℤ (j .deadline -ℤ pos (r .takes)) → move j (suc k) p ≡ some (keptTo j r p)
+  kept-moves h = moves j (suc k) p (record { may = may; free = rw is; sum = rw is })
+    where
+      may : allowed j (suc k) (p .time) ≡ true
+      may = rw is (omega (signed, sub-is (j .deadline) (pos (r .takes)), add-is (startAt j (p .time)) (pos (r .takes))))
+
+  pub moves-kept : (q : Point) → move j (suc k) p ≡ some q
+      → (startAt j (p .time) ≤ℤ (j .deadline -ℤ pos (r .takes))) × (q ≡ keptTo j r p)
+  moves-kept q e = (in-time, point-path free sum)
+    where
+      m : Moved j (suc k) p q
+      m = moved j (suc k) p e
+
+      may : allowedAt j (some r) (p .time) ≡ true
+      may = rw is at (m .may)
+
+      in-time : startAt j (p .time) ≤ℤ (j .deadline -ℤ pos (r .takes))
+      in-time =
+          let allowed-so = may in
+          omega (signed, sub-is (j .deadline) (pos (r .takes)), add-is (startAt j (p .time)) (pos (r .takes)))
+
+      free : q .time ≡ freeAt j (some r) (p .time)
+      free = m .free ∙ ap (λ (o : Option Rate). freeAt j o (p .time)) is
+
+      sum : q .weight ≡ p .weight + r .gain
+      sum = m .sum ∙ ap (λ (o : Option Rate). p .weight + gainAt o) is
+
 -- A move from a point that covers another leads to a point that covers where the other leads.
 pub move-monotone : (j : Job) (x : ℕ) (p r : Point) {r′ : Point} → Covers p r → move j x r ≡ some r′
     → (q : Point) × (move j x p ≡ some q) × Covers q r′

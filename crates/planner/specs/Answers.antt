@@ -25,7 +25,7 @@ use Rattle.packed.specs.Refusals.{headerChecks, jobChecks, weightChecks, roomCh
 use Rattle.packed.specs.RefusalLaws.{room-fine}
 use Rattle.packed.specs.Accepted.{order-within}
 use Rattle.packed.specs.RefusalPlaces.{BadField, RefusalIs, nowhere, SixIs, six-order, answer-refusal, answer-says}
-use Rattle.cells.specs.Work.{area}
+use Rattle.area.specs.Area.{area}
 use Rattle.judge.specs.Told.{up-to-ten, Named, named-rooms, named-order, six-rooms}
 use Rattle.starting.specs.Picks.{jobsKept}
 use Rattle.starting.specs.PicksLaws.{kept-list}
@@ -77,7 +77,7 @@ module _ (bytes : List ℕ) (starts work : List ℤ) where
       → planNumbers (plannedOf bytes starts work) ≡ plannedWith t0 jobs e
   plan-says e passed is = rw (passed, is)
 
-  -- The checks are passed exactly when the order is accepted and there is room for the starts and the rows.
+  -- The checks are passed exactly when the order is accepted and there is room for the starts and the work area.
   plan-passed : planVerdict bytes starts work ≡ fine
       ↔ ((judge (orderChecks bytes) ≡ fine) × (countOf bytes ≤ length starts) × (area ≤ length work))
   unfolding planChecks
@@ -86,9 +86,9 @@ module _ (bytes : List ℕ) (starts work : List ℤ) where
       let all = stages-fine (orderChecks bytes ++ places) (roomChecks area (length work)) in
       let first = stages-fine (orderChecks bytes) places in
       let room = room-fine (countOf bytes) (length starts) in
-      let rows = room-fine area (length work) in (
-        λ e. (first .0 (all .0 e .0) .0, room .0 (first .0 (all .0 e .0) .1), rows .0 (all .0 e .1)),
-        λ h. all .1 (first .1 (h .0, room .1 (h .1)), rows .1 (h .2)),
+      let longest = room-fine area (length work) in (
+        λ e. (first .0 (all .0 e .0) .0, room .0 (first .0 (all .0 e .0) .1), longest .0 (all .0 e .1)),
+        λ h. all .1 (first .1 (h .0, room .1 (h .1)), longest .1 (h .2)),
       )
 
   -- No refusal by them has a number above 10.
@@ -142,7 +142,7 @@ module _ (bytes : List ℕ) (starts work : List ℤ) where
 pub record NoneFeasible (bytes : List ℕ) (starts work : List ℤ) : Type 0 where
   pub order : judge (orderChecks bytes) ≡ fine
   pub places : countOf bytes ≤ length starts
-  pub rows : area ≤ length work
+  pub work-room : area ≤ length work
   pub none : (c : Choice) → feasible (orderOf bytes .jobs) c (orderOf bytes .t0) ≡ false
 
 module _ (bytes : List ℕ) (starts work : List ℤ) {r : Planned} {starts′ work′ : List ℤ}
@@ -167,13 +167,13 @@ module _ (bytes : List ℕ) (starts work : List ℤ) {r : Planned} {starts′ wo
           → planNumbers (plannedBy v o) .refusal .number ≡ 11 → NoneFeasible bytes starts work
       there fine d none is e =
           let passed = plan-passed bytes starts work .0 d in
-          record { order = passed .0; places = passed .1; rows = passed .2; none = without .0 is }
+          record { order = passed .0; places = passed .1; work-room = passed .2; none = without .0 is }
       there fine d (some a) is e = absurd (omega arith)
       there (refused r) d o is e = absurd (omega (arith, plan-ten bytes starts work d))
 
       back : NoneFeasible bytes starts work → planNumbers r .refusal .number ≡ 11
       back h =
-          ap number (call .answer) ∙ rw (plan-passed bytes starts work .1 (h .order, h .places, h .rows), without .1 (h .none))
+          ap number (call .answer) ∙ rw (plan-passed bytes starts work .1 (h .order, h .places, h .work-room), without .1 (h .none))
 
 -- ---- a plan's figures
 

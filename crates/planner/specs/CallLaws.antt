@@ -3,18 +3,18 @@ use Prim.Native.Nat.{ℕ, _≤_, _<_}
 use mathlib.Core.Path.{_≡_, _∙_}
 use mathlib.Core.List.{List, _++_}
 use lib.IntN.{ℤ}
-use lib.ListN.{length}
+use lib.ListN.{length, drop}
 use Rattle.packed.specs.declared.Refusal.{Refusal}
 use Rattle.packed.specs.Judge.{plainly, fine, refused, judge}
 use Rattle.packed.specs.Packed.{countOf}
 use Rattle.packed.specs.Refusals.{roomChecks, orderChecks}
-use Rattle.cells.specs.Work.{area, cleared}
-use Rattle.cells.specs.Keeping.{cleared-same}
+use Rattle.area.specs.Area.{area, cleared}
+use Rattle.area.specs.Clearing.{cleared-same}
 use Rattle.judge.specs.Verdicts.{verdictOf}
 use Rattle.judge.specs.Told.{refusal-told, stays, no-room, no-space, all-fine}
 use Rattle.judge.specs.declared.Verdict.the-variants.{Refused as Stopped}
 use Rattle.planner.specs.Calls.{planChecks, planVerdict, PlanCall}
-use Rattle.planner.specs.Planning.{PlannedIn}
+use Rattle.planner.specs.Planning.{MadeIn}
 use Rattle.planner.specs.declared.Planned.{Planned}
 use Rattle.planner.specs.declared.Planned.the-variants.{Refused}
 
@@ -39,20 +39,21 @@ module _ (bytes : List ℕ) (starts work : List ℤ) where
     plan-no-room h = plan-refused (no-room (orderChecks bytes) passed (countOf bytes) (length starts) area (length work) h)
 
     module _ (places : countOf bytes ≤ length starts) where
-      -- or by that for the rows.
+      -- or by the work area.
       pub plan-no-space : length work < area → PlanCall bytes starts work (Refused (plainly 10)) starts work
       unfolding planChecks
       plan-no-space h =
           plan-refused (no-space (orderChecks bytes) passed (countOf bytes) (length starts) area (length work) places h)
 
       -- Past all of them it is planned, and the work area cleared.
-      pub plan-done : {r : Planned} {written filled left : List ℤ} → area ≤ length work
-          → PlannedIn bytes starts work r written filled → left ≡ cleared filled → PlanCall bytes starts work r written left
+      pub plan-done : {r : Planned} {written left : List ℤ} (filled : List ℤ) → area ≤ length work
+          → MadeIn bytes starts r written → drop area filled ≡ drop area work → left ≡ cleared filled
+          → PlanCall bytes starts work r written left
       unfolding planChecks
-      plan-done {filled = filled} h p c =
+      plan-done filled h made past c =
           let e = all-fine (orderChecks bytes) passed (countOf bytes) (length starts) area (length work) places h in
           record {
-            answer = rw e (p .made .answer);
-            written = rw e (p .made .written);
-            area = rw e (c ∙ cleared-same work filled (p .past));
+            answer = rw e (made .answer);
+            written = rw e (made .written);
+            area = rw e (c ∙ cleared-same work filled past);
           }

@@ -11,13 +11,13 @@ use Rattle.packed.specs.Judge.{plainly, noRefusal, Check, Verdict, fine, refuse
 use Rattle.packed.specs.Packed.{countOf, orderOf}
 use Rattle.packed.specs.Refusals.{roomChecks, orderChecks}
 use Rattle.profiles.specs.Numbers.{writtenOver}
-use Rattle.cells.specs.Area.{area}
+use Rattle.area.specs.Area.{area}
 use Rattle.filling.specs.After.{workBy}
 use Rattle.planner.specs.declared.Figures.{Figures}
 use Rattle.planner.specs.declared.Planned.{Planned}
 use Rattle.planner.specs.declared.Planned.the-variants.{Refused, Made}
 
--- 1 to 7 and 9 of the order, then room for a start of each job, then room for the rows.
+-- 1 to 7 and 9 of the order, then room for a start of each job, then room for the work area.
 unfoldable pub planChecks : List ℕ → List ℤ → List ℤ → List Check
 planChecks bytes starts work =
     orderChecks bytes ++ roomChecks (countOf bytes) (length starts) ++ roomChecks area (length work)

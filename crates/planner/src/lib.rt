@@ -1,18 +1,17 @@
 // The call that plans: the plan of a packed order. Any bytes and buffers have an answer. Assumes nothing.
-use cells::AREA;
-use cells::Found;
-use cells::NEVER;
-use cells::ROW;
-use cells::clear;
-use cells::heaviest_by;
-use cells::start_row;
-use counting::point_total;
+use area::AREA;
+use area::clear;
 use fields::header_at;
-use filling::fill_rows;
+use filling::buffer;
+use filling::fill_lists;
+use filling::notes;
+use filling::start_at;
 use judge::Verdict;
 use judge::judge_order;
 use packed::Refusal;
 use packed::plainly;
+use reading::Found;
+use reading::last_by;
 use starting::kept_of;
 use starting::write_starts;
 use walking::walk;
@@ -20,7 +19,7 @@ ghost use mathlib.Core.Path.{_≡_};
 ghost use Rattle.packed.specs.Judge.{fine, judge};
 ghost use Rattle.packed.specs.Refusals.{orderChecks};
 ghost use Rattle.planner.specs.Calls.{PlanCall};
-ghost use Rattle.planner.specs.Planning.{CanPlan, PlannedIn, CanMake, MadeIn};
+ghost use Rattle.planner.specs.Planning.{CanPlan, CanPlanOver, CanMake, MadeIn};
 
 // A plan's numbers: the mask of the jobs kept, how many they are, the weight kept and the weight lost,
 // when the bus is free after it, and the points of the profiles on the way.
@@ -39,45 +38,95 @@ pub enum Planned {
     Made(Figures),
 }
 
-// The plan that ends at the heaviest cell of the last row, by its weight and time; its starts are written.
+// A time past every point's.
+const EVER: i32 = 200_000;
+
+// The plan that ends at the last point of the last list, by its weight and time; its starts are written. Of all jobs the
+// points and the weight are told.
 fn make_plan(
     bytes: &[u8],
     n: usize,
     t0: i32,
-    top: usize,
+    places: &[usize],
+    counts: &[usize],
+    points: usize,
+    total: usize,
     weight: usize,
     finish: i32,
     starts: &mut [i32],
     work: &[i32],
 ) -> Planned
-    requires { ⌜ CanMake (now bytes) n t0 top weight finish (now starts) (now work) ⌝ }
+    requires { ⌜ CanMake (now bytes) n t0 (now places) (now counts) points total weight finish (now starts) (now work) ⌝ }
     ensures { λ r. ⌜ MadeIn (now (bytes .entry)) (now (starts .entry)) r (now (starts .exit)) ⌝ }
 {
-    let mask = walk(work, bytes, n, top, weight, finish);
+    let mask = walk(work, bytes, n, places, counts, weight, finish);
     write_starts(bytes, n, t0, mask, starts);
-    let points = point_total(work, bytes, n);
     Planned::Made(Figures {
         mask: mask,
         kept: kept_of(mask),
         kept_weight: weight as u32,
-        lost_weight: (top - weight) as u32,
+        lost_weight: (total - weight) as u32,
         finish: finish,
         points: points as u32,
     })
 }
 
-// The plan by the rows of all jobs; where the last row has no cell there is none (refusal 11).
-fn plan_by_rows(bytes: &[u8], n: usize, t0: i32, starts: &mut [i32], work: &mut [i32]) -> Planned
-    requires { ⌜ CanPlan (now bytes) n t0 (now starts) (now work) ⌝ }
-    ensures { λ r. ⌜
-        PlannedIn (now (bytes .entry)) (now (starts .entry)) (now (work .entry)) r (now (starts .exit)) (now (work .exit)) ⌝ }
+// The plan by the lists of all jobs; where the last list has no point there is none (refusal 11).
+fn plan_by_lists(
+    bytes: &[u8],
+    n: usize,
+    t0: i32,
+    starts: &mut [i32],
+    work: &mut [i32],
+    places: &mut [usize],
+    counts: &mut [usize],
+    pushed: &mut [i32],
+) -> Planned
+    requires { ⌜ CanPlanOver (now bytes) n t0 (now starts) (now work) (now places) (now counts) (now pushed) ⌝ }
+    ensures { λ r. ⌜ MadeIn (now (bytes .entry)) (now (starts .entry)) r (now (starts .exit)) ⌝ }
 {
-    start_row(work, t0);
-    let top = fill_rows(work, bytes, n, 0);
-    match heaviest_by(work, n * ROW, top, NEVER) {
+    start_at(work, t0);
+    let totals = fill_lists(work, bytes, n, 1, places, counts, pushed);
+    let points = totals.points;
+    let total = totals.weight;
+    let place = places[n];
+    let count = counts[n];
+    match last_by(work, place, count, EVER) {
         Found::Nothing => Planned::Refused(plainly(11)),
-        Found::At(weight, finish) => make_plan(bytes, n, t0, top, weight, finish, starts, work),
+        Found::At(weight, finish) => make_plan(
+            bytes,
+            n,
+            t0,
+            places,
+            counts,
+            points,
+            total,
+            weight,
+            finish,
+            starts,
+            work,
+        ),
     }
+}
+
+// The same with notes for the lists and a buffer for the pushed one.
+fn plan_within(bytes: &[u8], n: usize, t0: i32, starts: &mut [i32], work: &mut [i32]) -> Planned
+    requires { ⌜ CanPlan (now bytes) n t0 (now starts) (now work) ⌝ }
+    ensures { λ r. ⌜ MadeIn (now (bytes .entry)) (now (starts .entry)) r (now (starts .exit)) ⌝ }
+{
+    let mut places = notes();
+    let mut counts = notes();
+    let mut pushed = buffer();
+    plan_by_lists(
+        bytes,
+        n,
+        t0,
+        starts,
+        work,
+        &mut places,
+        &mut counts,
+        &mut pushed,
+    )
 }
 
 // Planning an order that has passed its checks: the room is judged, and the work area is cleared behind.
@@ -95,7 +144,7 @@ pub fn plan_order(bytes: &[u8], starts: &mut [i32], work: &mut [i32]) -> Planned
     if work.len() < AREA {
         return Planned::Refused(plainly(10));
     }
-    let answer = plan_by_rows(bytes, n, t0, starts, work);
+    let answer = plan_within(bytes, n, t0, starts, &mut work[..AREA]);
     clear(work);
     answer
 }

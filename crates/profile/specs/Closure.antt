@@ -153,7 +153,7 @@ valid-betterOf P Q s t = valid-passes (betterOf P Q) (record {
 -- ---- the prefixes of an order
 
 -- The first k of jobs within the limits are within the limits.
-jobs-take : (k : ℕ) (js : List Job) → T (jobsWithin js) → T (jobsWithin (take k js))
+pub jobs-take : (k : ℕ) (js : List Job) → T (jobsWithin js) → T (jobsWithin (take k js))
 jobs-take k js t =
     let e = ap jobsWithin (sym (take-append-drop k js)) ∙ jobsWithin-append (take k js) (drop k js) in
     and-l (jobsWithin (take k js)) (jobsWithin (drop k js)) (subst T e t)

@@ -38,13 +38,6 @@ pub below-member : {p q : Point} {ps : List Point} → BelowAll p ps → List·M
 below-member (below-more h b) (List·Memᴰ·head e) = rw e h
 below-member (below-more h b) (List·Memᴰ·tail m) = below-member b m
 
--- The first point of a rising list is earlier and lighter than each later one, and these rise too.
-pub rising-first : {p q : Point} {ps : List Point} → Rising (p ∷ ps) → List·Memᴰ q ps → Below p q
-rising-first (rising-more b r) m = below-member b m
-
-pub rising-tail : {p : Point} {ps : List Point} → Rising (p ∷ ps) → Rising ps
-rising-tail (rising-more b r) = r
-
 -- One point rises.
 pub rising-one : (p : Point) → Rising (p ∷ [])
 rising-one p = rising-more below-none rising-none

@@ -22,7 +22,7 @@ const BEFORE_ALL: i32 = -100001;
 const BELOW_ALL: i32 = -1;
 
 // The last second that a point may have, and the greatest weight.
-const LATEST: i32 = 100000 + REST;
+pub const LATEST: i32 = 100000 + REST;
 
 const MOST_WEIGHT: i32 = 300;
 

@@ -21,7 +21,7 @@ use Rattle.packed.specs.PlacesLaws.{length-each}
 use Rattle.packed.specs.Refusals.{firstBad, firstRepeat, headerChecks, jobChecks, weightChecks, roomChecks, orderChecks}
 use Rattle.packed.specs.RefusalLaws.{header-fine, room-fine}
 use Rattle.packed.specs.Accepted.{order-fine, order-within}
-use Rattle.cells.specs.Work.{area}
+use Rattle.area.specs.Area.{area}
 use Rattle.planner.specs.Calls.{planChecks, planVerdict, plannedBy, startsBy, plannedOf, startsAfter}
 use Rattle.planner.specs.declared.Figures.{Figures}
 use Rattle.planner.specs.declared.Planned.the-variants.{Refused, Made}

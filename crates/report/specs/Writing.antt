@@ -11,7 +11,7 @@ use Rattle.packed.specs.declared.Refusal.{Refusal}
 use Rattle.packed.specs.Places.{each}
 use Rattle.packed.specs.Packed.{countOf, jobIn, orderOf}
 use Rattle.packed.specs.Accepted.{OrderFine}
-use Rattle.cells.specs.Work.{area}
+use Rattle.area.specs.Area.{area}
 use Rattle.planner.specs.Calls.{figuresOf}
 use Rattle.planner.specs.declared.Figures.{Figures}
 use Rattle.text.specs.Decimal.{space, digits}

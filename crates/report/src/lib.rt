@@ -1,6 +1,6 @@
 // The text that the program prints: the plan of the bytes that it read, or why there is none, written into
 // a lent buffer. Assumes nothing.
-use cells::AREA;
+use area::AREA;
 use fields::header_at;
 use fields::job_at;
 use packed::Refusal;

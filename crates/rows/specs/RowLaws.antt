@@ -1,6 +1,6 @@
 -- Laws of rows: what a row says is one thing, the row of a list of points says it, and if a row says some outcomes, the
 -- next row says those with one job more. So the row after some jobs says all their outcomes.
-use Prim.Native.Nat.{ℕ, _+_, _-_, _<_}
+use Prim.Native.Nat.{ℕ, _+_, _-_}
 use mathlib.Core.Path.{_≡_, refl, sym, ap, _∙_}
 use mathlib.Core.Bool.{Bool, true, false}
 use mathlib.Core.Logic.{_⊎_, inl, inr, ⊎-elim}
@@ -42,11 +42,6 @@ earlier-is (some a) (some b) u e = go (leZ a b) refl
     go : (t : Bool) → leZ a b ≡ t → (some a ≡ some u) ⊎ (some b ≡ some u)
     go true d = inl (rw d at e)
     go false d = inr (rw d at e)
-
--- Nothing is later than all.
-pub earlier-none : (a : Option ℤ) → earlier a none ≡ a
-earlier-none none = refl
-earlier-none (some a) = refl
 
 -- It comes by any time by which one of them comes.
 pub by-left : (a b : Option ℤ) (u : ℤ) → By a u → By (earlier a b) u
@@ -126,10 +121,6 @@ cell-by-light j x row v w e =
     let light : leb (gainOf j x) w ≡ true = omega signed in
     let back : w - gainOf j x ≡ v = omega signed in
     rw (light, back)
-
--- below the pick's weight there is none.
-pub cell-by-heavy : (j : Job) (x : ℕ) (row : Row) (w : ℕ) → w < gainOf j x → cellBy j x row w ≡ none
-cell-by-heavy j x row w h = let heavy : leb (gainOf j x) w ≡ false = omega signed in rw heavy
 
 -- So the pick moves a cell of the row there.
 cell-by-is : (j : Job) (x : ℕ) (row : Row) (r : Point) → Cell (cellBy j x row) r → (p : Point) × Cell row p × Moved j x p r

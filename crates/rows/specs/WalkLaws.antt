@@ -7,7 +7,7 @@ use mathlib.Core.Logic.{⊎-elim, _↔_}
 use mathlib.Core.List.{List, [], _∷_, _++_, reverse, reverse-cons, append-assoc, List·Memᴰ as In, List·Memᴰ·head as here}
 use mathlib.Core.List.{List·Memᴰ·not-nil as not-nil, List·Memᴰ·cases-cons as cases-cons}
 use mathlib.Core.List.{List·Memᴰ·eq-of-singleton as eq-of-singleton}
-use mathlib.Core.Option.{Option, none, some, Option·map, Option·some-injective}
+use mathlib.Core.Option.{Option, none, some, Option·some-injective}
 use native.Mathlib.Nat.{add-suc, pow-suc}
 use native.Mathlib.Omega.{arith}
 use lib.Dec.{leb}
@@ -24,7 +24,7 @@ use Rattle.plan.specs.Plan.{orThen, byLastPlace}
 use Rattle.plan.specs.Comparing.{orThen-lt, compare-lt, compare-total}
 use Rattle.rows.specs.Row.{Row, point, nextRow, rowBack, By, Says}
 use Rattle.rows.specs.RowLaws.{nothing-there, by-self, by-later, step-from, back-says}
-use Rattle.rows.specs.Walk.{inTime, sourceOf, Source, firstSource, onward, foldBack, walkBack, Bits, withPick}
+use Rattle.rows.specs.Walk.{inTime, sourceOf, Source, firstSource, foldBack, walkBack, Bits, withPick}
 
 -- ---- one job
 
@@ -296,25 +296,6 @@ pub fold-step {ℓ} : {A : Type ℓ} (add : ℕ → A → A) (j : Job) (before :
     → foldBack add (j ∷ before) row w by made ≡ foldBack add before row (w - gainOf j (s .pick)) (s .latest) (add (s .pick) made)
 fold-step add j before row w by made s f = rw f
 
--- What is made pick by pick is made of the choice that the walk gives.
-pub fold-is {ℓ} : {A : Type ℓ} (add : ℕ → A → A) (of : Choice → A) → ((x : ℕ) (c : Choice) → of (x ∷ c) ≡ add x (of c))
-    → (before : List Job) (row : Row) (w : ℕ) (by : ℤ) (after : Choice)
-    → foldBack add before row w by (of after) ≡ Option·map of (walkBack before row w by after)
-fold-is add of more [] row w by after = refl
-fold-is {A = A} add of more (j ∷ before) row w by after =
-    go
-    (firstSource j (picks j) (rowBack before row) w by)
-    (λ (s : Source). foldBack add before row (w - gainOf j (s .pick)) (s .latest) (add (s .pick) (of after)))
-    (λ (s : Source). walkBack before row (w - gainOf j (s .pick)) (s .latest) (s .pick ∷ after))
-    (λ (s : Source).
-    ap (foldBack add before row (w - gainOf j (s .pick)) (s .latest)) (sym (more (s .pick) after))
-    ∙ fold-is add of more before row (w - gainOf j (s .pick)) (s .latest) (s .pick ∷ after))
-  where
-    go : (o : Option Source) (made : Source → Option A) (walked : Source → Option Choice)
-        → ((s : Source) → made s ≡ Option·map of (walked s)) → onward o made ≡ Option·map of (onward o walked)
-    go none made walked same = refl
-    go (some s) made walked same = same s
-
 -- The bits of a choice, with k empty places below it.
 abbrev pub bitsOf : ℕ → Choice → Bits
 bitsOf k c = record { next = 2 ^ (k + length c); sum = maskOf (k + length c) c }
@@ -328,8 +309,3 @@ bits-more k x c =
 -- With as many empty places as there are to 64, the sum is the mask.
 pub bits-mask : (c : Choice) → length c ≤ 64 → bitsOf (64 - length c) c .sum ≡ mask c
 bits-mask c h = let n : 64 - length c + length c ≡ 64 = omega arith in ap (λ (k : ℕ). maskOf k c) n
-
--- So the walk adds up the mask, each job's bit worth twice that of the job after it.
-pub walk-bits : (k : ℕ) (before : List Job) (row : Row) (w : ℕ) (by : ℤ) (after : Choice)
-    → foldBack withPick before row w by (bitsOf k after) ≡ Option·map (bitsOf k) (walkBack before row w by after)
-walk-bits k before row w by after = fold-is withPick (bitsOf k) (bits-more k) before row w by after

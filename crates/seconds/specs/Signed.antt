@@ -11,7 +11,7 @@ use lib.Arith.{lt→nleb}
 use lib.Ieee.Bits.{is-true, is-false}
 use lib.IntN.{ℤ, pos, negsuc, _+ℤ_, _-ℤ_, negℤ, natAbs, subℕ}
 use lib.Signed.{leZ, ltZ, _≤ℤ_, _<ℤ_, mag, nonNeg}
-use mir.Syntax.{Width}
+use mir.Syntax.{Width, w32}
 use mir.Val.{SFits, hbits, toZ, ofZ}
 use mir.Facts.{toZ-ofZ}
 use borrow.Author.Tests.{ltb-true, ltb-false, leb-true, leb-false, lt-ltb, le-ltb, le-leb, lt-leb, eqb-true, eqb-false, eq-eqb, ne-eqb}
@@ -285,3 +285,7 @@ not-lt {x} {y} h = ⊎-elim (λ k. k) (λ k. absurd (h k)) (leZ-split y x)
 -- Numbers that fit and have the same bits are equal: what `==` in code tells.
 pub same-bits : {w : Width} {x y : ℤ} → SFits w x → SFits w y → ofZ w x ≡ ofZ w y → x ≡ y
 same-bits {w} f g e = sym (toZ-ofZ f) ∙ ap (toZ w) e ∙ toZ-ofZ g
+
+-- A number of 32 bits, as the code reads it back from its bits.
+pub read-back : (z : ℤ) → mag z < 2 ^ hbits w32 → toZ w32 (ofZ w32 z) ≡ z
+read-back z h = toZ-ofZ (record { sfits = h })

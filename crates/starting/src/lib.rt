@@ -1,5 +1,5 @@
 // From a mask to the plan: the starts of the jobs that the mask keeps, and the number of them. Assumes nothing.
-use cells::rested;
+use area::rested;
 use fields::Job;
 use fields::job_at;
 ghost use mathlib.Core.Path.{_≡_};

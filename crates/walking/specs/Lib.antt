@@ -1,4 +1,4 @@
--- From the filled rows to the plan's mask.
+-- The walk back over the lists in the work area.
 pub mod Trail
 pub mod Sources
 pub mod TrailLaws

@@ -1,35 +1,41 @@
 -- The laws of the trail: where it starts, that a step back keeps to it, and that at its end stands the mask of the walk.
 use Prim.Native.Nat.{ℕ, zero, suc, _+_, _*_, _-_, _^_, _≤_, _<_}
 use mathlib.Core.Path.{_≡_, refl, sym, ap, _∙_}
-use mathlib.Core.List.{List, [], _∷_, reverse, reverse-reverse, append-nil}
-use mathlib.Core.Option.{some, Option·map, Option·some-injective}
+use mathlib.Core.List.{List, [], _∷_, reverse, reverse-reverse}
+use mathlib.Core.List.{List·Memᴰ as In, List·Memᴰ·head as head, List·Memᴰ·tail as tail, List·Memᴰ·not-nil as not-nil}
+use mathlib.Core.Option.{Option, none, some, Option·map, Option·some-injective}
 use native.Mathlib.Nat.{pow-suc, add-zero}
 use native.Mathlib.Omega.{arith}
-use lib.IntN.{ℤ, natAbs}
-use lib.ListN.{length, take, drop, getElem?}
+use lib.IntN.{ℤ}
+use lib.ListN.{length, take, drop, getD, getElem?, length-reverse}
 use lib.Pow.{pow-pos, pow-mono}
 use lib.Seq.{take-all}
 use Rattle.seconds.specs.Ranges.{InFree}
-use Rattle.order.specs.Job.{Job, picks, weightOf}
-use Rattle.order.specs.Choice.{Choice, bitOf, maskOf, mask}
+use Rattle.order.specs.Job.{Job, Point, gainOf}
+use Rattle.order.specs.Choice.{Choice, bitOf, maskOf, mask, outcomes}
 use Rattle.order.specs.Within.{JobWithin}
-use Rattle.order.specs.Runs.{run-length}
+use Rattle.profile.specs.Profile.{extend, startPoint}
+use Rattle.profile.specs.Rising.{rising-one}
+use Rattle.profile.specs.Points.{profileOf-rises}
 use Rattle.packed.specs.Layout.{decode, numberOf, jobLayout}
 use Rattle.packed.specs.Packed.{countOf, t0Of, jobsIn}
-use Rattle.packed.specs.Accepted.{OrderFine}
 use Rattle.fields.specs.declared.Job.{Job as Numbers}
 use Rattle.fields.specs.Fields.{fieldsOf, asJob}
-use Rattle.fields.specs.Places.{place-below, back-more, weight-more, weight-up-to}
-use Rattle.fields.specs.Places.{jobs-count, job-there, job-fine, job-limits}
-use Rattle.cells.specs.Work.{rowSize, rowAt}
-use Rattle.profile.specs.Profile.{startPoint}
-use Rattle.rows.specs.Row.{Row, startRow, nextRow, rowAfter, rowBack, By}
-use Rattle.rows.specs.RowLaws.{earliest-says, back-is}
-use Rattle.rows.specs.Walk.{Source, firstSource, foldBack, walkBack, Bits, withPick}
-use Rattle.rows.specs.WalkLaws.{HasSource, source-found, fold-step, Walked, walk-first, walk-bits, bitsOf, bits-mask}
+use Rattle.fields.specs.Places.{place-below, back-more, jobs-count, job-there, job-fine, job-limits}
+use Rattle.rows.specs.RowLaws.{nothing-there}
+use Rattle.rows.specs.Walk.{Source, onward, Bits, withPick}
+use Rattle.rows.specs.WalkLaws.{bitsOf, bits-more, bits-mask}
+use Rattle.points.specs.Steps.{listAfter}
+use Rattle.points.specs.PrefixLaws.{Singles, list-is}
+use Rattle.points.specs.Walk.{sourceIn, foldLists, walkLists}
+use Rattle.points.specs.WalkLaws.{fold-lists-is}
+use Rattle.codes.specs.Code.{listAt}
+use Rattle.codes.specs.HeldLaws.{held-read}
+use Rattle.reading.specs.Reading.{Stands}
+use Rattle.filling.specs.ListsLaws.{jobs-single}
 use Rattle.walking.specs.declared.Trail.{Trail}
-use Rattle.walking.specs.Trail.{RowsFilled, StepsBack, trailBefore, stepBack, walkMask}
-use Rattle.walking.specs.Sources.{latest-in-range, job-written}
+use Rattle.walking.specs.Trail.{StepsBack, trailBefore, stepBack, Walks, walkMask}
+use Rattle.walking.specs.Sources.{source-in-range}
 
 -- The bits of a mask with so many empty places below, and the worth of the next one.
 abbrev bitsAt : ℕ → ℕ → Bits
@@ -45,49 +51,74 @@ one-bit-more : (x bit : ℕ) {m : ℕ} → m < bit → m + bitOf x * bit < bit *
 one-bit-more zero bit h = omega arith
 one-bit-more (suc x) bit h = omega arith
 
--- The trail after k jobs, of a walk from a weight and a time over all jobs: the row of the k jobs has the weight in time, and
--- the walk from here ends as the whole walk.
-pub record OnTrail (js : List Job) (t0 : ℤ) (weight : ℕ) (by : ℤ) (k : ℕ) (trail : Trail) : Type 0 where
+-- Where going on gives something, there was something to go on from.
+gone-on {ℓ ℓ′} : {A : Type ℓ} {B : Type ℓ′} (o : Option A) (further : A → Option B) {b : B} → onward o further ≡ some b
+    → (a : A) × (o ≡ some a)
+gone-on none further e = nothing-there e
+gone-on (some a) further e = (a, refl)
+
+-- The walk gives a pick for each job.
+walk-length : (before : List Job) (start : List Point) (w : ℕ) (by : ℤ) (after : Choice) {c : Choice}
+    → walkLists before start w by after ≡ some c → length c ≡ length before + length after
+walk-length [] start w by after {c} e = omega (arith, ap length (Option·some-injective after c e))
+walk-length (j ∷ before) start w by after {c} e =
+    go (sourceIn j (listAfter (reverse before) start) w by)
+    (λ (s : Source). walk-length before start (w - gainOf j (s .pick)) (s .latest) (s .pick ∷ after)) e
+  where
+    further : Source → Option Choice
+    further s = walkLists before start (w - gainOf j (s .pick)) (s .latest) (s .pick ∷ after)
+
+    go : (o : Option Source) → ((s : Source) → further s ≡ some c → length c ≡ length before + suc (length after))
+        → onward o further ≡ some c → length c ≡ suc (length before) + length after
+    go none more e = nothing-there e
+    go (some s) more e = omega (arith, more s e)
+
+-- The trail after k jobs, of a walk from a weight and a time over all jobs: the walk from here ends as the whole walk.
+pub record OnTrail (js : List Job) (P : List Point) (weight : ℕ) (by : ℤ) (k : ℕ) (trail : Trail) : Type 0 where
   pub few : k ≤ length js
-  pub reach : trail .top ≡ weightOf (take k js)
   pub fits : trail .mask < 2 ^ (64 - k)
   pub free : InFree (trail .by)
-  pub cell : By (rowBack (reverse (take k js)) (startRow t0) (trail .weight)) (trail .by)
-  pub same : foldBack withPick (reverse (take k js)) (startRow t0) (trail .weight) (trail .by) (bitsAt k (trail .mask))
-      ≡ foldBack withPick (reverse js) (startRow t0) weight by (bitsAt (length js) 0)
+  pub same : foldLists withPick (reverse (take k js)) P (trail .weight) (trail .by) (bitsAt k (trail .mask))
+      ≡ foldLists withPick (reverse js) P weight by (bitsAt (length js) 0)
 
-module _ (js : List Job) (t0 : ℤ) (few : length js ≤ 64) (weight : ℕ) (by : ℤ) where
-  abbrev On : ℕ → Trail → Type 0
-  On k trail = OnTrail js t0 weight by k trail
-
+module _ (js : List Job) (P : List Point) (weight : ℕ) (by : ℤ) where
   -- The trail starts after all jobs.
-  pub on-start : (top : ℕ) → top ≡ weightOf js → InFree by → By (rowAfter js (startRow t0) weight) by
-      → On (length js) (record { mask = 0; weight = weight; by = by; top = top })
-  on-start top reach free cell =
+  on-start : InFree by → OnTrail js P weight by (length js) (record { mask = 0; weight = weight; by = by })
+  on-start free =
       let all : take (length js) js ≡ js = take-all (length js) js (omega arith) in
-      record {
-        few = omega arith;
-        reach = rw all reach;
-        fits = pow-pos (64 - length js);
-        free = free;
-        cell = rw (all, back-is js (startRow t0)) cell;
-        same = rw all;
-      }
+      record { few = omega arith; fits = pow-pos (64 - length js); free = free; same = rw all }
 
-  -- ---- one job back
+  -- The bits are added up to those of the choice that the walk gives,
+  module _ (few : length js ≤ 64) (choice : Choice) (walked : walkLists (reverse js) P weight by [] ≡ some choice) where
+    abbrev empty : ℕ
+    empty = 64 - length js
 
-  module _ (k : ℕ) (j : Job) (there : getElem? js k ≡ some j) (trail : Trail) (on : On (suc k) trail) where
-    -- The row before the job, and the jobs before it, from the last to the first.
-    abbrev row : Row
-    row = rowAfter (take k js) (startRow t0)
+    begun : bitsAt (length js) 0 ≡ bitsOf empty []
+    begun = rw (add-zero empty, mask-none empty)
 
-    abbrev before : List Job
-    before = reverse (take k js)
+    bits-are : foldLists withPick (reverse js) P weight by (bitsAt (length js) 0) ≡ some (bitsOf empty choice)
+    bits-are =
+        ap (foldLists withPick (reverse js) P weight by) begun
+        ∙ fold-lists-is withPick (bitsOf empty) (bits-more empty) (reverse js) P weight by []
+        ∙ ap (Option·map (bitsOf empty)) walked
 
-    -- The row after the job has the weight in time.
-    pub on-cell : By (nextRow j row (trail .weight)) (trail .by)
-    on-cell = rw (back-is (take k js) (startRow t0)) at (rw (back-more js k there) at (on .cell))
+    long : length choice ≡ length js
+    long = omega (arith, walk-length (reverse js) P weight by [] walked, length-reverse js)
 
+    sum-is : bitsOf empty choice .sum ≡ mask choice
+    sum-is = ap (λ (n : ℕ). bitsOf (64 - n) choice .sum) (sym long) ∙ bits-mask choice (omega (arith, long))
+
+    -- and at the end of the trail stands their mask.
+    on-end : {trail : Trail} → OnTrail js P weight by 0 trail → trail .mask ≡ mask choice
+    on-end {trail} on =
+        let same = Option·some-injective (bitsAt 0 (trail .mask)) (bitsOf empty choice) (on .same ∙ bits-are) in
+        ap (λ (b : Bits). b .sum) same ∙ sum-is
+
+-- ---- one job back
+
+module _ {js : List Job} {P : List Point} {weight : ℕ} {by : ℤ} {k : ℕ} {j : Job} {trail : Trail} (few : length js ≤ 64)
+    (there : getElem? js k ≡ some j) (on : OnTrail js P weight by (suc k) trail)
+  where
     -- The worth of its bit, and of the next.
     bit-is : 64 - suc k ≡ 63 - k
     bit-is = omega arith
@@ -99,153 +130,151 @@ module _ (js : List Job) (t0 : ℤ) (few : length js ≤ 64) (weight : ℕ) (by 
         rw (e, pow-suc 2 (63 - k))
 
     -- The mask has room for it.
-    pub on-fits : trail .mask < 2 ^ (63 - k)
+    on-fits : trail .mask < 2 ^ (63 - k)
     on-fits = rw bit-is at (on .fits)
 
-    -- The trail before the job, by its source.
-    module _ (s : Source) (found : firstSource j (picks j) row (trail .weight) (trail .by) ≡ some s) where
-      abbrev next : Trail
-      next = trailBefore j (2 ^ (63 - k)) trail s
+    -- The list before the job is known.
+    module _ {list : List Point} (is : listAfter (take k js) P ≡ list) where
+      -- The jobs before it, from the last to the first, and the walk over them from a source.
+      abbrev before : List Job
+      before = reverse (take k js)
 
-      made-is : withPick (s .pick) (bitsAt (suc k) (trail .mask)) ≡ bitsAt k (next .mask)
-      made-is =
-          rw (bit-is, next-is)
-          (ap (λ (m : ℕ). record { next = 2 ^ (64 - k); sum = m }) (omega arith))
+      abbrev further : Source → Option Bits
+      further s =
+          foldLists withPick before P (trail .weight - gainOf j (s .pick)) (s .latest)
+          (withPick (s .pick) (bitsAt (suc k) (trail .mask)))
 
-      same-end : foldBack withPick before (startRow t0) (next .weight) (next .by) (bitsAt k (next .mask))
-          ≡ foldBack withPick (reverse js) (startRow t0) weight by (bitsAt (length js) 0)
-      same-end =
-          ap (foldBack withPick before (startRow t0) (next .weight) (next .by)) (sym made-is)
-          ∙ sym (fold-step withPick j before (startRow t0) (trail .weight) (trail .by) (bitsAt (suc k) (trail .mask)) s
-          (rw (back-is (take k js) (startRow t0)) found))
+      goes-on : onward (sourceIn j list (trail .weight) (trail .by)) further
+          ≡ foldLists withPick (reverse js) P weight by (bitsAt (length js) 0)
+      goes-on =
+          let asked : listAfter (reverse before) P ≡ list = rw (reverse-reverse (take k js)) is in
+          ap (λ (ps : List Point). onward (sourceIn j ps (trail .weight) (trail .by)) further) (sym asked)
           ∙ rw (back-more js k there) at (on .same)
 
-      on-before : JobWithin j → HasSource j (s .pick) row (trail .weight) (trail .by) (s .latest) → On k next
-      on-before within has =
-          record {
-            few = omega (arith, on .few);
-            reach = omega (arith, on .reach, weight-more js k there);
-            fits = rw (← next-is) (one-bit-more (s .pick) (2 ^ (63 - k)) on-fits);
-            free = latest-in-range j (s .pick) (trail .by) (s .latest) within (on .free) (has .last);
-            cell = rw (back-is (take k js) (startRow t0)) (has .cell);
-            same = same-end;
-          }
+      -- So where the whole walk gives a choice, a source is found,
+      on-found : {choice : Choice} → walkLists (reverse js) P weight by [] ≡ some choice
+          → (s : Source) × (sourceIn j list (trail .weight) (trail .by) ≡ some s)
+      on-found {choice} walked =
+          gone-on (sourceIn j list (trail .weight) (trail .by)) further (goes-on ∙ bits-are js P weight by few choice walked)
 
-    -- The step keeps to the trail.
-    pub on-step : JobWithin j → (r : Trail) → some r ≡ stepBack j (2 ^ (63 - k)) row trail → On k r
-    on-step within r is =
-        let f = source-found j row (trail .weight) (trail .by) on-cell in
-        let same : r ≡ trailBefore j (2 ^ (63 - k)) trail (f .0) = Option·some-injective r _ (is ∙ rw (f .1)) in
-        rw same (on-before (f .0) (f .1) within (f .2))
+      -- and the step by it keeps to the trail.
+      module _ (s : Source) (found : sourceIn j list (trail .weight) (trail .by) ≡ some s) where
+        abbrev next : Trail
+        next = trailBefore j (2 ^ (63 - k)) trail s
 
-  -- ---- the end
+        made-is : withPick (s .pick) (bitsAt (suc k) (trail .mask)) ≡ bitsAt k (next .mask)
+        made-is =
+            rw (bit-is, next-is)
+            (ap (λ (m : ℕ). record { next = 2 ^ (64 - k); sum = m }) (omega arith))
 
-  -- The choice that the walk gives has a pick for each job,
-  module _ (cell : By (rowAfter js (startRow t0) weight) by) where
-    walked : Walked (reverse js) (startRow t0) (startPoint t0) weight by []
-    walked =
-        walk-first (reverse js) (startPoint t0) (earliest-says (startPoint t0 ∷ [])) weight by []
-        (rw (back-is js (startRow t0)) cell)
+        on-before : JobWithin j → OnTrail js P weight by k next
+        on-before within =
+            record {
+              few = omega (arith, on .few);
+              fits = rw (← next-is) (one-bit-more (s .pick) (2 ^ (63 - k)) on-fits);
+              free = source-in-range j list (trail .weight) (trail .by) s found within (on .free);
+              same = ap (foldLists withPick before P (next .weight) (next .by)) (sym made-is) ∙ rw found at goes-on;
+            }
 
-    abbrev choice : Choice
-    choice = walked .choice
+        on-step : JobWithin j → (r : Trail) → some r ≡ stepBack j (2 ^ (63 - k)) list trail → OnTrail js P weight by k r
+        on-step within r given =
+            let same : r ≡ next = Option·some-injective r next (given ∙ rw found) in
+            rw same (on-before within)
 
-    given : walkBack (reverse js) (startRow t0) weight by [] ≡ some choice
-    given = walked .gives ∙ ap some (append-nil choice)
+-- ---- the jobs of bytes, with their lists in the work area
 
-    long : length choice ≡ length js
-    long = rw reverse-reverse at (run-length (reverse (reverse js)) choice (startPoint t0) (walked .first .ends .runs))
+-- One of the first k jobs is one of all.
+in-take : (k : ℕ) (js : List Job) {j : Job} → In j (take k js) → In j js
+in-take zero js m = absurd (not-nil m)
+in-take (suc k) [] m = m
+in-take (suc k) (i ∷ js) (head e) = head e
+in-take (suc k) (i ∷ js) (tail m) = tail (in-take k js m)
 
-    -- the bits are added up to those of that choice,
-    abbrev empty : ℕ
-    empty = 64 - length js
+-- The trail of a walk over the jobs of bytes.
+abbrev pub Trails : List ℕ → ℕ → ℤ → ℕ → Trail → Type 0
+Trails bytes weight by k trail = OnTrail (jobsIn bytes) (startPoint (t0Of bytes) ∷ []) weight by k trail
 
-    begun : bitsAt (length js) 0 ≡ bitsOf empty []
-    begun = rw (add-zero empty, mask-none empty)
+-- From there the code can step back over the job that it read, by the list that stands at a place, and keeps to the trail.
+pub record CanStep (work : List ℤ) (bytes : List ℕ) (place count weight : ℕ) (by : ℤ) (k : ℕ) (job : Numbers) (trail : Trail)
+    : Type 0 where
+  pub asks : StepsBack work place count (2 ^ (63 - k)) job trail
+  pub keeps : (r : Trail) → some r ≡ stepBack (asJob job) (2 ^ (63 - k)) (listAt work place count) trail
+      → Trails bytes weight by k r
 
-    bits-are : foldBack withPick (reverse js) (startRow t0) weight by (bitsAt (length js) 0) ≡ some (bitsOf empty choice)
-    bits-are =
-        ap (foldBack withPick (reverse js) (startRow t0) weight by) begun
-        ∙ walk-bits empty (reverse js) (startRow t0) weight by []
-        ∙ ap (Option·map (bitsOf empty)) given
+module _ {work : List ℤ} {bytes : List ℕ} {n : ℕ} {places counts : List ℕ} {weight : ℕ} {by : ℤ}
+    (w : Walks work bytes n places counts weight by)
+  where
+    abbrev js : List Job
+    js = jobsIn bytes
 
-    sum-is : bitsOf empty choice .sum ≡ mask choice
-    sum-is = ap (λ (n : ℕ). bitsOf (64 - n) choice .sum) (sym long) ∙ bits-mask choice (omega (arith, long))
+    abbrev P : List Point
+    P = startPoint (t0Of bytes) ∷ []
 
-    -- and at the end of the trail stands the mask of the walk.
-    pub on-end : (trail : Trail) → On 0 trail → some (trail .mask) ≡ walkMask t0 js weight by
-    on-end trail on =
-        let same = Option·some-injective (bitsAt 0 (trail .mask)) (bitsOf empty choice) (on .same ∙ bits-are) in
-        rw given (ap some (ap (λ (b : Bits). b .sum) same ∙ sum-is))
+    few-jobs : length js ≤ 64
+    few-jobs = omega (arith, jobs-count bytes, w .order .header .few)
 
--- ---- the jobs of bytes, with their rows in the work area
+    -- The trail starts after all jobs, and at its end stands the mask of the walk.
+    pub trail-start : Trails bytes weight by n (record { mask = 0; weight = weight; by = by })
+    trail-start =
+        let all : n ≡ length js = omega (arith, jobs-count bytes, w .count) in
+        rw all (on-start js P weight by (w .free))
 
--- From a trail of bytes the code can step back over the job that it read at a place, and keeps to the trail.
-pub record CanStep (work : List ℤ) (bytes : List ℕ) (weight : ℕ) (by : ℤ) (k : ℕ) (job : Numbers) (trail : Trail) : Type 0 where
-  pub asks : StepsBack work (k * rowSize) (2 ^ (63 - k)) job trail
-  pub keeps : (r : Trail)
-      → some r ≡ stepBack (asJob job) (2 ^ (63 - k)) (rowAt work (k * rowSize) (trail .top - natAbs (job .weight))) trail
-      → OnTrail (jobsIn bytes) (t0Of bytes) weight by k r
+    pub trail-end : {trail : Trail} → Trails bytes weight by 0 trail → some (trail .mask) ≡ walkMask (t0Of bytes) js weight by
+    trail-end on = ap some (on-end js P weight by few-jobs (w .choice) (w .walked) on) ∙ sym (ap (Option·map mask) (w .walked))
 
-module _ (work : List ℤ) (bytes : List ℕ) (fine : OrderFine bytes) (filled : RowsFilled (jobsIn bytes) (t0Of bytes) work)
-    (weight : ℕ) (by : ℤ) where
-  abbrev js : List Job
-  js = jobsIn bytes
-
-  abbrev t0 : ℤ
-  t0 = t0Of bytes
-
-  few-jobs : length js ≤ 64
-  few-jobs = omega (arith, jobs-count bytes, fine .header .few)
-
-  -- The trail, and the job that was read at the next place.
-  module _ (k : ℕ) (trail : Trail) (on : OnTrail js t0 weight by (suc k) trail) (numbers : Numbers)
-      (read : fieldsOf numbers ≡ decode jobLayout (numberOf (take 8 (drop (4 + 8 * k) bytes)))) where
-    below : k < countOf bytes
-    below = omega (arith, jobs-count bytes, on .few)
-
-    there : getElem? js k ≡ some (asJob numbers)
-    there = job-there bytes k below numbers read
-
-    -- The row before the job stands in the work area.
-    abbrev stands : Row
-    stands = rowAt work (k * rowSize) (trail .top - natAbs (numbers .weight))
-
-    reach-is : trail .top ≡ weightOf (take k js) + natAbs (numbers .weight)
-    reach-is = rw (job-written numbers) at (on .reach ∙ weight-more js k there)
-
-    row-is : stands ≡ rowAfter (take k js) (startRow t0)
-    row-is =
-        let top : trail .top - natAbs (numbers .weight) ≡ weightOf (take k js) = omega (arith, reach-is) in
-        rw top (λ i w. filled .rows k (omega (arith, on .few)) w i)
-
-    cell-there : By (nextRow (asJob numbers) stands (trail .weight)) (trail .by)
-    cell-there = rw row-is (on-cell js t0 few-jobs weight by k (asJob numbers) there trail on)
-
-    bit-fits : trail .mask + 2 ^ (63 - k) < 2 ^ 64
-    bit-fits =
-        omega (
-          arith,
-          on-fits js t0 few-jobs weight by k (asJob numbers) there trail on,
-          pow-mono {i = 63 - k} {j = 63} (omega arith),
-        )
-
-    -- So the code can step back.
-    pub can-step : CanStep work bytes weight by k numbers trail
-    can-step =
-        record {
-          asks =
-              record {
-                within = job-fine bytes k below numbers read fine;
-                room = omega (arith, filled .room, below, fine .header .few);
-                light = omega (arith, on .reach, weight-up-to js (suc k), fine .light);
-                reach = omega (arith, reach-is);
-                fits = bit-fits;
-                free = on .free;
-                cell = cell-there;
-              };
-          keeps = λ r is. on-step js t0 few-jobs weight by k (asJob numbers) there trail on limits r (rw row-is at is);
-        }
+    -- The trail, and the job that was read at the next place.
+    module _ (k : ℕ) (trail : Trail) (on : Trails bytes weight by (suc k) trail) (numbers : Numbers)
+        (read : fieldsOf numbers ≡ decode jobLayout (numberOf (take 8 (drop (4 + 8 * k) bytes))))
       where
-        limits : JobWithin (asJob numbers)
-        limits = job-limits bytes k below numbers read fine
+        below : k < countOf bytes
+        below = omega (arith, jobs-count bytes, on .few)
+
+        there : getElem? js k ≡ some (asJob numbers)
+        there = job-there bytes k below numbers read
+
+        -- The list before the job stands in the work area.
+        abbrev place : ℕ
+        place = getD places k 0
+
+        abbrev count : ℕ
+        count = getD counts k 0
+
+        within : k ≤ n
+        within = omega (arith, below, w .count)
+
+        list-there : listAt work place count ≡ extend P (take k js)
+        list-there = rw (w .lists .counted k within) (held-read (w .lists .held k within))
+
+        stands : Stands work place count
+        stands =
+            record {
+              held = rw list-there (w .lists .held k within);
+              rises = rw list-there (profileOf-rises (outcomes (take k js) P));
+              room = omega (arith, w .lists .ends k within, w .room);
+            }
+
+        -- It is the list that the walk asks.
+        list-asked : listAfter (take k js) P ≡ listAt work place count
+        list-asked =
+            let one : Singles (take k js) = λ j m. jobs-single bytes (w .order) j (in-take k js m) in
+            list-is (take k js) one (rising-one (startPoint (t0Of bytes))) ∙ sym list-there
+
+        bit-fits : trail .mask + 2 ^ (63 - k) < 2 ^ 64
+        bit-fits = omega (arith, on-fits few-jobs there on, pow-mono {i = 63 - k} {j = 63} (omega arith))
+
+        -- So the code can step back.
+        pub can-step : CanStep work bytes place count weight by k numbers trail
+        can-step =
+            let f = on-found few-jobs there on list-asked (w .walked) in
+            record {
+              asks =
+                  record {
+                    within = job-fine bytes k below numbers read (w .order);
+                    list = stands;
+                    fits = bit-fits;
+                    free = on .free;
+                    source = f .0;
+                    found = f .1;
+                  };
+              keeps = on-step few-jobs there on list-asked (f .0) (f .1) (job-limits bytes k below numbers read (w .order));
+            }

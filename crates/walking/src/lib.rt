@@ -1,29 +1,27 @@
-// From the filled rows to the plan: the walk back from the last job to the first, which gives the mask
-// of the jobs kept. Assumes nothing.
-use cells::NEVER;
-use cells::ROW;
-use cells::rested;
+// From the lists of all prefixes to the plan: the walk back from the last job to the first, which gives the mask of the jobs
+// kept. Assumes nothing.
+use area::rested;
 use fields::Job;
 use fields::job_at;
+use reading::Found;
+use reading::last_by;
 ghost use mathlib.Core.Path.{_≡_};
 ghost use mathlib.Core.Option.{some};
-ghost use Prim.Native.Nat.{_+_, _-_, _^_, _<_};
-ghost use lib.IntN.{natAbs};
-ghost use lib.ListN.{length};
+ghost use Prim.Native.Nat.{_-_, _^_, _<_};
 ghost use Rattle.seconds.specs.Limits.{mostJobs};
 ghost use Rattle.seconds.specs.Ranges.{minZ};
 ghost use Rattle.packed.specs.Packed.{t0Of, jobsIn};
 ghost use Rattle.fields.specs.Fields.{asJob};
-ghost use Rattle.cells.specs.Work.{seen, rowAt, leaves};
-ghost use Rattle.walking.specs.Trail.{Timely, lastStartOf, StepsBack, stepBack, Walks, walkMask};
+ghost use Rattle.codes.specs.Code.{listAt};
+ghost use Rattle.reading.specs.Reading.{Stands};
+ghost use Rattle.walking.specs.Trail.{leavesOut, Timely, lastStartOf, StepsBack, stepBack, Walks, walkMask};
 
-// Where the walk back stands: the mask of the jobs kept so far, the weight that the jobs before have to
-// keep, the time by which they have to leave the bus free, and the greatest weight they can keep.
+// Where the walk back stands: the mask of the jobs kept so far, the weight that the jobs before have to keep, and the time by
+// which they have to leave the bus free.
 struct Trail {
     mask: u64,
     weight: usize,
     by: i32,
-    top: usize,
 }
 
 // The lesser of two times.
@@ -41,22 +39,23 @@ fn bit_at(place: usize) -> u64
     1u64 << (63 - place)
 }
 
-// The cell of leaving a job out: that of the row before it, none where the job is critical.
-fn left_out(work: &[i32], row: usize, top: usize, critical: bool, weight: usize) -> i32
-    requires { ⌜ row + top < length (now work) ⌝ }
-    ensures { λ r. ⌜ seen r ≡ leaves critical (rowAt (now (work .entry)) row top weight) ⌝ }
+// Whether a job is left out: it is not critical, and the list before it gives exactly the weight by the time. No greater weight
+// can be there: it would make a heavier plan.
+fn leaves(work: &[i32], place: usize, count: usize, critical: bool, weight: usize, by: i32) -> bool
+    requires { ⌜ Stands (now work) place count ⌝ }
+    ensures { λ r. ⌜ r ≡ leavesOut critical (listAt (now (work .entry)) place count) weight by ⌝ }
 {
     if critical {
-        return NEVER;
+        return false;
     }
-    if weight > top {
-        return NEVER;
+    match last_by(work, place, count, by) {
+        Found::Nothing => false,
+        Found::At(found, _) => found == weight,
     }
-    work[row + weight]
 }
 
-// The last start of a job that leaves the bus free by a time: it ends by its deadline, and a rest before
-// that time. What is rested after an end at 0 is the rest itself.
+// The last start of a job that leaves the bus free by a time: it ends by its deadline, and a rest before that time. What is
+// rested after an end at 0 is the rest itself.
 fn last_start(long: i32, deadline: i32, by: i32) -> i32
     requires { ⌜ Timely long deadline by ⌝ }
     ensures { λ r. ⌜ r ≡ lastStartOf long deadline by ⌝ }
@@ -65,49 +64,49 @@ fn last_start(long: i32, deadline: i32, by: i32) -> i32
     lesser(deadline, end) - long
 }
 
-// One job back: it is left out where the jobs before it can keep the weight in time, else it is kept.
-fn step_back(work: &[i32], row: usize, bit: u64, job: Job, trail: Trail) -> Trail
-    requires { ⌜ StepsBack (now work) row bit job trail ⌝ }
-    ensures { λ r. ⌜ some r
-        ≡ stepBack (asJob job) bit (rowAt (now (work .entry)) row (trail .top - natAbs (job .weight))) trail ⌝ }
+// One job back: it is left out where the list before it gives the weight in time, else it is kept.
+fn step_back(work: &[i32], place: usize, count: usize, bit: u64, job: Job, trail: Trail) -> Trail
+    requires { ⌜ StepsBack (now work) place count bit job trail ⌝ }
+    ensures { λ r. ⌜ some r ≡ stepBack (asJob job) bit (listAt (now (work .entry)) place count) trail ⌝ }
 {
-    let gain = job.weight as usize;
-    let top = trail.top - gain;
     let by = trail.by;
-    let cell = left_out(work, row, top, job.critical == 1, trail.weight);
-    if cell <= by {
-        return Trail {
-            mask: trail.mask,
-            weight: trail.weight,
-            by: by,
-            top: top,
-        };
+    if leaves(work, place, count, job.critical == 1, trail.weight, by) {
+        return trail;
     }
+    let gain = job.weight as usize;
     let last = last_start(job.length, job.deadline, by);
     Trail {
         mask: trail.mask + bit,
         weight: trail.weight - gain,
         by: last,
-        top: top,
     }
 }
 
 // The mask of the choice that keeps a weight with the bus free by a time, from the last job to the first.
-pub fn walk(work: &[i32], bytes: &[u8], n: usize, top: usize, weight: usize, by: i32) -> u64
-    requires { ⌜ Walks (now work) (now bytes) n top weight by ⌝ }
+pub fn walk(
+    work: &[i32],
+    bytes: &[u8],
+    n: usize,
+    places: &[usize],
+    counts: &[usize],
+    weight: usize,
+    by: i32,
+) -> u64
+    requires { ⌜ Walks (now work) (now bytes) n (now places) (now counts) weight by ⌝ }
     ensures { λ r. ⌜ some r ≡ walkMask (t0Of (now (bytes .entry))) (jobsIn (now (bytes .entry))) weight by ⌝ }
 {
     let mut trail = Trail {
         mask: 0,
         weight: weight,
         by: by,
-        top: top,
     };
     let mut k = n;
     while k > 0 {
         k -= 1;
         let job = job_at(bytes, 4 + 8 * k);
-        trail = step_back(work, k * ROW, bit_at(k), job, trail);
+        let place = places[k];
+        let count = counts[k];
+        trail = step_back(work, place, count, bit_at(k), job, trail);
     }
     trail.mask
 }

@@ -11,7 +11,7 @@ use Rattle.packed.specs.Layout.{widths, headerLayout, jobLayout, headerBytes, j
 use Rattle.packed.specs.Judge.{Check}
 use Rattle.packed.specs.Refusals.{headerChecks, listChecks, jobChecks, weightChecks, halvesChecks, unpackChecks, packChecks}
 use Rattle.profiles.specs.Numbers.{mostNumbers}
-use Rattle.cells.specs.Area.{rowSize, area}
+use Rattle.area.specs.Area.{rowSize, area}
 use Rattle.reader.specs.Reading.{stepChecks}
 use Rattle.extending.specs.Calls.{extendJudged, extendChecks}
 use Rattle.planner.specs.Calls.{planChecks}

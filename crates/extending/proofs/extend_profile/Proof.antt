@@ -7,7 +7,7 @@ use denote.Ref.{now}
 use borrow.Author.Needs.{needs}
 use borrow.Author.Tests.{not-true, not-false}
 use Rattle.profiles.specs.Numbers.{holdsProfile}
-use Rattle.filling.specs.FirstRowLaws.{last-light}
+use Rattle.filling.specs.BeginLaws.{last-light}
 use Rattle.extending.specs.CallLaws.{extend-passed, extend-not-valid, extend-too-heavy}
 use Rattle.extending.proofs.extend_profile.Statement.{statement}
 use Rattle.extending.proofs.extend_profile.Tie as tie

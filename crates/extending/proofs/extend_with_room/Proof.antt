@@ -1,7 +1,13 @@
--- `extending::extend_with_room` meets its contract: the tests judge the room, `extend_by_rows` extends, and `clear` clears
--- behind it. Assumes nothing.
+-- `extending::extend_with_room` meets its contract: the tests judge the room, `extend_by_lists` extends in the part lent, and
+-- `clear` clears behind it. Assumes nothing.
+use mathlib.Core.Path.{_≡_}
+use mathlib.Core.List.{_++_}
+use native.Mathlib.Omega.{arith}
+use lib.ListN.{length, take, drop}
+use lib.Seq.{length-take-le, drop-at}
 use denote.Ref.{now}
 use borrow.Author.Needs.{needs}
+use Rattle.area.specs.Area.{area}
 use Rattle.extending.specs.CallLaws.{extend-no-room, extend-no-space, extend-done}
 use Rattle.extending.proofs.extend_with_room.Statement.{statement}
 use Rattle.extending.proofs.extend_with_room.Tie as tie
@@ -27,10 +33,20 @@ returns-2 c =
     (extend-no-space (now (s .args .profile)) (now (s .args .bytes)) (now (s .args .out)) (now (s .args .work)) (s .pre)
     (t .before .if1 .left) (t .if2 .taken))
 
-extend-by-rows-requires : tie.Need-extend-by-rows-requires
-extend-by-rows-requires c κs =
+slice-relend-prefix-extend-by-lists : tie.Need-slice-relend-prefix-extend-by-lists
+slice-relend-prefix-extend-by-lists c = search needs
+
+-- The part lent is as long as the area.
+lent : (c : tie.Else2) → length (take area (now (c .before .before .before .args .work))) ≡ area
+lent c = length-take-le area (now (c .before .before .before .args .work)) (c .if2 .left)
+
+slice-aggregate-extend-by-lists : tie.Need-slice-aggregate-extend-by-lists
+slice-aggregate-extend-by-lists c = omega (arith, lent (c .before .before))
+
+extend-by-lists-requires : tie.Need-extend-by-lists-requires
+extend-by-lists-requires c κs =
     let d = c .before .before in
-    record { accepted = d .before .before .before .pre; places = d .before .if1 .left; room = d .if2 .left }
+    record { accepted = d .before .before .before .pre; places = d .before .if1 .left; room = omega (arith, lent d) }
 
 clear-requires : tie.Need-clear-requires
 clear-requires c κs = search needs
@@ -46,8 +62,12 @@ returns-3 c =
     let x = c .before .before .before .before .before in
     let d = x .before .before .before in
     let s = d .before .before .before in
+    let part = x .extend-by-lists .last .1 .1 .1 .0 in
+    let long : length part ≡ area = omega (arith, lent d) in
+    let rest = drop area (now (s .args .work)) in
     extend-done (now (s .args .profile)) (now (s .args .bytes)) (now (s .args .out)) (now (s .args .work)) (s .pre)
-    (d .before .if1 .left) (d .if2 .left) (x .extend-by-rows .ensures) (c .before .clear .ensures)
+    (d .before .if1 .left) (part ++ rest) (d .if2 .left) (x .extend-by-lists .ensures) (drop-at part rest area long)
+    (c .before .clear .ensures)
 
 pub extend-with-room-spec : {M : Type 1} → statement M
 extend-with-room-spec =
@@ -57,7 +77,9 @@ extend-with-room-spec =
     returns
     plainly-requires-2
     returns-2
-    extend-by-rows-requires
+    slice-relend-prefix-extend-by-lists
+    slice-aggregate-extend-by-lists
+    extend-by-lists-requires
     clear-requires
     same-length
     same-length-2

@@ -1,13 +1,16 @@
--- `openings::weigh` meets its contract: the rows of all jobs are filled behind the first, and the last is searched.
+-- `openings::weigh` meets its contract: the lists of all jobs are filled behind the first, and the last is searched.
 -- Assumes nothing.
-use native.Mathlib.Omega.{arith}
+use Prim.Native.Nat.{_≤_}
+use mathlib.Core.List.{[], _∷_}
+use lib.ListN.{length}
 use denote.Ref.{now}
 use mir.Facts.{toZ-ofZ}
 use borrow.Author.Needs.{needs}
-use Rattle.rows.specs.Row.{startRow}
+use Rattle.profile.specs.Profile.{startPoint}
 use Rattle.fields.specs.Facts.{HeaderRead, header-read}
-use Rattle.cells.specs.Work.{RowWritten}
-use Rattle.openings.specs.WeighingLaws.{header-there, t0-kept, can-start, few-jobs, can-fill, row-there, weighed}
+use Rattle.area.specs.Area.{area}
+use Rattle.codes.specs.Held.{Held}
+use Rattle.openings.specs.WeighingLaws.{header-there, t0-kept, can-start, can-fill, weighed}
 use Rattle.openings.proofs.weigh.Statement.{statement}
 use Rattle.openings.proofs.weigh.Tie as tie
 
@@ -18,35 +21,30 @@ header-at-requires c κs = header-there (c .before .pre)
 read : (c : tie.After-header-at) → HeaderRead (now (c .before .before .args .bytes)) (c .header-at .result)
 read c = header-read (now (c .before .before .args .bytes)) (c .header-at .result) (c .header-at .ensures)
 
-start-row-requires : tie.Need-start-row-requires
-start-row-requires c κs =
+start-at-requires : tie.Need-start-at-requires
+start-at-requires c κs =
     let h = c .before .before in
     rw (t0-kept (h .before .before .pre) (read h)) (can-start (h .before .before .pre) (read h))
 
--- The first row that was started.
-started : (c : tie.After-start-row) → let h = c .before .before .before in
-    RowWritten (startRow (h .header-at .result .t0)) 0 0 (now (h .before .before .args .work)) (c .start-row .last .0)
+-- The first list that was started.
+started : (c : tie.After-start-at) → let h = c .before .before .before in
+    Held (c .start-at .last .0) 0 (startPoint (h .header-at .result .t0) ∷ [])
 started c =
     let h = c .before .before .before in
-    rw (t0-kept (h .before .before .pre) (read h)) at (c .start-row .ensures)
+    rw (t0-kept (h .before .before .pre) (read h)) at (c .start-at .ensures)
 
-fill-rows-requires : tie.Need-fill-rows-requires
-fill-rows-requires c κs =
+-- The work area is as long as it was.
+room : (c : tie.After-start-at) → area ≤ length (c .start-at .last .0)
+room c = search needs
+
+fill-last-requires : tie.Need-fill-last-requires
+fill-last-requires c κs =
     let s = c .before .before in
     let h = s .before .before .before in
-    can-fill (h .before .before .pre) (read h) (started s)
+    can-fill (h .before .before .pre) (read h) (started s) (room s)
 
-mul-heaviest-by : tie.Need-mul-heaviest-by
-mul-heaviest-by c =
-    let h = c .before .before .before .before .before .before .before .before in
-    omega (arith, few-jobs (h .before .before .pre) (read h))
-
-heaviest-by-requires : tie.Need-heaviest-by-requires
-heaviest-by-requires c κs =
-    let f = c .before .before in
-    let s = f .before .before .before in
-    let h = s .before .before .before in
-    row-there (h .before .before .pre) (read h) (started s) (f .fill-rows .ensures)
+last-by-requires : tie.Need-last-by-requires
+last-by-requires c κs = search needs
 
 same-length : tie.Need-same-length
 same-length c = search needs
@@ -57,16 +55,15 @@ returns c =
     let s = f .before .before .before in
     let h = s .before .before .before in
     let a = h .before .before in
-    weighed (a .pre) (read h) (started s) (f .fill-rows .ensures) (toZ-ofZ (a .fits .t)) (c .heaviest-by .ensures)
+    weighed (a .pre) (read h) (started s) (room s) (f .fill-last .ensures) (toZ-ofZ (a .fits .t)) (c .last-by .ensures)
 
 pub weigh-spec : {M : Type 1} → statement M
 weigh-spec =
     tie.close
     (tie.spec
     header-at-requires
-    start-row-requires
-    fill-rows-requires
-    mul-heaviest-by
-    heaviest-by-requires
+    start-at-requires
+    fill-last-requires
+    last-by-requires
     same-length
     returns)

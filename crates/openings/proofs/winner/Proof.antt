@@ -1,4 +1,4 @@
--- `openings::winner` meets its contract: an opening with no cell loses to one that has one, and of two cells the heavier wins.
+-- `openings::winner` meets its contract: an opening with no point loses to one that has one, and of two points the heavier wins.
 -- Assumes nothing.
 use borrow.Author.Needs.{needs}
 use Rattle.openings.specs.ChoosingLaws.{first-wins, second-wins}

@@ -1,7 +1,11 @@
--- `planner::plan_order` meets its contract: the tests judge the room, `plan_by_rows` plans, and `clear` clears behind it.
+-- `planner::plan_order` meets its contract: the tests judge the room, `plan_within` plans in the part lent, and `clear` clears
+-- behind it.
 -- Assumes nothing.
-use mathlib.Core.Path.{_∙_}
+use mathlib.Core.Path.{_≡_, _∙_}
+use mathlib.Core.List.{_++_}
 use native.Mathlib.Omega.{arith}
+use lib.ListN.{length, take, drop}
+use lib.Seq.{length-take-le, drop-at}
 use denote.Ref.{now}
 use mir.Syntax.{w32}
 use mir.Val.{SFits}
@@ -10,6 +14,7 @@ use borrow.Author.Needs.{needs}
 use Rattle.seconds.specs.RangesLaws.{time-fits}
 use Rattle.packed.specs.Accepted.{order-fine}
 use Rattle.fields.specs.Facts.{HeaderRead, header-read}
+use Rattle.area.specs.Area.{area}
 use Rattle.planner.specs.CallLaws.{plan-no-room, plan-no-space, plan-done}
 use Rattle.planner.proofs.plan_order.Statement.{statement}
 use Rattle.planner.proofs.plan_order.Tie as tie
@@ -45,8 +50,18 @@ returns-2 c =
     (plan-no-space (now (s .args .bytes)) (now (s .args .starts)) (now (s .args .work)) (s .pre)
     (omega (arith, t .before .if1 .left, read h .count)) (t .if2 .taken))
 
-plan-by-rows-requires : tie.Need-plan-by-rows-requires
-plan-by-rows-requires c κs =
+slice-relend-prefix-plan-within : tie.Need-slice-relend-prefix-plan-within
+slice-relend-prefix-plan-within c = search needs
+
+-- The part lent is as long as the area.
+lent : (c : tie.Else2) → length (take area (now (c .before .before .before .before .before .args .work))) ≡ area
+lent c = length-take-le area (now (c .before .before .before .before .before .args .work)) (c .if2 .left)
+
+slice-aggregate-plan-within : tie.Need-slice-aggregate-plan-within
+slice-aggregate-plan-within c = omega (arith, lent (c .before .before))
+
+plan-within-requires : tie.Need-plan-within-requires
+plan-within-requires c κs =
     let d = c .before .before in
     let h = d .before .before .before in
     let s = h .before .before in
@@ -57,7 +72,7 @@ plan-by-rows-requires c κs =
       count = read h .count;
       begins = toZ-ofZ time ∙ read h .t0;
       places = d .before .if1 .left;
-      room = d .if2 .left;
+      room = omega (arith, lent d);
     }
 
 clear-requires : tie.Need-clear-requires
@@ -75,8 +90,12 @@ returns-3 c =
     let d = p .before .before .before in
     let h = d .before .before .before in
     let s = h .before .before in
+    let part = p .plan-within .last .1 .1 .1 .1 .0 in
+    let long : length part ≡ area = omega (arith, lent d) in
+    let rest = drop area (now (s .args .work)) in
     plan-done (now (s .args .bytes)) (now (s .args .starts)) (now (s .args .work)) (s .pre)
-    (omega (arith, d .before .if1 .left, read h .count)) (d .if2 .left) (p .plan-by-rows .ensures) (c .before .clear .ensures)
+    (omega (arith, d .before .if1 .left, read h .count)) (part ++ rest) (d .if2 .left) (p .plan-within .ensures)
+    (drop-at part rest area long) (c .before .clear .ensures)
 
 pub plan-order-spec : {M : Type 1} → statement M
 plan-order-spec =
@@ -87,7 +106,9 @@ plan-order-spec =
     returns
     plainly-requires-2
     returns-2
-    plan-by-rows-requires
+    slice-relend-prefix-plan-within
+    slice-aggregate-plan-within
+    plan-within-requires
     clear-requires
     same-length
     same-length-2

@@ -11,7 +11,7 @@ use lib.Signed.{nonNeg}
 use mir.Syntax.{w32}
 use mir.Val.{Fits, toZ, ofZ}
 use Rattle.packed.specs.Packed.{countOf, jobIn}
-use Rattle.cells.specs.CellLaws.{read-back}
+use Rattle.seconds.specs.Signed.{read-back}
 use Rattle.text.specs.Buffer.{Wrote}
 use Rattle.text.specs.BufferLaws.{wrote-none, wrote-more}
 use Rattle.report.specs.Report.{jobLine}

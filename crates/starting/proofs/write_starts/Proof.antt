@@ -10,7 +10,7 @@ use mir.Val.{toZ, ofZ}
 use mir.Facts.{toZ-ofZ}
 use Rattle.packed.specs.Packed.{jobsIn}
 use Rattle.fields.specs.Places.{jobs-count}
-use Rattle.cells.specs.CellLaws.{read-back}
+use Rattle.seconds.specs.Signed.{read-back}
 use Rattle.starting.specs.PicksLaws.{left-fits}
 use Rattle.starting.specs.StartsLaws.{Writing, writing-none, writing-all, CanTurn, can-turn}
 use Rattle.starting.proofs.write_starts.Statement.{statement}

@@ -1,0 +1,3 @@
+-- The lent work area: its length, and its clearing.
+pub mod Area
+pub mod Clearing

@@ -1,0 +1,224 @@
+-- Joining two lists of points: the front of the first is copied, the rest merged with the second, and behind the part in use
+-- stands the better of both.
+use Prim.Native.Nat.{ℕ, zero, suc, _+_, _-_, _≤_, _<_}
+use mathlib.Core.Path.{_≡_, sym, ap, _∙_}
+use mathlib.Core.Bool.{true, false}
+use mathlib.Core.List.{List, [], _∷_, _++_, map, List·Memᴰ as In, Memᴰ·append-right, List·Memᴰ·append-cases as in-either}
+use mathlib.Core.Logic.{⊎-elim}
+use native.Mathlib.Omega.{arith}
+use borrow.Author.Tests.{lt-ltb, le-ltb}
+use lib.Dec.{ltb}
+use lib.IntN.{ℤ, pos}
+use lib.ListN.{length, set, length-set, length-append, length-map}
+use lib.Seq.{getD-set-same, getD-set-other}
+use lib.Signed.{leZ, _≤ℤ_}
+use Rattle.seconds.specs.Limits.{mostWeight}
+use Rattle.seconds.specs.Signed.{signed, up, dn}
+use Rattle.order.specs.Job.{Point}
+use Rattle.profile.specs.Profile.{betterOf}
+use Rattle.profile.specs.Rising.{Rising}
+use Rattle.profile.specs.Closure.{PointWithin, rising-short}
+use Rattle.profile.specs.Points.{profileOf-member}
+use Rattle.profiles.specs.OnePass.{belowAll}
+use Rattle.better.specs.InTurn.{firstGoes}
+use Rattle.better.specs.Heavier.{merge, merge-better}
+use Rattle.codes.specs.Code.{code, pointOf, at0, listAt, lightness, pastAll}
+use Rattle.codes.specs.CodeLaws.{light-is, code-least, code-most, code-order}
+use Rattle.codes.specs.Held.{Held, held-none, held-more, After}
+use Rattle.codes.specs.HeldLaws.{held-stays, list-length, held-within, held-append, held-copied, held-point}
+use Rattle.codes.specs.Cuts.{Cut, cut}
+use Rattle.merging.specs.Turns.{leastLight, Ended, CanMerge, merged, Merged}
+use Rattle.merging.specs.TurnPoints.{merged-are, held-codes}
+use Rattle.merging.specs.Fronts.{rising-front, rising-back, lastAfter, last-light, last-few, front-kept}
+use Rattle.merging.specs.Joins.{Copied, CanWeigh, lightBefore, CanJoin, Joined}
+
+-- ---- numbers that are points'
+
+-- With a number past all behind it a list can be merged.
+held-ended : {l : List ℤ} {i e : ℕ} {ps : List Point} → Held l i ps → i + length ps ≡ e → at0 l e ≡ pastAll → Ended l i e
+held-ended h d past = record {
+  order = omega arith;
+  past = past;
+  least = λ k a b. let p = held-point h k a (omega arith) in rw (p .2) (code-least (p .1));
+  most = λ k a b. let p = held-point h k a (omega arith) in rw (p .2) (code-most (p .1));
+  heavy = λ k a b. let p = held-point h k a (omega arith) in rw (p .2) (omega (arith, light-is (p .1), p .1 .weight));
+}
+
+-- The last number of a list tells the last weight,
+last-told : {l : List ℤ} {i : ℕ} {p : Point} (fs : List Point) → Held l i (p ∷ fs)
+    → lightness (at0 l (i + length fs)) + up (lastAfter (pos (p .weight)) fs) ≡ 511 + dn (lastAfter (pos (p .weight)) fs)
+last-told {i = i} [] (held-more s e h) =
+    let here : i + 0 ≡ i = omega arith in
+    rw (here, e) (omega (arith, light-is s, s .weight))
+last-told {i = i} (q ∷ fs) (held-more s e h) =
+    let next : i + suc (length fs) ≡ suc i + length fs = omega arith in
+    rw next (last-told fs h)
+
+-- and so does the number before the place after it.
+before-told : {l : List ℤ} {i : ℕ} {fs : List Point} (z : ℕ) → Held l i fs → i + length fs ≡ z
+    → lightBefore l i z + up (lastAfter belowAll fs) ≡ 511 + dn (lastAfter belowAll fs)
+before-told {i = i} z held-none d = let none-yet : ltb i z ≡ false = le-ltb i z (omega arith) in rw none-yet
+before-told z (held-more {i = i} {ps = fs} s e h) d =
+    let some-yet : ltb i z ≡ true = lt-ltb i z (omega arith) in
+    let last : z - 1 ≡ i + length fs = omega arith in
+    rw (some-yet, last) (last-told fs (held-more s e h))
+
+-- A point whose number is up to a list's first goes before all of the list.
+goes-first : {l : List ℤ} {i : ℕ} (n : ℕ) → 1 ≤ n → Held l i (listAt l i n) → {p : Point} → PointWithin p → code p ≤ℤ at0 l i
+    → (ps : List Point) → firstGoes (p ∷ ps) (listAt l i n) ≡ true
+goes-first zero h k s e ps = absurd (omega arith)
+goes-first {l} {i} (suc n) h (held-more t d k) {p} s e ps =
+    let le = rw d at e in
+    let test : leZ (code p) (code (pointOf (at0 l i))) ≡ true = omega signed in
+    sym (code-order s t) ∙ test
+
+-- ---- the steps of joining
+
+-- The work area with a number past all behind the list.
+abbrev marked : List ℤ → ℕ → List ℤ
+marked work used = set work used pastAll
+
+module _ {work : List ℤ} {place count : ℕ} {pushed : List ℤ} {from many : ℕ} (g : CanJoin work place count pushed from many) where
+  -- A list has at most 301 points.
+  pub join-few : count ≤ 301
+  join-few =
+      let few = rising-short mostWeight (g .rises) (λ q m. held-within (g .held) q m .weight) in
+      omega (arith, list-length work place count)
+
+  -- The number past all stands behind it.
+  stays : (k : ℕ) → k < place + count → at0 (marked work (place + count)) k ≡ at0 work k
+  stays k h = getD-set-other work (place + count) k pastAll (pos 0) (omega arith)
+
+  -- The search from the back cuts the list before the first pushed point.
+  module _ {z : ℕ} (found : After (marked work (place + count)) place (place + count) (at0 pushed from) z) where
+    cutting : Cut (at0 pushed from) (marked work (place + count)) place z (listAt work place count)
+    cutting =
+        let n = list-length work place count in
+        cut z (held-stays (place + count) stays (omega arith) (g .held)) (g .rises) (rw n found)
+
+    module _ {copy : List ℤ} (c : Copied place (place + count + 1) (z - place) (marked work (place + count)) copy) where
+      -- The number before the place found can be weighed, once the front is copied.
+      pub can-weigh : CanWeigh copy place z
+      can-weigh = record {
+        inside = omega (arith, found .high, g .room, c .size, length-set work (place + count) pastAll);
+        least = least;
+      }
+        where
+          least : place < z → pos 0 ≤ℤ at0 copy (z - 1)
+          least h =
+              let p = held-point (cutting .held) (z - 1) (omega arith) (omega (arith, cutting .count)) in
+              let e : at0 copy (z - 1) ≡ code (p .0) = c .before (z - 1) (omega (arith, found .high)) ∙ p .2 in
+              rw e (code-least (p .1))
+
+      -- The front and the back are still there, and behind them a number past all.
+      front-held : Held copy place (cutting .front)
+      front-held = held-stays (place + count + 1) (c .before) (omega (arith, cutting .count, found .high)) (cutting .held)
+
+      parts : length (cutting .front) + length (cutting .back) ≡ count
+      parts =
+          let sum = length-append (cutting .front) (cutting .back) in
+          omega (arith, ap length (cutting .whole), list-length work place count)
+
+      ends : z + length (cutting .back) ≡ place + count
+      ends = omega (arith, parts, cutting .count)
+
+      back-held : Held copy z (cutting .back)
+      back-held = held-stays (place + count + 1) (c .before) (omega (arith, ends)) (cutting .heldBack)
+
+      past : at0 copy (place + count) ≡ pastAll
+      past =
+          c .before (place + count) (omega arith)
+          ∙ getD-set-same work (place + count) pastAll (pos 0) (omega (arith, g .room))
+
+      -- The front rises to a last weight,
+      abbrev last : ℤ
+      last = lastAfter belowAll (cutting .front)
+
+      front-rises : Rising (cutting .front)
+      front-rises = rising-front (cutting .front) (cutting .back) (rw (cutting .whole) at (g .rises))
+
+      module _ {lightest : ℕ} (l : lightest ≡ lightBefore copy place z) where
+        -- which the number before the place found tells:
+        told : lightest + up last ≡ 511 + dn last
+        told = rw l (before-told z front-held (cutting .count))
+
+        -- the longer the front, the fewer points are still to come.
+        light : lightest + (z - place) ≤ 512
+        light =
+            let few = last-few belowAll front-rises (λ p m. omega signed) in
+            omega (arith, told, cutting .count)
+
+        heavy : leastLight ≤ lightest
+        heavy = omega (arith, told, last-light belowAll (cutting .front) (held-within (cutting .held)) (omega arith))
+
+        -- The rest can be merged,
+        pub can-merge : CanMerge z (place + count - z + many) (place + count + 1 + (z - place)) lightest pushed from copy
+        can-merge = record {
+          end = place + count;
+          endPushed = from + many;
+          list = held-ended back-held ends past;
+          other = held-ended (g .heldToo) (omega (arith, list-length pushed from many)) (g .past);
+          all = omega (arith, found .high);
+          behind = omega arith;
+          low = heavy;
+          light = omega (arith, light);
+          room = omega (arith, light, g .room, c .size, length-set work (place + count) pastAll);
+          roomPushed = g .inside;
+        }
+
+        -- and then the better of both stands behind the part in use.
+        module _ {r : ℕ} {after : List ℤ}
+            (m : Merged z (place + count - z + many) (place + count + 1 + (z - place)) lightest pushed from copy r after) where
+          -- What is merged,
+          abbrev rest : List Point
+          rest = merge last (cutting .back) (listAt pushed from many)
+
+          -- behind the front, is the better of both;
+          better : betterOf (listAt work place count) (listAt pushed from many) ≡ cutting .front ++ rest
+          better =
+              sym (merge-better (g .rises) (g .risesToo))
+              ∙ ap (λ (ps : List Point). merge belowAll ps (listAt pushed from many)) (cutting .whole)
+              ∙ front-kept belowAll (cutting .back) (listAt pushed from many) front-rises (λ p n. omega signed)
+              (λ p n. goes-first many (g .some) (g .heldToo) (held-within (cutting .held) p n) (cutting .early p n))
+
+          -- it is within the limits,
+          rest-within : (p : Point) → In p rest → PointWithin p
+          rest-within p n =
+              ⊎-elim (held-within (g .held) p) (held-within (g .heldToo) p)
+              (in-either (listAt work place count) (profileOf-member (listAt work place count ++ listAt pushed from many) listed))
+            where
+              listed : In p (betterOf (listAt work place count) (listAt pushed from many))
+              listed = rw better (Memᴰ·append-right (cutting .front) n)
+
+          -- and its numbers are written.
+          numbers : merged z (place + count - z + many) lightest pushed from copy ≡ map code rest
+          numbers =
+              merged-are (place + count - z + many) lightest last past (g .past) back-held ends (g .heldToo)
+              (omega (arith, list-length pushed from many))
+              (rising-back (cutting .front) (cutting .back) (rw (cutting .whole) at (g .rises))) (g .risesToo)
+              (omega (arith, ends, list-length pushed from many)) told
+
+          pub joins : Joined work place count pushed from many (r - (place + count + 1)) after
+          joins = record {
+            size = m .size ∙ c .size ∙ length-set work (place + count) pastAll;
+            stays = λ k h. m .before k (omega arith) ∙ c .before k (omega arith) ∙ stays k h;
+            held = rw better (held-append (place + count + 1 + (z - place)) front (omega (arith, cutting .count)) back);
+            counted = omega (
+              arith,
+              m .count,
+              ap length numbers,
+              length-map rest code,
+              ap length better,
+              length-append (cutting .front) rest,
+              cutting .count,
+            );
+          }
+            where
+              front : Held after (place + count + 1) (cutting .front)
+              front =
+                  let n = cutting .count in
+                  held-copied (place + count + 1) (cutting .held)
+                  (λ k h. m .before (place + count + 1 + k) (omega arith) ∙ c .laid k (omega arith))
+
+              back : Held after (place + count + 1 + (z - place)) rest
+              back = held-codes (place + count + 1 + (z - place)) rest rest-within (rw numbers at (m .written))

@@ -1,0 +1,65 @@
+-- What copying, laying and joining ask and give. Definitions only.
+use Prim.Native.Nat.{ℕ, _+_, _-_, _≤_, _<_}
+use mathlib.Core.Path.{_≡_}
+use mathlib.Core.Bool.{cond}
+use mathlib.Core.List.{List}
+use lib.Dec.{ltb}
+use lib.IntN.{ℤ, pos}
+use lib.ListN.{length}
+use lib.Signed.{_≤ℤ_}
+use Rattle.profile.specs.Profile.{betterOf}
+use Rattle.profile.specs.Rising.{Rising}
+use Rattle.codes.specs.Code.{at0, listAt, lightness, pastAll}
+use Rattle.codes.specs.Held.{Held}
+
+-- ---- numbers laid at a place
+
+-- So many numbers of a slice can be laid there,
+pub record CanLay (at : ℕ) (pushed : List ℤ) (from count : ℕ) (work : List ℤ) : Type 0 where
+  pub inside : from + count ≤ length pushed
+  pub room : at + count ≤ length work
+
+-- and then stand there, and all before them stays.
+pub record Laid (at : ℕ) (pushed : List ℤ) (from count : ℕ) (was after : List ℤ) : Type 0 where
+  pub size : length after ≡ length was
+  pub laid : (k : ℕ) → k < count → at0 after (at + k) ≡ at0 pushed (from + k)
+  pub before : (k : ℕ) → k < at → at0 after k ≡ at0 was k
+
+-- A part can be copied behind itself,
+pub record CanCopy (from at count : ℕ) (work : List ℤ) : Type 0 where
+  pub apart : from + count ≤ at
+  pub room : at + count ≤ length work
+
+-- and then it is laid there as it was.
+abbrev pub Copied : ℕ → ℕ → ℕ → List ℤ → List ℤ → Type 0
+Copied from at count was after = Laid at was from count was after
+
+-- ---- two lists joined
+
+-- The number before a place is there and is a point's.
+pub record CanWeigh (work : List ℤ) (place z : ℕ) : Type 0 where
+  pub inside : z ≤ length work
+  pub least : place < z → pos 0 ≤ℤ at0 work (z - 1)
+
+-- How light it is, 512 where there is none.
+abbrev pub lightBefore : List ℤ → ℕ → ℕ → ℕ
+lightBefore work place z = cond (ltb place z) (lightness (at0 work (z - 1))) 512
+
+-- Two lists of points can be joined: both rise, the pushed one has a point and a number past all behind it, and there is
+-- room for a list of every weight and a number that is written and not kept.
+pub record CanJoin (work : List ℤ) (place count : ℕ) (pushed : List ℤ) (from many : ℕ) : Type 0 where
+  pub held : Held work place (listAt work place count)
+  pub rises : Rising (listAt work place count)
+  pub some : 1 ≤ many
+  pub heldToo : Held pushed from (listAt pushed from many)
+  pub risesToo : Rising (listAt pushed from many)
+  pub past : at0 pushed (from + many) ≡ pastAll
+  pub inside : from + many < length pushed
+  pub room : place + count + 303 < length work
+
+-- The better of both stands behind the list and a number past all, and the part in use stays.
+pub record Joined (work : List ℤ) (place count : ℕ) (pushed : List ℤ) (from many r : ℕ) (after : List ℤ) : Type 0 where
+  pub size : length after ≡ length work
+  pub stays : (k : ℕ) → k < place + count → at0 after k ≡ at0 work k
+  pub held : Held after (place + count + 1) (betterOf (listAt work place count) (listAt pushed from many))
+  pub counted : r ≡ length (betterOf (listAt work place count) (listAt pushed from many))

@@ -1,0 +1,145 @@
+// Two lists of points in the lent work area, merged behind the part in use: taken in turn, each kept where it is heavier
+// than all before. Only what stands behind the part in use is written, so the lists before it stay. Assumes nothing.
+use codes::PAST;
+use codes::after;
+use codes::light_in;
+ghost use mathlib.Core.Path.{_≡_};
+ghost use mathlib.Core.Bool.{cond};
+ghost use Prim.Native.Nat.{min};
+ghost use Rattle.merging.specs.Turns.{CanMerge, Merged};
+ghost use Rattle.merging.specs.Joins.{CanCopy, Copied, CanLay, Laid, CanWeigh, lightBefore, CanJoin, Joined};
+
+// How light a point may be at most, and what is lighter than all.
+const LIGHTEST: usize = 511;
+
+const LIGHTER_THAN_ALL: usize = 512;
+
+// One of two numbers.
+fn either(first: bool, x: i32, y: i32) -> i32
+    ensures { λ r. ⌜ r ≡ cond first x y ⌝ }
+{
+    if first { x } else { y }
+}
+
+// One if so, else none.
+fn one_if(so: bool) -> usize
+    ensures { λ r. ⌜ r ≡ cond so 1 0 ⌝ }
+{
+    so as usize
+}
+
+// None if so, else one.
+fn none_if(so: bool) -> usize
+    ensures { λ r. ⌜ r ≡ cond so 0 1 ⌝ }
+{
+    if so { 0 } else { 1 }
+}
+
+// The lesser of two.
+fn lesser(x: usize, y: usize) -> usize
+    ensures { λ r. ⌜ r ≡ min x y ⌝ }
+{
+    if x < y { x } else { y }
+}
+
+// The points left of two lists, past each of them a number past all, in turn; each is kept where it is less light than
+// all before. Returns the place after the last one kept. A number that is not kept is overwritten by the next.
+fn merge(
+    work: &mut [i32],
+    place: usize,
+    turns: usize,
+    at: usize,
+    lightest: usize,
+    pushed: &[i32],
+    from: usize,
+) -> usize
+    requires { ⌜ CanMerge place turns at lightest (now pushed) from (now work) ⌝ }
+    ensures { λ r. ⌜ Merged place turns at lightest (now (pushed .entry)) from (now (work .entry)) r (now (work .exit)) ⌝ }
+{
+    let mut i = place;
+    let mut j = from;
+    let mut n = at;
+    let mut best = lightest;
+    let mut left = turns;
+    while left > 0 {
+        let a = work[i];
+        let b = pushed[j];
+        let first = a <= b;
+        let x = either(first, a, b);
+        i += one_if(first);
+        j += none_if(first);
+        work[n] = x;
+        let light = light_in(x);
+        n += (best + LIGHTEST - light) / 512;
+        best = lesser(light, best);
+        left -= 1;
+    }
+    n
+}
+
+// A part copied behind itself.
+fn copy(work: &mut [i32], from: usize, at: usize, count: usize)
+    requires { ⌜ CanCopy from at count (now work) ⌝ }
+    ensures { λ _. ⌜ Copied from at count (now (work .entry)) (now (work .exit)) ⌝ }
+{
+    let mut k = 0;
+    while k < count {
+        work[at + k] = work[from + k];
+        k += 1;
+    }
+}
+
+// Numbers laid at a place.
+pub fn lay(work: &mut [i32], at: usize, pushed: &[i32], from: usize, count: usize)
+    requires { ⌜ CanLay at (now pushed) from count (now work) ⌝ }
+    ensures { λ _. ⌜ Laid at (now (pushed .entry)) from count (now (work .entry)) (now (work .exit)) ⌝ }
+{
+    let mut k = 0;
+    while k < count {
+        work[at + k] = pushed[from + k];
+        k += 1;
+    }
+}
+
+// How light the number before a place is; lighter than all where the list begins there.
+fn light_before(work: &[i32], place: usize, z: usize) -> usize
+    requires { ⌜ CanWeigh (now work) place z ⌝ }
+    ensures { λ r. ⌜ r ≡ lightBefore (now (work .entry)) place z ⌝ }
+{
+    if place < z {
+        return light_in(work[z - 1]);
+    }
+    LIGHTER_THAN_ALL
+}
+
+// The list at a place and the pushed list, the better of both, behind the part in use and a number past all. Most of a list
+// stands before the first pushed point: that front is copied, and only the rest is merged. Returns how many points there are.
+pub fn join(
+    work: &mut [i32],
+    place: usize,
+    count: usize,
+    pushed: &[i32],
+    from: usize,
+    many: usize,
+) -> usize
+    requires { ⌜ CanJoin (now work) place count (now pushed) from many ⌝ }
+    ensures { λ r. ⌜ Joined (now (work .entry)) place count (now (pushed .entry)) from many r (now (work .exit)) ⌝ }
+{
+    let used = place + count;
+    work[used] = PAST;
+    let first = pushed[from];
+    let z = after(work, place, used, first);
+    let front = z - place;
+    copy(work, place, used + 1, front);
+    let lightest = light_before(work, place, z);
+    let end = merge(
+        work,
+        z,
+        used - z + many,
+        used + 1 + front,
+        lightest,
+        pushed,
+        from,
+    );
+    end - (used + 1)
+}

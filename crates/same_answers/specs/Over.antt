@@ -1,0 +1,77 @@
+-- The calls' answers and buffers with what they take from planning left open, as a way to compute it. Definitions only.
+use Prim.Native.Nat.{ℕ}
+use mathlib.Core.List.{List}
+use mathlib.Core.Option.{Option, Option·map}
+use lib.IntN.{ℤ}
+use Rattle.order.specs.Job.{Job, Order}
+use Rattle.order.specs.Choice.{mask, numberKept, lostWeight, starts}
+use Rattle.plan.specs.Plan.{Ended, Answer}
+use Rattle.points.specs.Ways.{Way}
+use Rattle.packed.specs.Packed.{orderOf}
+use Rattle.planner.specs.declared.Planned.{Planned}
+use Rattle.planner.specs.Calls.{planVerdict, plannedBy, startsBy}
+use Rattle.halves.specs.declared.HalvesPlanned.{HalvesPlanned}
+use Rattle.halves.specs.Calls.{halvesVerdict, lostIn, withSeconds}
+use Rattle.extending.specs.declared.Extended.{Extended}
+use Rattle.extending.specs.Calls.{profileGiven, extendVerdict, extendedBy, outBy}
+use Rattle.openings.specs.declared.Chosen.{Chosen}
+use Rattle.openings.specs.Choosing.{byWorth, toFirst, choosingVerdict, chosenBy, partOf, placeOf}
+
+-- ---- planning, and planning halves
+
+-- The plan's answer with a point total.
+abbrev pub answerWith : ℕ → ℤ → List Job → Ended → Answer
+answerWith points t js e =
+    record {
+      mask = mask (e .choice);
+      kept = numberKept (e .choice);
+      keptWeight = e .end .weight;
+      lostWeight = lostWeight js (e .choice);
+      finish = e .end .time;
+      points = points;
+      starts = starts js (e .choice) t;
+    }
+
+abbrev pub planAnswerOver : Way → Order → Option Answer
+planAnswerOver w o = Option·map (answerWith (w .total (o .t0) (o .jobs)) (o .t0) (o .jobs)) (w .planned (o .t0) (o .jobs))
+
+-- The answer, and the starts at exit.
+abbrev pub planOver : Way → List ℕ → List ℤ → List ℤ → Planned × List ℤ
+planOver w bytes starts work =
+    let v = planVerdict bytes starts work in
+    let a = planAnswerOver w (orderOf bytes) in
+    (plannedBy v a, startsBy v a starts)
+
+abbrev pub lostOver : Way → Order → ℕ
+lostOver w o = lostIn o (w .planned (o .t0) (o .jobs))
+
+abbrev pub halvesOver : Way → List ℕ → List ℤ → List ℤ → HalvesPlanned × List ℤ
+halvesOver w bytes starts work =
+    let v = halvesVerdict bytes starts work in
+    let a = planAnswerOver w (orderOf bytes) in
+    (withSeconds (lostOver w (orderOf bytes)) (plannedBy v a), startsBy v a starts)
+
+-- ---- extending
+
+-- The answer, and the numbers at exit.
+abbrev pub extendOver : Way → List ℤ → List ℕ → List ℤ → List ℤ → Extended × List ℤ
+extendOver w ns bytes out work =
+    let v = extendVerdict ns bytes out work in
+    let ps = w .extended (profileGiven ns) (orderOf bytes .jobs) in
+    (extendedBy v ps, outBy v ps out)
+
+-- ---- the question, and the choice
+
+abbrev pub worthOver : Way → List ℕ → ℤ → Option ℕ
+worthOver w bytes t = w .worthAt (orderOf bytes .t0) (orderOf bytes .jobs) t
+
+abbrev pub questionOver : Way → List ℕ → List ℕ → ℤ → List ℤ → Chosen
+questionOver w first second t work =
+    chosenBy (choosingVerdict first second work)
+    (byWorth (toFirst first second t) (worthOver w first t) (worthOver w second t))
+
+-- The part handed back, its bytes and its place.
+abbrev pub choiceOver : Way → List ℕ → List ℕ → ℕ × ℕ → ℕ × ℕ → ℤ → List ℤ → List ℕ × (ℕ × ℕ)
+choiceOver w first second at other t work =
+    let c = questionOver w first second t work in
+    (partOf c first second, placeOf c at other)

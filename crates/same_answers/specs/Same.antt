@@ -1,0 +1,198 @@
+-- Two ways to plan that give the same for every accepted order give every call the same answer and the same buffers, for every
+-- input. So rows and lists do, and both give what the contracts of the calls say.
+use Prim.Native.Nat.{ℕ}
+use mathlib.Core.Path.{_≡_, refl, ap, ap₂}
+use mathlib.Core.List.{List, _++_}
+use mathlib.Core.Option.{Option, Option·map}
+use lib.IntN.{ℤ}
+use lib.ListN.{length}
+use Rattle.plan.specs.Plan.{Ended, Answer}
+use Rattle.profile.specs.Rising.{Rising}
+use Rattle.points.specs.Ways.{Way, SameWay, byRows, byLists, byRules}
+use Rattle.points.specs.WaysLaws.{lists-rules, rows-lists}
+use Rattle.packed.specs.Judge.{Verdict, fine, refused}
+use Rattle.packed.specs.JudgeLaws.{stages-fine}
+use Rattle.packed.specs.Packed.{countOf, numbersOf, orderOf, jobsIn}
+use Rattle.packed.specs.Refusals.{roomChecks, orderChecks, halvesChecks}
+use Rattle.packed.specs.Accepted.{OrderFine, order-fine}
+use Rattle.seconds.specs.Determined.{two}
+use Rattle.profiles.specs.Numbers.{mostNumbers}
+use Rattle.area.specs.Area.{area}
+use Rattle.filling.specs.BeginLaws.{profile-valid}
+use Rattle.filling.specs.ListsLaws.{jobs-single}
+use Rattle.planner.specs.Calls.{planChecks, planVerdict, plannedBy, startsBy, plannedOf, startsAfter}
+use Rattle.halves.specs.Calls.{planHalvesChecks, halvesVerdict, lostIn, withSeconds, halvesOf, halvesStartsAfter}
+use Rattle.extending.specs.Calls.{profileGiven, extendJudged, extendChecks, extendVerdict, extendedBy, outBy, extendedOf, outAfter}
+use Rattle.extending.specs.CallLaws.{given-read}
+use Rattle.extending.specs.ExtendingLaws.{Accepted, accepted, accepted-order}
+use Rattle.openings.specs.declared.Chosen.{Chosen}
+use Rattle.openings.specs.Choosing.{byWorth, toFirst, choosingChecks, choosingVerdict, chosenBy, partOf, placeOf, chosenOf}
+use Rattle.same_answers.specs.Over.{answerWith, planAnswerOver, planOver, lostOver, halvesOver, extendOver, worthOver, questionOver, choiceOver}
+
+-- Two ways give the same for every accepted order.
+abbrev pub Agree : Way → Way → Type 0
+Agree a b = (bytes : List ℕ) → OrderFine bytes → SameWay a b (orderOf bytes .jobs)
+
+-- So do rows and lists, and lists and the rules.
+pub rows-lists-agree : Agree byRows byLists
+unfolding orderOf
+rows-lists-agree bytes f = rows-lists (jobsIn bytes) (jobs-single bytes f)
+
+pub lists-rules-agree : Agree byLists byRules
+unfolding orderOf
+lists-rules-agree bytes f = lists-rules (jobsIn bytes) (jobs-single bytes f)
+
+-- What is made by a verdict is the same where, once all checks are passed, it is made of the same.
+by-verdict : {X A : Type 0} (by : Verdict → X → A) (v : Verdict) (x y : X) → (v ≡ fine → x ≡ y)
+    → (((r : _) → by (refused r) x ≡ by (refused r) y)) → by v x ≡ by v y
+by-verdict by fine x y same none = ap (by fine) (same refl)
+by-verdict by (refused r) x y same none = none r
+
+module _ {a b : Way} (agree : Agree a b) where
+  -- ---- the plan of an accepted order
+
+  answers-same : (bytes : List ℕ) → OrderFine bytes → planAnswerOver a (orderOf bytes) ≡ planAnswerOver b (orderOf bytes)
+  answers-same bytes f =
+      let s = agree bytes f in
+      let o = orderOf bytes in
+      ap₂ (λ (n : ℕ) (p : Option Ended). Option·map (answerWith n (o .t0) (o .jobs)) p) (s .total (o .t0)) (s .planned (o .t0))
+
+  -- ---- planning: the answer, and the starts at exit
+
+  plan-fine : (bytes : List ℕ) (starts work : List ℤ) → planVerdict bytes starts work ≡ fine → OrderFine bytes
+  unfolding planChecks
+  plan-fine bytes starts work e =
+      order-fine bytes .0
+      (stages-fine (orderChecks bytes) _ .0
+      (stages-fine (orderChecks bytes ++ roomChecks (countOf bytes) (length starts)) (roomChecks area (length work)) .0 e .0) .0)
+
+  pub plan-same : (bytes : List ℕ) (starts work : List ℤ) → planOver a bytes starts work ≡ planOver b bytes starts work
+  plan-same bytes starts work =
+      by-verdict (λ v p. (plannedBy v p, startsBy v p starts)) (planVerdict bytes starts work)
+      (planAnswerOver a (orderOf bytes)) (planAnswerOver b (orderOf bytes))
+      (λ e. answers-same bytes (plan-fine bytes starts work e)) (λ r. refl)
+
+  -- ---- planning halves: the same with the seconds lost
+
+  halves-fine : (bytes : List ℕ) (starts work : List ℤ) → halvesVerdict bytes starts work ≡ fine → OrderFine bytes
+  unfolding planHalvesChecks
+  halves-fine bytes starts work e =
+      let order = orderChecks bytes in
+      let halves = order ++ halvesChecks (numbersOf bytes) in
+      let rooms = halves ++ roomChecks (countOf bytes) (length starts) in
+      order-fine bytes .0
+      (stages-fine order _ .0 (stages-fine halves _ .0 (stages-fine rooms (roomChecks area (length work)) .0 e .0) .0) .0)
+
+  pub halves-same : (bytes : List ℕ) (starts work : List ℤ) → halvesOver a bytes starts work ≡ halvesOver b bytes starts work
+  halves-same bytes starts work =
+      by-verdict {X = ℕ × Option Answer} (λ v p. (withSeconds (p .0) (plannedBy v (p .1)), startsBy v (p .1) starts))
+      (halvesVerdict bytes starts work) (lostOver a (orderOf bytes), planAnswerOver a (orderOf bytes))
+      (lostOver b (orderOf bytes), planAnswerOver b (orderOf bytes)) same (λ r. refl)
+    where
+      same : halvesVerdict bytes starts work ≡ fine
+          → _≡_ {A = ℕ × Option Answer} (lostOver a (orderOf bytes), planAnswerOver a (orderOf bytes))
+          (lostOver b (orderOf bytes), planAnswerOver b (orderOf bytes))
+      same e =
+          let f = halves-fine bytes starts work e in
+          let o = orderOf bytes in
+          two (ap (lostIn o) (agree bytes f .planned (o .t0))) (answers-same bytes f)
+
+  -- ---- extending: the answer, and the numbers at exit
+
+  extend-fine : (ns : List ℤ) (bytes : List ℕ) (out work : List ℤ) → extendVerdict ns bytes out work ≡ fine → Accepted ns bytes
+  unfolding extendChecks
+  extend-fine ns bytes out work e =
+      accepted ns bytes .0
+      (stages-fine (extendJudged ns bytes) _ .0
+      (stages-fine (extendJudged ns bytes ++ roomChecks mostNumbers (length out)) (roomChecks area (length work)) .0 e .0) .0)
+
+  given-rises : (ns : List ℤ) {bytes : List ℕ} → Accepted ns bytes → Rising (profileGiven ns)
+  given-rises ns f = rw (given-read ns (f .valid)) (profile-valid ns (f .valid) .rises)
+
+  pub extend-same : (ns : List ℤ) (bytes : List ℕ) (out work : List ℤ)
+      → extendOver a ns bytes out work ≡ extendOver b ns bytes out work
+  extend-same ns bytes out work =
+      by-verdict (λ v ps. (extendedBy v ps, outBy v ps out)) (extendVerdict ns bytes out work)
+      (a .extended (profileGiven ns) (orderOf bytes .jobs)) (b .extended (profileGiven ns) (orderOf bytes .jobs))
+      (λ e. let f = extend-fine ns bytes out work e in
+      agree bytes (accepted-order f) .extended (profileGiven ns) (given-rises ns f)) (λ r. refl)
+
+  -- ---- the question, and the part that the choice hands back
+
+  choosing-fine : (first second : List ℕ) (work : List ℤ) → choosingVerdict first second work ≡ fine
+      → OrderFine first × OrderFine second
+  unfolding choosingChecks
+  choosing-fine first second work e =
+      let both =
+      stages-fine (orderChecks first) (orderChecks second) .0
+      (stages-fine (orderChecks first ++ orderChecks second) (roomChecks area (length work)) .0 e .0) in
+      (order-fine first .0 (both .0), order-fine second .0 (both .1))
+
+  pub question-same : (first second : List ℕ) (t : ℤ) (work : List ℤ)
+      → questionOver a first second t work ≡ questionOver b first second t work
+  question-same first second t work =
+      by-verdict chosenBy (choosingVerdict first second work)
+      (byWorth (toFirst first second t) (worthOver a first t) (worthOver a second t))
+      (byWorth (toFirst first second t) (worthOver b first t) (worthOver b second t)) same (λ r. refl)
+    where
+      same : choosingVerdict first second work ≡ fine
+          → byWorth (toFirst first second t) (worthOver a first t) (worthOver a second t)
+          ≡ byWorth (toFirst first second t) (worthOver b first t) (worthOver b second t)
+      same e =
+          let f = choosing-fine first second work e in
+          ap₂ (byWorth (toFirst first second t)) (agree first (f .0) .worthAt (orderOf first .t0) t)
+          (agree second (f .1) .worthAt (orderOf second .t0) t)
+
+  pub choice-same : (first second : List ℕ) (at other : ℕ × ℕ) (t : ℤ) (work : List ℤ)
+      → choiceOver a first second at other t work ≡ choiceOver b first second at other t work
+  choice-same first second at other t work =
+      ap (λ (c : Chosen). (partOf c first second, placeOf c at other)) (question-same first second t work)
+
+-- ---- as computed from rows and as computed from lists they are the same function
+
+-- Of each call, rows and lists.
+pub record SameCalls (a b : Way) : Type 0 where
+  pub plan : (bytes : List ℕ) (starts work : List ℤ) → planOver a bytes starts work ≡ planOver b bytes starts work
+  pub halves : (bytes : List ℕ) (starts work : List ℤ) → halvesOver a bytes starts work ≡ halvesOver b bytes starts work
+  pub extend : (ns : List ℤ) (bytes : List ℕ) (out work : List ℤ) → extendOver a ns bytes out work ≡ extendOver b ns bytes out work
+  pub question : (first second : List ℕ) (t : ℤ) (work : List ℤ) → questionOver a first second t work ≡ questionOver b first second t work
+  pub choice : (first second : List ℕ) (at other : ℕ × ℕ) (t : ℤ) (work : List ℤ)
+      → choiceOver a first second at other t work ≡ choiceOver b first second at other t work
+
+same-calls : {a b : Way} → Agree a b → SameCalls a b
+same-calls agree =
+    record {
+      plan = plan-same agree;
+      halves = halves-same agree;
+      extend = extend-same agree;
+      question = question-same agree;
+      choice = choice-same agree;
+    }
+
+pub rows-and-lists : SameCalls byRows byLists
+rows-and-lists = same-calls rows-lists-agree
+
+-- And they are what the contracts of the calls say: these are the calls' own definitions.
+pub lists-and-contracts : SameCalls byLists byRules
+lists-and-contracts = same-calls lists-rules-agree
+
+pub contracts-plan : (bytes : List ℕ) (starts work : List ℤ)
+    → planOver byRules bytes starts work ≡ (plannedOf bytes starts work, startsAfter bytes starts work)
+contracts-plan bytes starts work = refl
+
+pub contracts-halves : (bytes : List ℕ) (starts work : List ℤ)
+    → halvesOver byRules bytes starts work ≡ (halvesOf bytes starts work, halvesStartsAfter bytes starts work)
+contracts-halves bytes starts work = refl
+
+pub contracts-extend : (ns : List ℤ) (bytes : List ℕ) (out work : List ℤ)
+    → extendOver byRules ns bytes out work ≡ (extendedOf ns bytes out work, outAfter ns bytes out work)
+contracts-extend ns bytes out work = refl
+
+pub contracts-question : (first second : List ℕ) (t : ℤ) (work : List ℤ)
+    → questionOver byRules first second t work ≡ chosenOf first second t work
+contracts-question first second t work = refl
+
+pub contracts-choice : (first second : List ℕ) (at other : ℕ × ℕ) (t : ℤ) (work : List ℤ)
+    → choiceOver byRules first second at other t work
+    ≡ (partOf (chosenOf first second t work) first second, placeOf (chosenOf first second t work) at other)
+contracts-choice first second at other t work = refl

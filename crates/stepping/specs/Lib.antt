@@ -1,0 +1,3 @@
+-- One list of points to the next in the work area.
+pub mod Stepping
+pub mod Cases
