@@ -1,11 +1,7 @@
-// The lent work area: how long it is, and its clearing; and when the bus is free again after a job. Assumes nothing.
-use profiles::REST;
+// The lent work area: how long it is, and its clearing. Assumes nothing.
 ghost use mathlib.Core.Path.{_≡_};
 ghost use Prim.Native.Nat.{_≤_};
-ghost use lib.IntN.{pos, _+ℤ_};
 ghost use lib.ListN.{length};
-ghost use Rattle.seconds.specs.Limits.{rest};
-ghost use Rattle.seconds.specs.Ranges.{InTime};
 ghost use Rattle.area.specs.Area.{area, cleared};
 
 // How many numbers a call that plans is lent.
@@ -21,12 +17,4 @@ pub fn clear(work: &mut [i32])
         work[k] = 0;
         k += 1;
     }
-}
-
-// When the bus is free again after a finish.
-pub fn rested(finish: i32) -> i32
-    requires { ⌜ InTime finish ⌝ }
-    ensures { λ r. ⌜ r ≡ finish +ℤ pos rest ⌝ }
-{
-    finish + REST
 }

@@ -1,5 +1,6 @@
 // What is read off a list of points in the lent work area: the last point by a time, and the list as the alternating numbers
 // of a profile. Assumes nothing.
+use clock::lesser;
 use codes::after;
 use codes::limit_by;
 use codes::time_in;
@@ -10,7 +11,6 @@ ghost use Prim.Native.Nat.{_+_, _*_, _<_};
 ghost use lib.ListN.{length, set};
 ghost use Rattle.profile.specs.Profile.{lookup};
 ghost use Rattle.profiles.specs.Numbers.{alternating, writtenOver};
-ghost use Rattle.seconds.specs.Ranges.{minZ};
 ghost use Rattle.codes.specs.Code.{listAt};
 ghost use Rattle.reading.specs.Reading.{Stands, found, CanWrite};
 
@@ -21,13 +21,6 @@ const EARLIEST: i32 = -100_000;
 pub enum Found {
     Nothing,
     At(usize, i32),
-}
-
-// The lesser of two times.
-fn lesser(a: i32, b: i32) -> i32
-    ensures { λ r. ⌜ r ≡ minZ a b ⌝ }
-{
-    if a <= b { a } else { b }
 }
 
 // The last point at or before a time. Every time is asked for one that a point may have.

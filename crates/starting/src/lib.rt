@@ -1,9 +1,9 @@
 // From a mask to the plan: the starts of the jobs that the mask keeps, and the number of them. Assumes nothing.
-use area::rested;
+use clock::greater;
+use clock::rested;
 use fields::Job;
 use fields::job_at;
 ghost use mathlib.Core.Path.{_≡_};
-ghost use Rattle.seconds.specs.Ranges.{maxZ};
 ghost use Rattle.order.specs.Choice.{numberKept};
 ghost use Rattle.fields.specs.Fields.{asJob};
 ghost use Rattle.starting.specs.Picks.{picksOf, TakesTurn, turnOf, WritesStarts, startsWritten};
@@ -18,13 +18,6 @@ const LEFT_OUT: i32 = 200_000;
 struct Turn {
     start: i32,
     free: i32,
-}
-
-// The greater of two times.
-fn greater(a: i32, b: i32) -> i32
-    ensures { λ r. ⌜ r ≡ maxZ a b ⌝ }
-{
-    if a <= b { b } else { a }
 }
 
 // A job's turn: left out it has no start and the bus stays free; kept it starts at the greater of its

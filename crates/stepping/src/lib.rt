@@ -1,5 +1,6 @@
 // From the list of points before a job to the list after it, in the lent work area: the three cases. Only what stands behind
 // the part in use is written, so the lists before stay; a list always ends where the part in use ends. Assumes nothing.
+use clock::greater;
 use codes::after;
 use codes::limit_by;
 use codes::time_in;
@@ -11,20 +12,12 @@ use pushing::push;
 use pushing::waits;
 ghost use mathlib.Core.Path.{_≡_};
 ghost use lib.IntN.{pos, _-ℤ_};
-ghost use Rattle.seconds.specs.Ranges.{maxZ};
 ghost use Rattle.stepping.specs.Stepping.{CanEnd, leftOut, CanAdd, Added, CanMerge, CanStep, Stepped};
 
 // A list of points in the work area: where it begins, and how many they are.
 pub struct Prefix {
     pub place: usize,
     pub count: usize,
-}
-
-// When a job starts that is ready at a time, with the bus free at a time.
-fn start_at(ready: i32, free: i32) -> i32
-    ensures { λ r. ⌜ r ≡ maxZ ready free ⌝ }
-{
-    if ready <= free { free } else { ready }
 }
 
 // The last start of a job.
@@ -139,7 +132,7 @@ pub fn step(
     let used = place + count;
     let first = work[place];
     let last = work[used - 1];
-    if last_start(deadline, takes) < start_at(ready, time_in(first)) {
+    if last_start(deadline, takes) < greater(ready, time_in(first)) {
         return left_out(place, used, count, critical);
     }
     if time_in(last) < ready {

@@ -1,6 +1,7 @@
 // From the lists of all prefixes to the plan: the walk back from the last job to the first, which gives the mask of the jobs
 // kept. Assumes nothing.
-use area::rested;
+use clock::lesser;
+use clock::rested;
 use fields::Job;
 use fields::job_at;
 use reading::Found;
@@ -9,7 +10,6 @@ ghost use mathlib.Core.Path.{_≡_};
 ghost use mathlib.Core.Option.{some};
 ghost use Prim.Native.Nat.{_-_, _^_, _<_};
 ghost use Rattle.seconds.specs.Limits.{mostJobs};
-ghost use Rattle.seconds.specs.Ranges.{minZ};
 ghost use Rattle.packed.specs.Packed.{t0Of, jobsIn};
 ghost use Rattle.fields.specs.Fields.{asJob};
 ghost use Rattle.codes.specs.Code.{listAt};
@@ -22,13 +22,6 @@ struct Trail {
     mask: u64,
     weight: usize,
     by: i32,
-}
-
-// The lesser of two times.
-fn lesser(a: i32, b: i32) -> i32
-    ensures { λ r. ⌜ r ≡ minZ a b ⌝ }
-{
-    if a <= b { a } else { b }
 }
 
 // The worth of the bit of a place.

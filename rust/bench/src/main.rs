@@ -1,5 +1,5 @@
-//! Times the library's planner against a plain Rust one on the same packed orders and buffers: 1,000 orders
-//! of 48 jobs whose weights sum to 300, and 1,000 of 8 jobs. Both judge the order and clear the work area.
+//! Times the library's planner against a plain Rust one on the same packed orders and buffers, 1,000 orders of
+//! each family. Weights sum to 300 in all of them. Both judge the order and clear the work area.
 //! Times mean nothing under an emulator; tools/speed.sh runs this on the machine at hand.
 
 mod plain;
@@ -7,7 +7,7 @@ mod plain;
 use leafanchor::calls::{self, PlanAnswer};
 use leafanchor::{MOST_JOBS, WORK_AREA};
 use std::time::Instant;
-use trials::{full_order, packed, Random};
+use trials::{dense_order, full_order, packed, wide_order, Order, Random};
 
 const ORDERS: usize = 1_000;
 const ROUNDS: usize = 11;
@@ -21,15 +21,29 @@ struct Buffers {
     work: Vec<i32>,
 }
 
+/// What the orders of a family are like, and how one is drawn.
+type Family = (&'static str, fn(&mut Random) -> Order);
+
+/// Ordinary mornings, long and short; then what is dear for lists of points.
+const FAMILIES: [Family; 4] = [
+    ("48 jobs", |random| full_order(random, 48)),
+    ("8 jobs", |random| full_order(random, 8)),
+    ("48 jobs with wide windows", wide_order),
+    ("48 jobs, the worst known", dense_order),
+];
+
 fn main() {
     let mut random = Random::new(0x1EAF_A4C4_0BE4_C400);
     let mut buffers = Buffers { starts: [0; MOST_JOBS], work: vec![0; WORK_AREA] };
-    for jobs in [48, 8] {
-        let orders: Vec<Vec<u8>> = (0..ORDERS).map(|_| packed(&full_order(&mut random, jobs))).collect();
-        let kept = compare(&orders, &mut buffers);
+    for (family, draw) in FAMILIES {
+        let drawn: Vec<Order> = (0..ORDERS).map(|_| draw(&mut random)).collect();
+        let jobs: usize = drawn.iter().map(|order| order.jobs.len()).sum();
+        let orders: Vec<Vec<u8>> = drawn.iter().map(packed).collect();
+        let (kept, points) = compare(&orders, &mut buffers);
         let damaged: Vec<Vec<u8>> = orders.iter().map(|order| damage(&mut random, order)).collect();
         compare(&damaged, &mut buffers);
-        println!("{ORDERS} orders of {jobs} jobs: all answers equal, damaged ones too; {kept} jobs kept");
+        println!("{ORDERS} orders of {family}: all answers equal, damaged ones too; {kept} jobs kept");
+        println!("  {:.1} points a prefix in the mean", f64::from(points) / jobs as f64);
         time_both(&orders, &mut buffers);
     }
 }
@@ -45,9 +59,10 @@ fn damage(random: &mut Random, order: &[u8]) -> Vec<u8> {
     bytes
 }
 
-/// Compares answers, starts and work areas of both planners on every order; gives the jobs kept in all plans.
-fn compare(orders: &[Vec<u8>], buffers: &mut Buffers) -> u32 {
-    let mut kept = 0;
+/// Compares answers, starts and work areas of both planners on every order; gives the jobs kept in all plans, and
+/// the points of all prefixes.
+fn compare(orders: &[Vec<u8>], buffers: &mut Buffers) -> (u32, u32) {
+    let (mut kept, mut points) = (0, 0);
     for order in orders {
         buffers.work.fill(7);
         let ours = calls::plan(order, &mut buffers.starts, &mut buffers.work);
@@ -57,8 +72,9 @@ fn compare(orders: &[Vec<u8>], buffers: &mut Buffers) -> u32 {
         assert_eq!((ours, starts), (plain, buffers.starts), "the planners differ on {order:?}");
         assert!(work == buffers.work, "the work areas differ");
         kept += ours.kept;
+        points += ours.points;
     }
-    kept
+    (kept, points)
 }
 
 /// Prints median and spread of both planners and the ratio of the medians.

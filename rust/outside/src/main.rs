@@ -16,6 +16,9 @@ use std::process::ExitCode;
 const ROUNDS: usize = 15_000;
 const LONG: usize = 10;
 
+/// Rounds with orders whose prefixes have many points.
+const ROUNDS_OF_LONG_LISTS: usize = 200;
+
 /// Rounds with orders of halves; one in LONG plans two long ones beside the rest.
 const ROUNDS_OF_HALVES: usize = 5_000;
 
@@ -49,6 +52,9 @@ fn main() -> ExitCode {
         if round % LONG == 0 {
             trial.plan_long_halves();
         }
+    }
+    for _ in 0..ROUNDS_OF_LONG_LISTS {
+        trial.long_lists();
     }
     if trial.tally.report() {
         ExitCode::SUCCESS

@@ -23,6 +23,9 @@ impl Held {
     }
 }
 
+/// Some order has more points than this, 200 a prefix.
+const MANY_POINTS: usize = 48 * 200;
+
 /// Refusals are numbered below this; 0 is none.
 const NUMBERS: usize = 14;
 
@@ -45,6 +48,8 @@ pub struct Tally {
     /// Orders of 48 jobs, and those of them with a feasible choice.
     pub longest: usize,
     pub longest_feasible: usize,
+    /// The greatest point total of an order planned for its long lists.
+    pub most_points: usize,
     /// Edges of the contactor's rest.
     pub rest: RestEdges,
     /// What planning halves turned on.
@@ -205,6 +210,7 @@ impl Tally {
         println!("needed the tie rule: {} of {} over all choices", self.tied, self.tried);
         println!("another plan by earliest bus-free times alone: {}", self.slips);
         println!("of 48 jobs: {}, feasible {}", self.longest, self.longest_feasible);
+        println!("most points of one order: {}", self.most_points);
         let RestEdges { met, missed, late_plans, late_profiles } = self.rest;
         println!(
             "straight after a rest: {met} jobs end at their deadline, {missed} would end a second past it"
@@ -223,6 +229,7 @@ impl Tally {
             && unseen.is_empty()
             && halves_met
             && fields_named
+            && self.most_points > MANY_POINTS
             && [met, missed, late_plans, late_profiles].iter().all(|&seen| seen > 0)
     }
 }

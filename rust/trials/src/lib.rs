@@ -1,13 +1,15 @@
 //! Generated orders and profiles, the same on every machine: a fixed generator, plain orders in several
-//! styles that make ties, tight windows, critical jobs and infeasible orders frequent, orders of halves, and a
-//! plain bit-by-bit packer.
+//! styles that make ties, tight windows, critical jobs and infeasible orders frequent, orders of halves, orders
+//! with many scheduling points, and a plain bit-by-bit packer.
 
 mod halves;
+mod long_lists;
 mod orders;
 mod packing;
 mod random;
 
 pub use halves::halves_of;
+pub use long_lists::{dense_order, wide_order};
 pub use orders::{full_order, order_of, profile_of, Style};
 pub use packing::packed;
 pub use random::Random;

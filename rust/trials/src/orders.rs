@@ -6,7 +6,7 @@ use crate::{Job, Order, Random};
 pub(crate) const LATEST: i32 = 100_000;
 
 /// The seconds that the contactor rests after every job. A point's time reaches that far past LATEST.
-const REST: i32 = 15;
+pub(crate) const REST: i32 = 15;
 
 /// Two jobs of a second that start here and straight after the first's rest end at LATEST.
 const LAST_TWO: i32 = LATEST - REST - 2;

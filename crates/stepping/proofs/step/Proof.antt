@@ -73,14 +73,14 @@ module _ (c : tie.After-last) where
 time-in-requires : tie.Need-time-in-requires
 time-in-requires c κs = let d = c .before in rw (first-back d) (cases (some d) .first-least)
 
-start-at-requires : tie.Need-start-at-requires
-start-at-requires c κs = search needs
+greater-requires : tie.Need-greater-requires
+greater-requires c κs = search needs
 
 left-out-requires : tie.Need-left-out-requires
 left-out-requires c κs = search needs
 
 -- The test of case 1 is that of the definition.
-module _ (c : tie.After-start-at) where
+module _ (c : tie.After-greater) where
   abbrev numbers : tie.After-last
   numbers = c .before .before .before
 
@@ -97,12 +97,12 @@ module _ (c : tie.After-start-at) where
       read-back (c .before .time-in .result) (c .before .time-in .ok)
       ∙ c .before .time-in .ensures ∙ ap (λ (z : ℤ). pointOf z .time) (first-back numbers)
 
-  start-is : toZ w32 (ofZ w32 (c .start-at .result)) ≡ maxZ (entry .args .ready) (pointOf (first numbers) .time)
+  start-is : toZ w32 (ofZ w32 (c .greater .result)) ≡ maxZ (entry .args .ready) (pointOf (first numbers) .time)
   start-is =
-      read-back (c .start-at .result) (c .start-at .ok)
-      ∙ c .start-at .ensures ∙ ap₂ maxZ (toZ-ofZ (entry .fits .ready)) free-is
+      read-back (c .greater .result) (c .greater .ok)
+      ∙ c .greater .ensures ∙ ap₂ maxZ (toZ-ofZ (entry .fits .ready)) free-is
 
-  test-is : ltZ (toZ w32 (ofZ w32 (c .before .before .last-start .result))) (toZ w32 (ofZ w32 (c .start-at .result)))
+  test-is : ltZ (toZ w32 (ofZ w32 (c .before .before .last-start .result))) (toZ w32 (ofZ w32 (c .greater .result)))
       ≡ ltZ (entry .args .deadline -ℤ pos (entry .args .takes)) (maxZ (entry .args .ready) (pointOf (first numbers) .time))
   test-is = ap₂ ltZ last-start-is start-is
 
@@ -116,7 +116,7 @@ time-in-requires-2 c κs = let d = numbers (c .before) in rw (last-back d) (case
 
 -- The test of case 3 is too.
 module _ (c : tie.After-time-in2) where
-  abbrev past : tie.After-start-at
+  abbrev past : tie.After-greater
   past = c .before .before
 
   can-start : ltZ (entry past .args .deadline -ℤ pos (entry past .args .takes))
@@ -179,7 +179,7 @@ step-spec =
     slice-copy-out-last
     last-start-requires
     time-in-requires
-    start-at-requires
+    greater-requires
     left-out-requires
     returns-2
     time-in-requires-2

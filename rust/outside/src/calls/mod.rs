@@ -3,6 +3,7 @@
 //! same input.
 
 mod halves;
+mod long_lists;
 mod openings;
 mod packing;
 mod planning;

@@ -1,12 +1,12 @@
--- `area::rested` meets its contract: the rest of the code is the rest of the definitions. No other proof opens it.
+-- `clock::rested` meets its contract: the rest of the code is the rest of the definitions. No other proof opens it.
 -- Assumes nothing.
 use mathlib.Core.Path.{ap, _∙_}
 use lib.IntN.{ℤ, pos, _+ℤ_}
 use mir.Facts.{toZ-ofZ}
 use Rattle.seconds.specs.Limits.{rest}
 use Rattle.seconds.specs.Signed.{signed}
-use Rattle.area.proofs.rested.Statement.{statement}
-use Rattle.area.proofs.rested.Tie as tie
+use Rattle.clock.proofs.rested.Statement.{statement}
+use Rattle.clock.proofs.rested.Tie as tie
 
 add-result : tie.Need-add-result
 add-result c = omega signed

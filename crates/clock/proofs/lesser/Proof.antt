@@ -1,12 +1,12 @@
--- `walking::lesser` meets its contract: the test is that of the definition.
+-- `clock::lesser` meets its contract: the test is that of the definition.
 -- Assumes nothing.
 use mathlib.Core.Path.{_≡_}
 use mathlib.Core.Bool.{true, false}
 use lib.Signed.{leZ}
 use mir.Facts.{toZ-ofZ}
 use Rattle.seconds.specs.Signed.{signed}
-use Rattle.walking.proofs.lesser.Statement.{statement}
-use Rattle.walking.proofs.lesser.Tie as tie
+use Rattle.clock.proofs.lesser.Statement.{statement}
+use Rattle.clock.proofs.lesser.Tie as tie
 
 returns : tie.Need-returns
 returns c =

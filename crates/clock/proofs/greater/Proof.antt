@@ -1,12 +1,12 @@
--- `starting::greater` meets its contract: the test is that of the definition.
+-- `clock::greater` meets its contract: the test is that of the definition.
 -- Assumes nothing.
 use mathlib.Core.Path.{_≡_}
 use mathlib.Core.Bool.{true, false}
 use lib.Signed.{leZ}
 use mir.Facts.{toZ-ofZ}
 use Rattle.seconds.specs.Signed.{signed}
-use Rattle.starting.proofs.greater.Statement.{statement}
-use Rattle.starting.proofs.greater.Tie as tie
+use Rattle.clock.proofs.greater.Statement.{statement}
+use Rattle.clock.proofs.greater.Tie as tie
 
 returns : tie.Need-returns
 returns c =

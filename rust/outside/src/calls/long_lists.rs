@@ -1,0 +1,31 @@
+//! Plans, extensions and openings of orders whose prefixes have many points.
+
+use super::Trial;
+use crate::reference;
+use trials::{dense_order, packed, wide_order, Order};
+
+impl Trial {
+    /// Plans two such orders, extends a start by each, and chooses between them.
+    pub fn long_lists(&mut self) {
+        let (one, other) = (self.order_of_long_lists(), self.order_of_long_lists());
+        let (first, second) = (packed(&one), packed(&other));
+        for (order, bytes) in [(&one, &first), (&other, &second)] {
+            self.plan_bytes(bytes);
+            self.extend_by(&[order.t0, 0], bytes);
+            self.tally.most_points = self.tally.most_points.max(reference::point_total(order));
+        }
+        self.weigh(&first, &second);
+    }
+
+    /// Half of the time one job of it is critical.
+    fn order_of_long_lists(&mut self) -> Order {
+        let draw = if self.random.once_in(2) { wide_order } else { dense_order };
+        let mut order = draw(&mut self.random);
+        if self.random.once_in(2) {
+            let job = self.random.below(order.jobs.len());
+            order.jobs[job].critical = 1;
+            order.jobs[job].weight = 0;
+        }
+        order
+    }
+}

@@ -1,0 +1,51 @@
+//! Orders whose prefixes have many scheduling points, which is what the planner's time depends on.
+
+use crate::orders::{full_order, LATEST, REST};
+use crate::{Job, Order, Random};
+
+/// An order of 48 optional jobs whose weights sum to 300, with windows that nearly every choice meets.
+pub fn wide_order(random: &mut Random) -> Order {
+    let mut order = full_order(random, 48);
+    for job in &mut order.jobs {
+        job.ready = random.within(-600, 600);
+        job.length = random.within(20, 400);
+        job.deadline = random.within(4_000, 12_000);
+    }
+    order
+}
+
+/// Weights of 48 jobs that sum to 300: after each job every weight up to the sum so far can be kept. The lists
+/// grow long early.
+const EVERY_SUM: [i32; 48] = [
+    1, 2, 4, 8, 16, 25, 19, 29, 19, 12, 40, 19, 16, 36, // 246 in all
+    2, 2, 2, 2, 2, 2, 2, 2, 2, 2, 2, 2, 2, 2, 2, 2, 2, 2, 2, 2, // 40
+    1, 1, 1, 1, 1, 1, 1, 1, 1, 1, 1, 1, 1, 1,
+];
+
+/// The worst order that was found for lists: no window binds, and each job takes somewhat longer than the fastest
+/// way to one weight less. So nearly every weight is a point, and the two lists of a merge alternate at random.
+pub fn dense_order(random: &mut Random) -> Order {
+    let mut fastest = vec![0]; // by the weight kept
+    let job = |(place, &weight): (usize, &i32)| {
+        let takes = fastest[weight as usize - 1] + random.within(REST + 1, 300);
+        keep(&mut fastest, weight as usize, takes);
+        Job {
+            number: place as i32,
+            critical: 0,
+            weight,
+            ready: -LATEST,
+            length: takes - REST,
+            deadline: LATEST,
+        }
+    };
+    Order { t0: -LATEST, jobs: EVERY_SUM.iter().enumerate().map(job).collect() }
+}
+
+/// What a job of this weight makes of the fastest ways: each weight with or without it.
+fn keep(fastest: &mut Vec<i32>, weight: usize, takes: i32) {
+    let without = fastest.clone();
+    fastest.resize(without.len() + weight, i32::MAX);
+    for (with, way) in fastest[weight..].iter_mut().zip(without) {
+        *with = (*with).min(way + takes);
+    }
+}
