@@ -7,8 +7,9 @@ use mathlib.Core.List.{List}
 use native.Mathlib.Omega.{arith}
 use lib.Dec.{ltb, eqb}
 use lib.IntN.{ℤ, pos}
-use lib.ListN.{length, getD}
-use borrow.Author.Tests.{lt-ltb, le-ltb, eq-eqb, ne-eqb, eqb-true, eqb-false}
+use lib.ListN.{length, getD, set}
+use lib.Seq.{getD-set-same, getD-set-other}
+use borrow.Author.Tests.{ltb-true, ltb-false, lt-ltb, le-ltb, eq-eqb, ne-eqb, eqb-true, eqb-false}
 use borrow.Table.Steps.{cases}
 use Rattle.seconds.specs.Signed.{signed}
 use Rattle.packed.specs.Places.{first}
@@ -43,6 +44,42 @@ again-here ns earlier later b h e s =
 pub again-on : (ns : List ℕ) (later : ℕ) → later < length ns → first (alike ns later) 0 later ≡ later
     → first (stoodEarlier ns) later (length ns) ≡ first (stoodEarlier ns) (later + 1) (length ns)
 again-on ns later b s = first-on (stoodEarlier ns) later (length ns) b (rw s (le-ltb later later (omega arith)))
+
+-- ---- marks
+
+-- The numbers of the first places have a mark.
+abbrev pub Marked : List ℕ → ℕ → List ℕ → Type 0
+Marked ns k met = (i : ℕ) → i < k → getD met (getD ns i 0) 0 ≡ 1
+
+-- One more.
+pub marked-more : (ns : List ℕ) (k : ℕ) (met : List ℕ) → getD ns k 0 < length met → Marked ns k met
+    → Marked ns (k + 1) (set met (getD ns k 0) 1)
+marked-more ns k met room m i h =
+    cases (eqb (getD ns i 0) (getD ns k 0))
+    (λ e. rw (eqb-true (getD ns i 0) (getD ns k 0) e) (getD-set-same met (getD ns k 0) 1 0 room))
+    (λ e. let apart = eqb-false (getD ns i 0) (getD ns k 0) e in
+    getD-set-other met (getD ns k 0) (getD ns i 0) 1 0 apart
+    ∙ m i (lt-of-other (λ (same : i ≡ k). apart (ap (λ (z : ℕ). getD ns z 0) same)) h))
+  where
+    lt-of-other : i ≢ k → i < k + 1 → i < k
+    lt-of-other n b = cases (ltb i k) (λ e. ltb-true i k e) (λ e. let le = ltb-false i k e in absurd (n (omega arith)))
+
+-- A number without a mark is unlike all before it: on to the next place.
+pub unmarked-on : (ns : List ℕ) (k : ℕ) (met : List ℕ) → k < length ns → Marked ns k met → getD met (getD ns k 0) 0 ≢ 1
+    → first (stoodEarlier ns) k (length ns) ≡ first (stoodEarlier ns) (k + 1) (length ns)
+unmarked-on ns k met b m new = again-on ns k b (first-unique (alike ns k) 0 k (first (alike ns k) 0 k) k (first-is (alike ns k) 0 k (omega arith)) here)
+  where
+    unlike : (i : ℕ) → i < k → getD ns i 0 ≢ getD ns k 0
+    unlike i h e = new (rw (sym e) (m i h))
+
+    here : IsFirst (alike ns k) 0 k k
+    here =
+        record {
+          from = omega arith;
+          to = omega arith;
+          passes = λ b. absurd (omega arith);
+          before = λ i a b. ne-eqb (getD ns i 0) (getD ns k 0) (unlike i b);
+        }
 
 -- ---- check 7
 

@@ -1,6 +1,7 @@
 // The refusals of an order, in packed bytes and in numbers: checks 1 to 7 and 9 of R24, the lowest that
 // applies (R25). Assumes nothing.
 ghost use mathlib.Core.Path.{_≡_};
+ghost use mathlib.Core.Bool.{true};
 ghost use mathlib.Core.List.{_++_};
 ghost use Prim.Native.Nat.{_/_, _≤_};
 ghost use lib.ListN.{length};
@@ -38,6 +39,23 @@ const MOST_JOBS: usize = 48;
 
 const MOST_WEIGHT: u64 = 300;
 
+// Whether it was seen that all numbers differ, by a mark for each number that was met.
+fn all_differ(numbers: &[u8]) -> bool
+    ensures { λ r. ⌜ (r ≡ true → firstAgain (now (numbers .entry)) ≡ length (now (numbers .entry))) ⌝ }
+{
+    let mut met = [0u8; 256];
+    let mut k = 0;
+    while k < numbers.len() {
+        let number = numbers[k] as usize;
+        if met[number] == 1 {
+            return false;
+        }
+        met[number] = 1;
+        k += 1;
+    }
+    true
+}
+
 // The first place whose number stood earlier in the list; its length if there is none.
 fn first_repeat(numbers: &[u8]) -> usize
     ensures { λ r. ⌜ r ≡ firstAgain (now (numbers .entry)) ⌝ }
@@ -56,6 +74,16 @@ fn first_repeat(numbers: &[u8]) -> usize
         later += 1;
     }
     found
+}
+
+// The same, without a search over pairs where all numbers differ, as in every order that is accepted.
+fn repeat_in(numbers: &[u8]) -> usize
+    ensures { λ r. ⌜ r ≡ firstAgain (now (numbers .entry)) ⌝ }
+{
+    if all_differ(numbers) {
+        return numbers.len();
+    }
+    first_repeat(numbers)
 }
 
 // Checks 1 to 5 on bytes.
@@ -167,7 +195,7 @@ fn judge_found(numbers: &[u8], jobs: Gathered) -> Verdict
     if bad < count {
         return Verdict::Refused(in_field(6, bad, jobs.field));
     }
-    let again = first_repeat(&numbers[..count]);
+    let again = repeat_in(&numbers[..count]);
     if again < count {
         return Verdict::Refused(at_place(7, again));
     }

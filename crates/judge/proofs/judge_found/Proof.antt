@@ -19,19 +19,19 @@ returns c =
     let a = t .before .before .args in
     rw (c .in-field .ensures, lt-ltb (a .jobs .place) (a .jobs .count) (t .if1 .taken))
 
-slice-aggregate-first-repeat : tie.Need-slice-aggregate-first-repeat
-slice-aggregate-first-repeat c =
+slice-aggregate-repeat-in : tie.Need-slice-aggregate-repeat-in
+slice-aggregate-repeat-in c =
     let s = c .before .before .before in
     sym (length-take-le (s .args .jobs .count) (now (s .args .numbers)) (s .pre))
 
-first-repeat-requires : tie.Need-first-repeat-requires
-first-repeat-requires c κs = search needs
+repeat-in-requires : tie.Need-repeat-in-requires
+repeat-in-requires c κs = search needs
 
 -- What the search found.
-found : (c : tie.After-first-repeat)
+found : (c : tie.After-repeat-in)
     → let a = c .before .before .before .before .args in
-    c .first-repeat .result ≡ firstAgain (take (a .jobs .count) (now (a .numbers)))
-found c = c .first-repeat .ensures
+    c .repeat-in .result ≡ firstAgain (take (a .jobs .count) (now (a .numbers)))
+found c = c .repeat-in .ensures
 
 at-place-requires : tie.Need-at-place-requires
 at-place-requires c κs = search needs
@@ -45,7 +45,7 @@ returns-2 c =
       c .at-place .ensures,
       le-ltb (a .jobs .place) (a .jobs .count) (r .before .before .if1 .left),
       ← (found r),
-      lt-ltb (r .first-repeat .result) (a .jobs .count) (t .if2 .taken),
+      lt-ltb (r .repeat-in .result) (a .jobs .count) (t .if2 .taken),
     )
 
 returns-3 : tie.Need-returns-3
@@ -55,10 +55,10 @@ returns-3 c =
     rw (
       le-ltb (a .jobs .place) (a .jobs .count) (r .before .before .if1 .left),
       ← (found r),
-      le-ltb (r .first-repeat .result) (a .jobs .count) (c .if2 .left),
+      le-ltb (r .repeat-in .result) (a .jobs .count) (c .if2 .left),
     )
 
 pub judge-found-spec : {M : Type 1} → statement M
 judge-found-spec =
     tie.close
-    (tie.spec in-field-requires returns slice-aggregate-first-repeat first-repeat-requires at-place-requires returns-2 returns-3)
+    (tie.spec in-field-requires returns slice-aggregate-repeat-in repeat-in-requires at-place-requires returns-2 returns-3)
