@@ -53,7 +53,7 @@ loop-again c =
     let met = l .loop .met in
     let room : getD ns k 0 < length met = omega (arith, l .loop .inv .1, c .before .shared-slice-known .given k) in (
       omega arith,
-      length-set met (getD ns k 0) 1 ∙ l .loop .inv .1,
+      length-set met (getD ns k 0) _ ∙ l .loop .inv .1,
       marked-more ns k met room (l .loop .inv .2),
       l .loop .inv .3 ∙ unmarked-on ns k met (omega arith) (l .loop .inv .2) (c .if1 .left),
     )
