@@ -2,11 +2,10 @@
 -- number, place and field a refusal by stages has.
 use Prim.Native.Nat.{ℕ, _+_, _*_, _/_, _≤_, _<_}
 use mathlib.Core.Path.{_≡_, refl, sym, ap, _∙_}
-use mathlib.Core.Bool.{Bool, true, false, not, cond, _&&_}
+use mathlib.Core.Bool.{Bool, false, not, cond}
 use mathlib.Core.List.{List, [], _∷_, _++_}
 use native.Mathlib.Omega.{arith}
 use lib.Dec.{T, leb, ltb, eqb}
-use lib.Ieee.Fits.{and-l, and-r}
 use lib.IntN.{ℤ, pos}
 use lib.ListN.{length, take}
 use lib.Seq.{length-take-le, getD-take}
@@ -16,7 +15,7 @@ use Rattle.seconds.specs.Ranges.{isTime}
 use Rattle.seconds.specs.Signed.{signed}
 use Rattle.packed.specs.declared.Refusal.{Refusal}
 use Rattle.packed.specs.Judge.{inField, plainly, Check, Verdict as Judged, fine, refused, judge, orElse, check}
-use Rattle.packed.specs.JudgeLaws.{judge-append, Tells, judge-tells}
+use Rattle.packed.specs.JudgeLaws.{judge-append, judge-tells, everyNumber, number-passes}
 use Rattle.order.specs.Job.{weightOf}
 use Rattle.packed.specs.Packed.{countOf, numbersOf, jobCount, jobsOf}
 use Rattle.packed.specs.Refusals.{headerChecks, listChecks, jobChecks, weightChecks, roomChecks, orderChecks, firstRepeat}
@@ -148,18 +147,11 @@ module _ (cs : List Check) (passed : judge cs ≡ fine) (need room more space : 
 
 -- No check of a list has a number above 10.
 abbrev pub upToTen : List Check → Bool
-upToTen [] = true
-upToTen (c ∷ cs) = leb (c .says .number) 10 && upToTen cs
-
-ten-tells : (cs : List Check) → T (upToTen cs) → Tells (λ r. r .number ≤ 10) cs
-ten-tells [] t = tt
-ten-tells (c ∷ cs) t =
-    let h : T (leb (c .says .number) 10) = search and-l in
-    (λ e. omega signed, ten-tells cs (search and-r))
+upToTen cs = everyNumber (λ n. leb n 10) cs
 
 -- Then no refusal by them has.
 pub up-to-ten : (cs : List Check) → T (upToTen cs) → {r : Refusal} → judge cs ≡ refused r → r .number ≤ 10
-up-to-ten cs t = judge-tells (λ r. r .number ≤ 10) cs (ten-tells cs t)
+up-to-ten cs t e = let h = number-passes (λ n. leb n 10) cs t e in omega signed
 
 -- ---- the place and the field of a refusal
 

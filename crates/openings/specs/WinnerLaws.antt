@@ -15,14 +15,14 @@ use Rattle.seconds.specs.Signed.{signed}
 use Rattle.profile.specs.Profile.{greater}
 use Rattle.packed.specs.declared.Refusal.{Refusal}
 use Rattle.packed.specs.Judge.{inField, Verdict as Judged, fine, refused, judge, orElse}
-use Rattle.packed.specs.JudgeLaws.{judge-append, stages-fine}
+use Rattle.packed.specs.JudgeLaws.{judge-append, stages-fine, given-before}
 use Rattle.packed.specs.Layout.{headerBytes}
 use Rattle.packed.specs.Places.{flat}
 use Rattle.packed.specs.Packed.{countOf, numbersOf, recordAt}
 use Rattle.packed.specs.PackedLaws.{flat-records}
 use Rattle.packed.specs.Refusals.{headerChecks, jobChecks, weightChecks, roomChecks, orderChecks}
 use Rattle.packed.specs.RefusalLaws.{room-fine}
-use Rattle.packed.specs.RefusalPlaces.{BadField, no-field, six-stays, six-order}
+use Rattle.packed.specs.RefusalPlaces.{BadField, no-field, six-order}
 use Rattle.packed.specs.Accepted.{order-fine}
 use Rattle.area.specs.Area.{area, cleared}
 use Rattle.judge.specs.Told.{stays, told-next, up-to-ten, Holds, holds-behind, named-check, named-order}
@@ -141,7 +141,7 @@ module _ (first second : List ℕ) (t : ℤ) (work : List ℤ) where
   unfolding choosingChecks
   verdict-six p f =
       let orders = orderChecks first ++ orderChecks second in
-      Iff·trans (six-stays orders (roomChecks area (length work)) tt p f) (there, back)
+      Iff·trans (given-before orders (roomChecks area (length work)) (inField 6 p f) tt) (there, back)
     where
       go : (v : Judged) → judge (orderChecks first) ≡ v → orElse v (judge (orderChecks second)) ≡ refused (inField 6 p f)
           → (judge (orderChecks first) ≡ refused (inField 6 p f))

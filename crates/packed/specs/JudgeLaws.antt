@@ -1,11 +1,15 @@
 -- The laws of judging: stages one behind the other, what it is to be fine, and what a refusal says.
 use Prim.Native.Nat.{ℕ, zero, suc}
 use mathlib.Core.Path.{_≡_, refl, sym, ap, subst, _∙_}
-use mathlib.Core.Bool.{true, false}
-use mathlib.Core.Logic.{_↔_}
+use mathlib.Core.Bool.{Bool, true, false, not, _&&_}
+use mathlib.Core.Logic.{_↔_, _≢_}
 use mathlib.Core.List.{List, [], _∷_, _++_}
 use native.Mathlib.Omega.{arith}
+use lib.Dec.{T, eqb}
+use lib.Ieee.Bits.{is-true}
+use lib.Ieee.Fits.{and-l, and-r}
 use lib.ListN.{getD}
+use borrow.Author.Tests.{not-true, eqb-false}
 use borrow.Table.Steps.{cases}
 use Rattle.packed.specs.declared.Refusal.{Refusal}
 use Rattle.packed.specs.Judge.{Check, Verdict, fine, refused, judge, orElse, check}
@@ -69,3 +73,45 @@ judge-tells P [] f h = absurd (refused-fine (sym h))
 judge-tells P (c ∷ cs) {r} f h = cases (c .applies)
     (λ e. subst P (refused-same (rw e at h)) (f .0 e))
     (λ e. judge-tells P cs (f .1) (rw e at h))
+
+-- ---- the number of a refusal
+
+-- The number of every check passes a test.
+abbrev pub everyNumber : (ℕ → Bool) → List Check → Bool
+everyNumber test [] = true
+everyNumber test (c ∷ cs) = test (c .says .number) && everyNumber test cs
+
+every-tells : (test : ℕ → Bool) (cs : List Check) → T (everyNumber test cs) → Tells (λ r. T (test (r .number))) cs
+every-tells test [] t = tt
+every-tells test (c ∷ cs) t = (λ e. search and-l, every-tells test cs (search and-r))
+
+-- Then that of the refusal does.
+pub number-passes : (test : ℕ → Bool) (cs : List Check) → T (everyNumber test cs) → {r : Refusal} → judge cs ≡ refused r
+    → T (test (r .number))
+number-passes test cs t = judge-tells (λ r. T (test (r .number))) cs (every-tells test cs t)
+
+-- No check has a number,
+abbrev pub without : ℕ → List Check → Bool
+without n cs = everyNumber (λ k. not (eqb k n)) cs
+
+-- so no refusal has.
+pub never : (n : ℕ) (cs : List Check) → T (without n cs) → {r : Refusal} → judge cs ≡ refused r → r .number ≢ n
+never n cs t e = eqb-false _ _ (not-true _ (is-true _ (number-passes (λ k. not (eqb k n)) cs t e)))
+
+-- A refusal that the second of two stages cannot give is given exactly when the first gives it,
+pub given-before : (cs ds : List Check) (s : Refusal) → T (without (s .number) ds) → judge (cs ++ ds) ≡ refused s ↔ (judge cs ≡ refused s)
+given-before cs ds s none = (λ e. go (judge cs) refl (sym (judge-append cs ds) ∙ e), λ e. rw (judge-append cs ds, e))
+  where
+    go : (v : Verdict) → judge cs ≡ v → orElse v (judge ds) ≡ refused s → judge cs ≡ refused s
+    go fine d e = absurd (never (s .number) ds none e refl)
+    go (refused r) d e = d ∙ e
+
+-- and one that the first cannot give, exactly when the first is passed and the second gives it.
+pub given-behind : (cs ds : List Check) (s : Refusal) → T (without (s .number) cs)
+    → judge (cs ++ ds) ≡ refused s ↔ ((judge cs ≡ fine) × (judge ds ≡ refused s))
+given-behind cs ds s none =
+    (λ e. go (judge cs) refl (sym (judge-append cs ds) ∙ e), λ h. rw (judge-append cs ds, h .0) (h .1))
+  where
+    go : (v : Verdict) → judge cs ≡ v → orElse v (judge ds) ≡ refused s → (judge cs ≡ fine) × (judge ds ≡ refused s)
+    go fine d e = (d, e)
+    go (refused r) d e = absurd (never (s .number) cs none (d ∙ e) refl)

@@ -9,15 +9,15 @@ use lib.Dec.{T, eqb, eqb→eq}
 use lib.Ieee.Bits.{is-true}
 use lib.Ieee.Fits.{and-l, and-r}
 use lib.IntN.{ℤ}
-use borrow.Author.Tests.{ltb-true, lt-ltb, not-true, eqb-false}
+use borrow.Author.Tests.{ltb-true, lt-ltb, not-true}
 use Rattle.order.specs.Halves.{offendsAt}
 use Rattle.packed.specs.declared.Refusal.{Refusal}
 use Rattle.packed.specs.LayoutLaws.{AreBytes}
 use Rattle.packed.specs.PlacesLaws.{IsFirst, first-unique}
 use Rattle.packed.specs.Packed.{countOf, numbersOf, jobCount, fieldsAt, jobsOf}
 use Rattle.packed.specs.PackedLaws.{numbers-count, fields-of-numbers}
-use Rattle.packed.specs.Judge.{inField, atPlace, plainly, Check, Verdict, fine, refused, judge, orElse}
-use Rattle.packed.specs.JudgeLaws.{judge-append, Tells, tells-append, judge-tells}
+use Rattle.packed.specs.Judge.{inField, atPlace, plainly, Check, Verdict, fine, refused, judge}
+use Rattle.packed.specs.JudgeLaws.{Tells, tells-append, judge-tells, without, given-before, given-behind}
 use Rattle.packed.specs.Refusals.{badField, badAt, firstBad, repeatedAt, headerChecks, listChecks, jobChecks, weightChecks}
 use Rattle.packed.specs.Refusals.{halvesChecks, roomChecks, orderChecks, numberChecks, unpackChecks, packChecks}
 use Rattle.packed.specs.RefusalLaws.{bad-is-first, repeat-is-first, offending-is-first}
@@ -129,62 +129,32 @@ pack-refusal t0 zs room e =
 
 -- ---- exactly when 6 is given
 
--- No check of a list is number 6.
-abbrev pub withoutSix : List Check → Bool
-withoutSix [] = true
-withoutSix (c ∷ cs) = not (eqb (c .says .number) 6) && withoutSix cs
-
-six-tells : (cs : List Check) → T (withoutSix cs) → Tells (λ r. r .number ≢ 6) cs
-six-tells [] t = tt
-six-tells (c ∷ cs) t =
-    let h : T (not (eqb (c .says .number) 6)) = search and-l in
-    (λ e. eqb-false _ _ (not-true _ (is-true _ h)), six-tells cs (search and-r))
-
-never-six : (cs : List Check) → T (withoutSix cs) → {p f : ℕ} → judge cs ≡ refused (inField 6 p f) → ⊥
-never-six cs t e = judge-tells (λ r. r .number ≢ 6) cs (six-tells cs t) e refl
-
--- A stage that has no 6 behind some checks changes nothing of it.
-pub six-stays : (cs ds : List Check) → T (withoutSix ds) → (p f : ℕ)
-    → judge (cs ++ ds) ≡ refused (inField 6 p f) ↔ (judge cs ≡ refused (inField 6 p f))
-six-stays cs ds none p f = (λ e. go (judge cs) refl (sym (judge-append cs ds) ∙ e), λ e. rw (judge-append cs ds, e))
-  where
-    go : (v : Verdict) → judge cs ≡ v → orElse v (judge ds) ≡ refused (inField 6 p f) → judge cs ≡ refused (inField 6 p f)
-    go fine d e = absurd (never-six ds none e)
-    go (refused r) d e = d ∙ e
-
 -- Checks give 6 exactly when a first stage is passed and a job is out of range, with the first such place and its first field.
 abbrev pub SixIs : List ℤ → List Check → List Check → Type 0
 SixIs zs before cs = (p f : ℕ) → judge cs ≡ refused (inField 6 p f) ↔ ((judge before ≡ fine) × BadField zs p f)
 
 -- So do checks with a stage behind them that has no 6.
-pub six-behind : (zs : List ℤ) (before cs ds : List Check) → T (withoutSix ds) → SixIs zs before cs → SixIs zs before (cs ++ ds)
-six-behind zs before cs ds none six p f = Iff·trans (six-stays cs ds none p f) (six p f)
+pub six-behind : (zs : List ℤ) (before cs ds : List Check) → T (without 6 ds) → SixIs zs before cs → SixIs zs before (cs ++ ds)
+six-behind zs before cs ds none six p f = Iff·trans (given-before cs ds (inField 6 p f) none) (six p f)
 
 -- 6 and 7 behind a stage that has no 6.
-pub six-jobs : (zs : List ℤ) (before : List Check) → T (withoutSix before) → SixIs zs before (before ++ jobChecks zs)
-six-jobs zs before none p f = (there, back)
+pub six-jobs : (zs : List ℤ) (before : List Check) → T (without 6 before) → SixIs zs before (before ++ jobChecks zs)
+six-jobs zs before none p f =
+    let behind = given-behind before (jobChecks zs) (inField 6 p f) none in
+    (λ e. (behind .0 e .0, found (behind .0 e .1)), λ h. behind .1 (h .0, back (h .1)))
   where
     found : judge (jobChecks zs) ≡ refused (inField 6 p f) → BadField zs p f
     found e = six-bad (judge-tells (RefusalIs zs) (jobChecks zs) (jobs-tell zs) e) refl
 
-    go : (v : Verdict) → judge before ≡ v → orElse v (judge (jobChecks zs)) ≡ refused (inField 6 p f)
-        → (judge before ≡ fine) × BadField zs p f
-    go fine d e = (d, found e)
-    go (refused r) d e = absurd (never-six before none (d ∙ e))
-
-    there : judge (before ++ jobChecks zs) ≡ refused (inField 6 p f) → (judge before ≡ fine) × BadField zs p f
-    there e = go (judge before) refl (sym (judge-append before (jobChecks zs)) ∙ e)
-
-    back : (judge before ≡ fine) × BadField zs p f → judge (before ++ jobChecks zs) ≡ refused (inField 6 p f)
-    back h =
-        let b = h .1 in
+    back : BadField zs p f → judge (jobChecks zs) ≡ refused (inField 6 p f)
+    back b =
         let here : firstBad zs ≡ p = first-unique (badAt zs) 0 (jobCount zs) (firstBad zs) p (bad-is-first zs) (b .first) in
         let its : badField (fieldsAt zs p) ≡ f =
         field-unique (fieldsAt zs p) _ f (bad-found zs (b .first) (b .there) .field) (b .field) in
-        rw (judge-append before (jobChecks zs), h .0, jobs-judge zs, here, lt-ltb p (jobCount zs) (b .there), its)
+        rw (jobs-judge zs, here, lt-ltb p (jobCount zs) (b .there), its)
 
 -- 9 behind them.
-six-weighed : (zs : List ℤ) (before : List Check) → T (withoutSix before)
+six-weighed : (zs : List ℤ) (before : List Check) → T (without 6 before)
     → SixIs zs before (before ++ jobChecks zs ++ weightChecks 0 zs)
 unfolding weightChecks
 six-weighed zs before none = six-behind zs before (before ++ jobChecks zs) (weightChecks 0 zs) tt (six-jobs zs before none)
