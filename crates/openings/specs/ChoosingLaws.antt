@@ -23,9 +23,10 @@ use Rattle.reading.specs.declared.Found.the-variants.{At}
 use Rattle.judge.specs.Verdicts.{verdictOf}
 use Rattle.judge.specs.Told.{refusal-told, stays, told-next}
 use Rattle.judge.specs.declared.Verdict.the-variants.{Refused as Stopped}
+use Rattle.weighing.specs.Weighing.{weightIn}
 use Rattle.openings.specs.Choosing.{openingWorth, byWorth, toFirst, winnerBy, choosingChecks, choosingVerdict}
 use Rattle.openings.specs.Choosing.{chosenBy, workBy, chosenOf, Asked, partOf, placeOf, Handed, winnerOf}
-use Rattle.openings.specs.Weighing.{weightIn, CanCompare}
+use Rattle.openings.specs.Comparing.{CanCompare}
 use Rattle.openings.specs.declared.Chosen.{Chosen}
 use Rattle.openings.specs.declared.Chosen.the-variants.{Refused, First, Second}
 

@@ -2,20 +2,18 @@
 // winner's records. Any bytes, time and work area have an answer. Assumes nothing.
 use area::AREA;
 use area::clear;
-use fields::header_at;
-use filling::fill_last;
-use filling::start_at;
 use judge::Verdict;
 use judge::judge_order;
 use packed::Refusal;
 use packed::plainly;
 use packed::without_place;
 use reading::Found;
-use reading::last_by;
+use weighing::weigh;
 ghost use mathlib.Core.Path.{_≡_};
 ghost use mathlib.Core.Bool.{true};
-ghost use Rattle.openings.specs.Choosing.{openingWorth, byWorth, Asked, Handed};
-ghost use Rattle.openings.specs.Weighing.{weightIn, CanWeigh, CanCompare};
+ghost use Rattle.weighing.specs.Weighing.{weightIn};
+ghost use Rattle.openings.specs.Choosing.{byWorth, Asked, Handed};
+ghost use Rattle.openings.specs.Comparing.{CanCompare};
 
 // What the question answers: a refusal, without its place since it does not say of which opening it would be; or which of the
 // two openings wins.
@@ -23,19 +21,6 @@ pub enum Chosen {
     Refused(Refusal),
     First,
     Second,
-}
-
-// The last point of an opening's profile by a time, from the lists of all its jobs.
-fn weigh(bytes: &[u8], t: i32, work: &mut [i32]) -> Found
-    requires { ⌜ CanWeigh (now bytes) (now work) ⌝ }
-    ensures { λ r. ⌜ weightIn r ≡ openingWorth (now (bytes .entry)) t ⌝ }
-{
-    let header = header_at(bytes);
-    let n = header.count;
-    let t0 = header.t0;
-    start_at(work, t0);
-    let last = fill_last(work, bytes, n, 1);
-    last_by(work, last.place, last.count, t)
 }
 
 // Which of two openings wins, by the point that was found for each: the heavier, and of equal ones the first.

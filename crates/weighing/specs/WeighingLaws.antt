@@ -1,4 +1,4 @@
--- The laws of weighing an opening by its lists: each step can be made, and the weight found is what the opening is worth.
+-- The laws of weighing an order by its lists: each step can be made, and the weight found is what the order is worth.
 use Prim.Native.Nat.{ℕ, _≤_}
 use mathlib.Core.Path.{_≡_, refl, ap, _∙_}
 use mathlib.Core.List.{List, [], _∷_}
@@ -28,8 +28,7 @@ use Rattle.reading.specs.Reading.{found}
 use Rattle.reading.specs.declared.Found.{Found}
 use Rattle.filling.specs.Lists.{CanFillLast, FilledLast}
 use Rattle.filling.specs.Begin.{CanStart}
-use Rattle.openings.specs.Choosing.{openingWorth}
-use Rattle.openings.specs.Weighing.{weightIn, CanWeigh}
+use Rattle.weighing.specs.Weighing.{weightIn, CanWeigh}
 
 -- The weight in the code's answer is the weight of the point that was found.
 found-weight : (o : Option Point) → weightIn (found o) ≡ Option·map (λ (p : Point). p .weight) o
@@ -73,16 +72,16 @@ module _ {bytes : List ℕ} {work : List ℤ} (f : CanWeigh bytes work) where
           }
 
       module _ {last : Prefix} {filled : List ℤ} (lists : FilledLast bytes 1 begun last filled) where
-        -- the last of them is the opening's profile,
+        -- the last of them is the order's profile,
         last-is : listAt filled (last .place) (last .count) ≡ orderProfile (orderOf bytes)
         unfolding orderOf
         last-is =
             lists .is
             ∙ ap (λ (ps : List Point). extend ps (jobsIn bytes)) (first-is ∙ ap (λ (t : ℤ). startPoint t ∷ []) (read .t0))
 
-        -- and the weight of its last point by a time is what the opening is worth.
+        -- and the weight of its last point by a time is what the order is worth.
         pub weighed : {t by : ℤ} {r : Found} → by ≡ t → r ≡ found (lookup (listAt filled (last .place) (last .count)) by)
-            → weightIn r ≡ openingWorth bytes t
+            → weightIn r ≡ worth (orderProfile (orderOf bytes)) t
         weighed {t} same e =
             rw (e, same)
             (found-weight (lookup (listAt filled (last .place) (last .count)) t)

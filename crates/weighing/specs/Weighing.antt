@@ -1,4 +1,4 @@
--- What the parts of the question ask of their callers and give. Definitions only.
+-- What weighing an order asks of its callers and gives. Definitions only.
 use Prim.Native.Nat.{ℕ, _≤_}
 use mathlib.Core.Path.{_≡_}
 use mathlib.Core.List.{List}
@@ -16,12 +16,7 @@ abbrev pub weightIn : Found → Option ℕ
 weightIn Nothing = none
 weightIn (At w t) = some w
 
--- An opening can be weighed: it is accepted, and there is room for its lists.
+-- An order can be weighed: it is accepted, and there is room for its lists.
 pub record CanWeigh (bytes : List ℕ) (work : List ℤ) : Type 0 where
   pub accepted : judge (orderChecks bytes) ≡ fine
   pub room : area ≤ length work
-
--- Two openings can be compared: both are accepted.
-pub record CanCompare (first second : List ℕ) : Type 0 where
-  pub one : judge (orderChecks first) ≡ fine
-  pub other : judge (orderChecks second) ≡ fine

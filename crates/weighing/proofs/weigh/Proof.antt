@@ -1,4 +1,4 @@
--- `openings::weigh` meets its contract: the lists of all jobs are filled behind the first, and the last is searched.
+-- `weighing::weigh` meets its contract: the lists of all jobs are filled behind the first, and the last is searched.
 -- Assumes nothing.
 use Prim.Native.Nat.{_≤_}
 use mathlib.Core.List.{[], _∷_}
@@ -10,9 +10,9 @@ use Rattle.profile.specs.Profile.{startPoint}
 use Rattle.fields.specs.Facts.{HeaderRead, header-read}
 use Rattle.area.specs.Area.{area}
 use Rattle.codes.specs.Held.{Held}
-use Rattle.openings.specs.WeighingLaws.{header-there, t0-kept, can-start, can-fill, weighed}
-use Rattle.openings.proofs.weigh.Statement.{statement}
-use Rattle.openings.proofs.weigh.Tie as tie
+use Rattle.weighing.specs.WeighingLaws.{header-there, t0-kept, can-start, can-fill, weighed}
+use Rattle.weighing.proofs.weigh.Statement.{statement}
+use Rattle.weighing.proofs.weigh.Tie as tie
 
 header-at-requires : tie.Need-header-at-requires
 header-at-requires c κs = header-there (c .before .pre)
