@@ -12,14 +12,16 @@ import sys
 
 PARTS = [
     ('The theory: what a plan and a profile are', '''
-        seconds Limits, seconds Ranges, order Job, order Choice, order Halves, profile Profile, plan Plan'''),
+        seconds Limits, seconds Ranges, order Job, order Choice, order Halves, profile Profile, plan Plan,
+        legal Legal'''),
     ('The calls: bytes, refusals, answers', '''
         seconds Twos, heat Heat, heat Answer,
         packed Layout, packed Places, packed Packed, packed Judge, packed Refusals,
         unpack Answer, pack Answer, fields Fields, reader Reading, reader_struct Standing,
         profiles Numbers, profiles Answer, point_records Records, better Answer,
         area Area, filling After, planner Calls, halves Calls, extending Calls, openings Choosing,
-        packed_answers Numbers, plan_answers Numbers, text Decimal, report Report'''),
+        packed_plan Plan, plan_writer Calls, checking Calls, best_plan Calls,
+        packed_answers Numbers, plan_answers Numbers, verdict_answers Numbers, text Decimal, report Report'''),
 ]
 IMPORT = re.compile(r'(?:unfoldable )?(?:pub |ghost )?use Rattle·(\w+?)(?:·specs\.specs|\.specs)\.(\w+)\.')
 LAW = re.compile(r'(pub )?\S+ : |.*\b(refl|omega|rw|cc|search|unfolding)\b')

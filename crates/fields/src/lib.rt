@@ -48,7 +48,7 @@ const COUNT: u64 = 0x400_0000;
 const T0: u64 = 0x100;
 
 // The number that some bytes make, the first highest.
-fn word_at(bytes: &[u8], at: usize, count: usize) -> u64
+pub fn word_at(bytes: &[u8], at: usize, count: usize) -> u64
     requires { ⌜ WordIn (now bytes) at count ⌝ }
     ensures { λ r. ⌜ r ≡ numberOf (take count (drop at (now (bytes .entry)))) ⌝ }
 {
@@ -63,7 +63,7 @@ fn word_at(bytes: &[u8], at: usize, count: usize) -> u64
 }
 
 // A time from its 18 bits: 131,072 and more is its value less 262,144.
-fn time_of(bits: u64) -> i32
+pub fn time_of(bits: u64) -> i32
     requires { ⌜ bits < 262144 ⌝ }
     ensures { λ r. ⌜ r ≡ bitsTo 18 bits ⌝ }
 {
@@ -109,7 +109,7 @@ pub fn header_at(bytes: &[u8]) -> Header
 }
 
 // The 18 bits of a time: below 0 it is its value and 262,144.
-fn time_bits(time: i32) -> u64
+pub fn time_bits(time: i32) -> u64
     requires { ⌜ InTime time ⌝ }
     ensures { λ r. ⌜ r ≡ toBits 18 time ⌝ }
 {
@@ -120,7 +120,7 @@ fn time_bits(time: i32) -> u64
 }
 
 // A number as so many bytes, the first highest, written at a place; the last is written first.
-fn put_word(bytes: &mut [u8], at: usize, count: usize, word: u64)
+pub fn put_word(bytes: &mut [u8], at: usize, count: usize, word: u64)
     requires { ⌜ WordRoom (now bytes) at count word ⌝ }
     ensures { λ r. ⌜ now (bytes .exit) ≡ take at (now (bytes .entry)) ++ bytesOf count word ++ drop (at + count) (now (bytes .entry)) ⌝ }
 {

@@ -155,6 +155,11 @@ bytes-digits : (bs : List ℕ) → AreBytes bs → Digits (replicate (length bs)
 bytes-digits [] h = no-digit
 bytes-digits (b ∷ bs) h = digit (h 0) (bytes-digits bs (λ i. h (suc i)))
 
+digits-bytes : (k : ℕ) {bs : List ℕ} → Digits (replicate k 8) bs → AreBytes bs
+digits-bytes zero no-digit i = omega arith
+digits-bytes (suc k) (digit h d) zero = h
+digits-bytes (suc k) (digit h d) (suc i) = digits-bytes k d i
+
 -- Bytes make a number of 8 bits for each.
 pub numberOf-lt : (bs : List ℕ) → AreBytes bs → numberOf bs < 2 ^ (8 * length bs)
 unfolding numberOf
@@ -170,7 +175,12 @@ pub length-bytesOf : (k n : ℕ) → length (bytesOf k n) ≡ k
 unfolding bytesOf
 length-bytesOf k n = length-cut (replicate k 8) n ∙ length-replicate k 8
 
--- They make it again, if it has 8 bits for each.
+-- They are bytes, if it has 8 bits for each,
+pub bytesOf-bytes : (k : ℕ) {n : ℕ} → n < 2 ^ (8 * k) → AreBytes (bytesOf k n)
+unfolding bytesOf
+bytesOf-bytes k h = digits-bytes k (cut-digits (replicate k 8) (rw (bytes-total k) h))
+
+-- and make it again.
 pub numberOf-bytesOf : (k : ℕ) {n : ℕ} → n < 2 ^ (8 * k) → numberOf (bytesOf k n) ≡ n
 numberOf-bytesOf k {n} h =
     unfold numberOf bytesOf in rw (length-bytesOf k n) (join-cut (replicate k 8) (rw (bytes-total k) h))

@@ -1,0 +1,62 @@
+-- `best_plan::keeps_most` meets its contract: the greatest weight of the order's profile decides.
+-- Assumes nothing.
+use mathlib.Core.Path.{_≡_}
+use denote.Ref.{now}
+use borrow.Author.Needs.{needs}
+use Rattle.seconds.specs.Limits.{rest, latestFree}
+use Rattle.profile.specs.Profile.{worth, orderProfile}
+use Rattle.packed.specs.Packed.{orderOf}
+use Rattle.fields.specs.Facts.{HeaderRead, header-read}
+use Rattle.weighing.specs.Weighing.{weightIn}
+use Rattle.best_plan.specs.CallLaws.{header-there, mask-there, can-sum, can-weigh, most-weighed}
+use Rattle.best_plan.proofs.keeps_most.Statement.{statement}
+use Rattle.best_plan.proofs.keeps_most.Tie as tie
+
+header-at-requires : tie.Need-header-at-requires
+header-at-requires c κs = header-there (c .before .before .pre)
+
+-- The header that was read is the order's.
+read : (c : tie.After-header-at) → HeaderRead (now (c .before .before .before .args .order)) (c .header-at .result)
+read c = header-read (now (c .before .before .before .args .order)) (c .header-at .result) (c .header-at .ensures)
+
+mask-of-requires : tie.Need-mask-of-requires
+mask-of-requires c κs = mask-there (c .before .before .before .pre)
+
+kept-weight-requires : tie.Need-kept-weight-requires
+kept-weight-requires c κs = let h = c .before in can-sum (h .before .before .before .pre) (read h)
+
+weigh-requires : tie.Need-weigh-requires
+weigh-requires c κs = can-weigh (c .before .before .before .before .before .before .pre)
+
+not-above-requires : tie.Need-not-above-requires
+not-above-requires c κs = search needs
+
+same-length : tie.Need-same-length
+same-length c = search needs
+
+-- The order was weighed at the latest time: the code's is tied to the rest here.
+weighed : (c : tie.After-weigh) → let s = c .before .before .before .before .before .before .before in
+    weightIn (c .weigh .result) ≡ worth (orderProfile (orderOf (now (s .args .order)))) latestFree
+unfolding rest
+weighed c = c .weigh .ensures
+
+returns : tie.Need-returns
+returns c =
+    let w = c .before .before in
+    let k = w .before .before in
+    let m = k .before in
+    let h = m .before in
+    most-weighed (h .before .before .before .pre) (read h) (m .mask-of .ensures) (k .kept-weight .ensures) (weighed w)
+    (c .not-above .ensures)
+
+pub keeps-most-spec : {M : Type 1} → statement M
+keeps-most-spec =
+    tie.close
+    (tie.spec
+    header-at-requires
+    mask-of-requires
+    kept-weight-requires
+    weigh-requires
+    not-above-requires
+    same-length
+    returns)

@@ -1,0 +1,2 @@
+-- The answers of checking in numbers.
+pub mod Numbers
