@@ -10,12 +10,12 @@
  * as many elements as the length beside it says; a buffer that a call writes overlaps no other buffer of that
  * call. Beyond that a call takes any numbers and any bytes and ends with an answer.
  *
- * Lengths count elements: bytes of an order, numbers of a list, records of a list of points. A buffer may be
+ * Lengths count elements: bytes of an order or a plan, numbers of a list, records of a list of points. A buffer may be
  * longer than a call needs; what lies past the part needed stays as it was. No call allocates or keeps a pointer.
  *
- * Of several refusals the lowest number is given, but for 13, which comes after 9 and before 10; those of a second
- * opening, 1 to 9, come after all of the first's (R25). In a refused answer every figure is 0 but the refusal, the
- * place for 6, 7 and 13, the field for 6, and where a reader stands (R26).
+ * Of several refusals the lowest number is given, but for 13, 14 and 15, which come after 9 and before 10; those of a
+ * second opening, 1 to 9, come after all of the first's (R25). In a refused answer every figure is 0 but the refusal,
+ * the place for 6, 7 and 13, the field for 6, and where a reader stands (R26).
  *
  * The work area's first LEAFANCHOR_WORK_AREA numbers are 0 after every call that has one and passes refusal
  * 10, refused with 11 or not (R29). */
@@ -33,9 +33,9 @@ extern "C" {
  * one rises then. */
 #define LEAFANCHOR_VERSION_MAJOR 0
 /** The version's second figure: it rises when something is added. */
-#define LEAFANCHOR_VERSION_MINOR 4
+#define LEAFANCHOR_VERSION_MINOR 5
 /** The version's third figure: it rises when something is mended or made smaller. */
-#define LEAFANCHOR_VERSION_PATCH 1
+#define LEAFANCHOR_VERSION_PATCH 0
 /** The version as text, "MAJOR.MINOR.PATCH". */
 #define LEAFANCHOR_VERSION \
     LEAFANCHOR_QUOTED(LEAFANCHOR_VERSION_MAJOR) "." LEAFANCHOR_QUOTED(LEAFANCHOR_VERSION_MINOR) "." \
@@ -59,6 +59,7 @@ extern "C" {
 #define LEAFANCHOR_JOB_NUMBERS 6         /**< numbers of an unpacked job, those of leafanchor_job in its order */
 #define LEAFANCHOR_ORDER_NUMBERS 288     /**< numbers of the longest unpacked order */
 #define LEAFANCHOR_STARTS 48             /**< starts of the longest plan */
+#define LEAFANCHOR_PLAN_BYTES 114        /**< bytes of the longest packed plan: 48 bits, and 18 a start */
 #define LEAFANCHOR_PROFILE_ROOM 602      /**< numbers that extend and better-of ask room for: 301 points */
 #define LEAFANCHOR_WORK_AREA 14749       /**< numbers of the work area that planning is lent */
 #define LEAFANCHOR_LEFT_OUT 200000       /**< the start of a job that is left out */
@@ -85,7 +86,9 @@ enum leafanchor_refusal {
     LEAFANCHOR_BUFFER_TOO_SHORT = 10,     /**< a buffer is too short */
     LEAFANCHOR_NO_FEASIBLE_CHOICE = 11,   /**< no choice is feasible (choosing: neither has a point by t) */
     LEAFANCHOR_CELL_TOO_COLD = 12,        /**< the cell is below -30 degrees */
-    LEAFANCHOR_NOT_OF_HALVES = 13         /**< the order is not of halves; the place is the first offending job's */
+    LEAFANCHOR_NOT_OF_HALVES = 13,        /**< the order is not of halves; the place is the first offending job's */
+    LEAFANCHOR_PLAN_WRONG_LENGTH = 14,    /**< the packed plan is under 6 bytes, or not as long as its mask asks for */
+    LEAFANCHOR_PLAN_STRAY_BITS = 15       /**< the packed plan has bits set beyond the order's jobs or at its end */
 };
 
 /** A phrase for a person.
@@ -109,6 +112,8 @@ static inline const char *leafanchor_phrase(uint32_t refusal)
     case LEAFANCHOR_NO_FEASIBLE_CHOICE: return "no choice is feasible";
     case LEAFANCHOR_CELL_TOO_COLD: return "the cell is below -30 degrees";
     case LEAFANCHOR_NOT_OF_HALVES: return "the order is not of halves";
+    case LEAFANCHOR_PLAN_WRONG_LENGTH: return "the length does not fit the packed plan's mask";
+    case LEAFANCHOR_PLAN_STRAY_BITS: return "the packed plan has stray bits set";
     default: return "no such refusal";
     }
 }
@@ -207,9 +212,9 @@ typedef struct leafanchor_unpack_answer {
     int32_t t0;       /**< its bus-free time */
 } leafanchor_unpack_answer;
 
-/** What packing gives beside the bytes. */
+/** What packing an order and writing a plan give beside the bytes. */
 typedef struct leafanchor_pack_answer {
-    uint32_t refusal; /**< 3 to 7, 9, 10 or 0 */
+    uint32_t refusal; /**< packing: 3 to 7, 9, 10 or 0; writing a plan: 1 to 7, 9 to 11 or 0 */
     size_t place;     /**< of the refused job, for 6 and 7 */
     uint32_t field;   /**< of that job, for 6 */
     size_t bytes;     /**< written */
@@ -290,6 +295,14 @@ typedef struct leafanchor_halves_answer {
     uint32_t points;       /**< in the profiles of the order's prefixes, together */
     uint32_t seconds_lost; /**< the lengths of the non-critical jobs left out, added */
 } leafanchor_halves_answer;
+
+/** Whether a plan is legal, or best. */
+typedef struct leafanchor_verdict_answer {
+    uint32_t refusal; /**< 1 to 7, 9, 14, 15 or 0; for best also 10 */
+    size_t place;     /**< of the refused job, for 6 and 7 */
+    uint32_t field;   /**< of that job, for 6 */
+    uint32_t yes;     /**< 1 where it is, else 0 */
+} leafanchor_verdict_answer;
 
 /** Which opening is worth more. */
 typedef struct leafanchor_question_answer {
@@ -421,6 +434,43 @@ leafanchor_plan_answer leafanchor_plan(const uint8_t *order, size_t order_len, i
 LEAFANCHOR_MUST_USE
 leafanchor_halves_answer leafanchor_plan_halves(const uint8_t *order, size_t order_len, int32_t *starts,
                                                 size_t starts_len, int32_t *work, size_t work_len);
+
+/** Writes the plan of leafanchor_plan in packed bytes (R37, R40): legal and best. Refusals 1 to 7 and 9 to 11 write no
+ * byte.
+ * @param order the packed order
+ * @param order_len its bytes
+ * @param out written: the packed plan
+ * @param out_len room for LEAFANCHOR_PLAN_BYTES, however short the plan is
+ * @param work the work area
+ * @param work_len room for LEAFANCHOR_WORK_AREA numbers
+ * @return the bytes written */
+LEAFANCHOR_MUST_USE
+leafanchor_pack_answer leafanchor_write_plan(const uint8_t *order, size_t order_len, uint8_t *out, size_t out_len,
+                                             int32_t *work, size_t work_len);
+
+/** Whether a packed plan, of any planner, is legal for an order (R38): all critical jobs kept, no start before t0 or
+ * its job's ready time, rests observed, deadlines met. Refusals 1 to 7 and 9 of the order, then 14 and 15 of the plan.
+ * @param order the packed order
+ * @param order_len its bytes
+ * @param plan the packed plan: the jobs kept and the start of each (R37)
+ * @param plan_len its bytes
+ * @return yes or no */
+LEAFANCHOR_MUST_USE
+leafanchor_verdict_answer leafanchor_legal(const uint8_t *order, size_t order_len, const uint8_t *plan,
+                                           size_t plan_len);
+
+/** Whether a packed plan, of any planner, is best for an order (R39): legal, and no feasible choice keeps more weight.
+ * Refusals 1 to 7 and 9 of the order, 14 and 15 of the plan, then 10; no for a plan that is not legal.
+ * @param order the packed order
+ * @param order_len its bytes
+ * @param plan the packed plan: the jobs kept and the start of each (R37)
+ * @param plan_len its bytes
+ * @param work the work area
+ * @param work_len room for LEAFANCHOR_WORK_AREA numbers
+ * @return yes or no */
+LEAFANCHOR_MUST_USE
+leafanchor_verdict_answer leafanchor_best(const uint8_t *order, size_t order_len, const uint8_t *plan,
+                                          size_t plan_len, int32_t *work, size_t work_len);
 
 /** Asks which of two openings is worth more at a time; equal goes to the first (R17). Refusals 1 to 7 and 9 of
  * either opening, 10 and 11 name no winner. Which opening one of 1 to 9 is about: plan the first alone. It gives that
@@ -613,6 +663,9 @@ static inline leafanchor_lookup_answer leafanchor_profile_lookup(const leafancho
     OFFSET(halves_answer, mask, 24) OFFSET(halves_answer, kept, 32) OFFSET(halves_answer, kept_weight, 36)    \
     OFFSET(halves_answer, lost_weight, 40) OFFSET(halves_answer, finish, 44)                                  \
     OFFSET(halves_answer, points, 48) OFFSET(halves_answer, seconds_lost, 52)                                 \
+    SIZE(verdict_answer, 24)                                                                                  \
+    OFFSET(verdict_answer, refusal, 0) OFFSET(verdict_answer, place, 8) OFFSET(verdict_answer, field, 16)     \
+    OFFSET(verdict_answer, yes, 20)                                                                           \
     SIZE(question_answer, 12)                                                                                 \
     OFFSET(question_answer, refusal, 0) OFFSET(question_answer, field, 4) OFFSET(question_answer, winner, 8)  \
     SIZE(choose_answer, 32)                                                                                   \
@@ -645,6 +698,7 @@ LEAFANCHOR_HAS_SIZE(profile, 2416)
 LEAFANCHOR_HOLDS(LEAFANCHOR_ORDER_BYTES == 4 + 8 * LEAFANCHOR_MOST_JOBS, "bytes of an order")
 LEAFANCHOR_HOLDS(LEAFANCHOR_ORDER_NUMBERS == LEAFANCHOR_JOB_NUMBERS * LEAFANCHOR_MOST_JOBS, "numbers of an order")
 LEAFANCHOR_HOLDS(LEAFANCHOR_STARTS == LEAFANCHOR_MOST_JOBS, "starts of a plan")
+LEAFANCHOR_HOLDS(LEAFANCHOR_PLAN_BYTES == (48 + 18 * LEAFANCHOR_STARTS + 7) / 8, "bytes of a plan")
 LEAFANCHOR_HOLDS(LEAFANCHOR_HALVES_APART == LEAFANCHOR_HIGHEST_HALF + 1, "numbers of halves")
 LEAFANCHOR_HOLDS(LEAFANCHOR_PROFILE_ROOM == 2 * 301, "numbers of a profile")
 LEAFANCHOR_HOLDS(LEAFANCHOR_PROFILE_ROOM >= LEAFANCHOR_ORDER_NUMBERS, "an order unpacks into a profile's room")

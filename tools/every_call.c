@@ -1,7 +1,7 @@
-/* Calls every function of the header, on the worked figures P1 to P11, at the edges of the rest, on orders of halves
- * and on each field out of range, and says which answer differs. That the header declares what the library defines, and
- * that its own calls over jobs and profiles give what the plain ones give, is seen here from C. Compiles as C11 and as
- * C++17. */
+/* Calls every function of the header, on the worked figures P1 to P11, at the edges of the rest, on orders of halves,
+ * on plans of P1 and on each field out of range, and says which answer differs. That the header declares what the
+ * library defines, and that its own calls over jobs and profiles give what the plain ones give, is seen here from C.
+ * Compiles as C11 and as C++17. */
 #include "leafanchor.h"
 
 #include <stdio.h>
@@ -239,7 +239,68 @@ static void not_of_halves(void)
     plan = leafanchor_plan_halves(order, 44, starts, 5, work, LEAFANCHOR_WORK_AREA); /* P1 */
     CHECK(plan.refusal == LEAFANCHOR_NOT_OF_HALVES && plan.place == 1);
     CHECK(strcmp(leafanchor_phrase(13), "the order is not of halves") == 0);
-    CHECK(strcmp(leafanchor_phrase(14), "no such refusal") == 0);
+}
+
+/* Our plan of P1 in packed bytes: jobs 7, 3, 5 and 9, at -600, -90, 225 and 340. */
+static const uint8_t our_plan[] = {0xD8, 0, 0, 0, 0, 0, 0xFF, 0x6A, 0x3F, 0xFA, 0x60, 0x03, 0x84, 0x01, 0x54};
+
+/* Our plan written, for P1 and for an order of no jobs, and rooms that are too short: nothing is written then. */
+static void written_plans(void)
+{
+    static const uint8_t empty[] = {0, 0, 0, 0}, nothing[] = {0, 0, 0, 0, 0, 0, 0xAA};
+    static uint8_t out[LEAFANCHOR_PLAN_BYTES];
+    memset(out, 0xAA, sizeof out);
+    leafanchor_pack_answer written =
+        leafanchor_write_plan(order, 44, out, LEAFANCHOR_PLAN_BYTES - 1, work, LEAFANCHOR_WORK_AREA);
+    CHECK(written.refusal == LEAFANCHOR_BUFFER_TOO_SHORT && written.bytes == 0 && out[0] == 0xAA);
+    written = leafanchor_write_plan(empty, 4, out, LEAFANCHOR_PLAN_BYTES, work, LEAFANCHOR_WORK_AREA - 1);
+    CHECK(written.refusal == LEAFANCHOR_BUFFER_TOO_SHORT && written.bytes == 0 && out[0] == 0xAA);
+    written = leafanchor_write_plan(empty, 4, out, LEAFANCHOR_PLAN_BYTES, work, LEAFANCHOR_WORK_AREA);
+    CHECK(written.refusal == 0 && written.bytes == 6 && memcmp(out, nothing, sizeof nothing) == 0);
+    written = leafanchor_write_plan(order, 44, out, LEAFANCHOR_PLAN_BYTES, work, LEAFANCHOR_WORK_AREA);
+    CHECK(written.refusal == 0 && written.place == 0 && written.field == 0 && written.bytes == 15);
+    CHECK(memcmp(out, our_plan, sizeof our_plan) == 0 && out[15] == 0xAA);
+}
+
+/* Whether a plan is told legal and best so, both without a refusal. */
+static int judged(const uint8_t *plan, size_t plan_len, uint32_t is_legal, uint32_t is_best)
+{
+    leafanchor_verdict_answer legal = leafanchor_legal(order, 44, plan, plan_len);
+    leafanchor_verdict_answer best = leafanchor_best(order, 44, plan, plan_len, work, LEAFANCHOR_WORK_AREA);
+    return legal.refusal == 0 && legal.place == 0 && legal.field == 0 && legal.yes == is_legal &&
+           best.refusal == 0 && best.place == 0 && best.field == 0 && best.yes == is_best;
+}
+
+/* Whether both calls refuse a plan with this number, whatever the work area. */
+static int not_judged(const uint8_t *plan, size_t plan_len, uint32_t refusal)
+{
+    leafanchor_verdict_answer legal = leafanchor_legal(order, 44, plan, plan_len);
+    leafanchor_verdict_answer best = leafanchor_best(order, 44, plan, plan_len, work, 0);
+    return legal.refusal == refusal && legal.place == 0 && legal.field == 0 && legal.yes == 0 &&
+           best.refusal == refusal && best.place == 0 && best.field == 0 && best.yes == 0;
+}
+
+/* Plans for P1: ours, one that keeps less, one whose second job starts a second before the rest ends, and plans that
+ * are refused. */
+static void checked_plans(void)
+{
+    static const uint8_t less[] = {0x90, 0, 0, 0, 0, 0, 0xFF, 0x6A, 0x00, 0x06, 0x40};
+    static uint8_t plan[LEAFANCHOR_PLAN_BYTES + 1];
+    memcpy(plan, our_plan, sizeof our_plan);
+    CHECK(judged(plan, 15, 1, 1) && judged(less, 11, 1, 0));
+    plan[10] = 0x50; /* the second start is now -91 */
+    CHECK(judged(plan, 15, 0, 0));
+    CHECK(not_judged(plan, 5, LEAFANCHOR_PLAN_WRONG_LENGTH) && not_judged(plan, 14, LEAFANCHOR_PLAN_WRONG_LENGTH));
+    CHECK(not_judged(plan, 16, LEAFANCHOR_PLAN_WRONG_LENGTH));
+    plan[0] = 0x9C; /* keeps a job that is not there in place of the second */
+    CHECK(not_judged(plan, 15, LEAFANCHOR_PLAN_STRAY_BITS));
+    memcpy(plan, less, sizeof less);
+    plan[10] |= 1; /* a bit at the end */
+    CHECK(not_judged(plan, 11, LEAFANCHOR_PLAN_STRAY_BITS));
+    leafanchor_verdict_answer best =
+        leafanchor_best(order, 44, our_plan, sizeof our_plan, work, LEAFANCHOR_WORK_AREA - 1);
+    CHECK(best.refusal == LEAFANCHOR_BUFFER_TOO_SHORT && best.yes == 0);
+    CHECK(leafanchor_legal(order, 3, plan, 0).refusal == LEAFANCHOR_ORDER_TOO_SHORT);
 }
 
 /* P1 as the first opening against an order of no jobs, and the other way round. */
@@ -292,6 +353,13 @@ static void named_over_bytes(const int32_t *two, uint32_t field)
     CHECK(plan.refusal == 6 && plan.place == 1 && plan.field == field && plan.mask == 0);
     leafanchor_halves_answer of = leafanchor_plan_halves(bad, sizeof bad, starts, 2, work, LEAFANCHOR_WORK_AREA);
     CHECK(of.refusal == 6 && of.place == 1 && of.field == field && of.mask == 0);
+    leafanchor_pack_answer written =
+        leafanchor_write_plan(bad, sizeof bad, order, LEAFANCHOR_ORDER_BYTES, work, LEAFANCHOR_WORK_AREA);
+    CHECK(written.refusal == 6 && written.place == 1 && written.field == field && written.bytes == 0);
+    leafanchor_verdict_answer legal = leafanchor_legal(bad, sizeof bad, our_plan, sizeof our_plan);
+    CHECK(legal.refusal == 6 && legal.place == 1 && legal.field == field && legal.yes == 0);
+    leafanchor_verdict_answer best = leafanchor_best(bad, sizeof bad, our_plan, 0, work, 0);
+    CHECK(best.refusal == 6 && best.place == 1 && best.field == field && best.yes == 0);
     leafanchor_question_answer asked =
         leafanchor_question(bad, sizeof bad, empty, 4, 0, work, LEAFANCHOR_WORK_AREA);
     CHECK(asked.refusal == 6 && asked.field == field && asked.winner == 0);
@@ -341,7 +409,9 @@ static void in_words(void)
     CHECK(told(7, 10, 0, "job at place 10: a job number is repeated"));
     CHECK(told(13, 0, 0, "job at place 0: the order is not of halves"));
     CHECK(told(6, LEAFANCHOR_NO_PLACE, LEAFANCHOR_FIELD_READY, "ready time out of range"));
-    CHECK(told(11, 0, 0, "no choice is feasible") && told(14, 3, 4, "no such refusal"));
+    CHECK(told(11, 0, 0, "no choice is feasible") && told(16, 3, 4, "no such refusal"));
+    CHECK(told(14, 0, 0, "the length does not fit the packed plan's mask"));
+    CHECK(told(15, 0, 0, "the packed plan has stray bits set"));
     /* the longest text has room, and a shorter room cuts it */
     CHECK(strlen(leafanchor_tell(6, LEAFANCHOR_NO_PLACE - 1, 2, out, sizeof out)) < sizeof out - 1);
     CHECK(strcmp(out + strlen(out) - 26, "critical mark out of range") == 0);
@@ -379,6 +449,8 @@ int main(void)
     latest();
     plans_of_halves();
     not_of_halves();
+    written_plans();
+    checked_plans();
     openings();
     fields_out_of_range();
     in_words();

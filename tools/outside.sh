@@ -104,6 +104,7 @@ hold_c() {
     compile_both every_call tools/every_call.c
     compile_both plan_p1 examples/plan_p1.c
     compile_both plan_halves examples/plan_halves.c
+    compile_both check_plan examples/check_plan.c
     for made in c11 cxx17; do
         $emulator "$out/every_call.$made"
         $emulator "$out/layout.$made" >"$out/layout.$made.txt"
@@ -163,13 +164,19 @@ hold_p1() {
     done
 }
 
-hold_halves() {
-    say "the worked order of halves from C and C++"
-    shown examples/halves.expected
+# prints PROGRAM EXPECTED: the program as C and as C++ prints these lines of examples.
+prints() {
+    shown "examples/$2"
     for made in c11 cxx17; do
-        $emulator "$out/plan_halves.$made" >"$out/halves.txt"
-        cmp "$out/halves.txt" examples/halves.expected || die "plan_halves.$made does not print examples/halves.expected"
+        $emulator "$out/$1.$made" >"$out/$1.txt"
+        cmp "$out/$1.txt" "examples/$2" || die "$1.$made does not print examples/$2"
     done
+}
+
+hold_worked() {
+    say "the worked order of halves, and the plans checked, from C and C++"
+    prints plan_halves halves.expected
+    prints check_plan check_plan.expected
 }
 
 hold_calls() {
@@ -209,7 +216,7 @@ for machine in "$@"; do
     hold_wrapper
     [ -n "$emulator" ] || hold_build_script
     hold_p1
-    hold_halves
+    hold_worked
     hold_calls
     hold_stack
 done

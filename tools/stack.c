@@ -26,6 +26,8 @@ static int32_t profile[LEAFANCHOR_PROFILE_ROOM], other[LEAFANCHOR_PROFILE_ROOM],
 static leafanchor_point points[POINTS];
 static int32_t starts[LEAFANCHOR_STARTS], work[LEAFANCHOR_WORK_AREA];
 static uint8_t packed[LEAFANCHOR_ORDER_BYTES];
+static uint8_t plans[INPUTS][LEAFANCHOR_PLAN_BYTES];
+static size_t plan_bytes[INPUTS];
 static leafanchor_job job_list[LEAFANCHOR_MOST_JOBS];
 static leafanchor_profile held[3];
 
@@ -64,6 +66,16 @@ static uint32_t plan_halves(size_t i)
 {
     return leafanchor_plan_halves(orders[i], bytes[i], starts, LEAFANCHOR_STARTS, work, LEAFANCHOR_WORK_AREA).refusal;
 }
+static uint32_t write_plan(size_t i)
+{
+    return leafanchor_write_plan(orders[i], bytes[i], packed, LEAFANCHOR_PLAN_BYTES, work,
+                                 LEAFANCHOR_WORK_AREA).refusal;
+}
+static uint32_t legal(size_t i) { return leafanchor_legal(orders[i], bytes[i], plans[i], plan_bytes[i]).refusal; }
+static uint32_t best(size_t i)
+{
+    return leafanchor_best(orders[i], bytes[i], plans[i], plan_bytes[i], work, LEAFANCHOR_WORK_AREA).refusal;
+}
 static uint32_t question(size_t i)
 {
     return leafanchor_question(orders[i], bytes[i], orders[0], bytes[0], 9000, work, LEAFANCHOR_WORK_AREA).refusal;
@@ -94,8 +106,9 @@ static uint32_t profile_lookup(size_t i) { return leafanchor_profile_lookup(&hel
 static const struct { const char *name; call *run; } calls[] = {
     {"heat_up", heat_up}, {"unpack", unpack}, {"pack", pack}, {"open", open}, {"step", step}, {"lookup", lookup},
     {"lookup_records", lookup_records}, {"better_of", better_of}, {"extend", extend}, {"plan", plan},
-    {"plan_halves", plan_halves}, {"question", question}, {"choose", choose}, {"unpack_jobs", unpack_jobs},
-    {"pack_jobs", pack_jobs}, {"profile_of_order", profile_of_order}, {"profile_extended", profile_extended},
+    {"plan_halves", plan_halves}, {"write_plan", write_plan}, {"legal", legal}, {"best", best},
+    {"question", question}, {"choose", choose}, {"unpack_jobs", unpack_jobs}, {"pack_jobs", pack_jobs},
+    {"profile_of_order", profile_of_order}, {"profile_extended", profile_extended},
     {"profile_better", profile_better}, {"profile_lookup", profile_lookup}};
 
 /* Ends the program where the system refuses something. */
@@ -148,7 +161,7 @@ static size_t deepest(call *run)
 }
 
 /* 48 jobs with windows that overlap, critical halves and behind each its optional one, so that every call goes all the
- * way; packed with 48, 24, 1 and no jobs, and one order that is refused. */
+ * way; packed with 48, 24, 1 and no jobs, and one order that is refused; and the packed plan of each. */
 static void make_inputs(void)
 {
     static const size_t counts[INPUTS] = {48, 24, 1, 0, 48};
@@ -162,6 +175,8 @@ static void make_inputs(void)
         jobs[input] = counts[input];
         bytes[input] =
             leafanchor_pack(0, numbers, 6 * jobs[input], orders[input], LEAFANCHOR_ORDER_BYTES).bytes;
+        plan_bytes[input] = leafanchor_write_plan(orders[input], bytes[input], plans[input], LEAFANCHOR_PLAN_BYTES,
+                                                  work, LEAFANCHOR_WORK_AREA).bytes;
     }
     orders[INPUTS - 1][4 + 8 * 47] ^= 0x04; /* the last job's number is now that of an earlier one */
     for (int32_t point = 0; point < POINTS; point++) {

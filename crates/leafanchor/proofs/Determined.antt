@@ -16,10 +16,14 @@ use Rattle.better.specs.Answer.{joinedOf, outAfter as joinedAfter}
 use Rattle.extending.specs.Calls.{extendedOf, outAfter, extendWorkAfter}
 use Rattle.planner.specs.Calls.{plannedOf, startsAfter, planWorkAfter}
 use Rattle.halves.specs.Calls.{halvesOf, halvesStartsAfter, halvesWorkAfter}
+use Rattle.plan_writer.specs.Calls.{writtenOf, outAfter as planAfter, writeWorkAfter}
+use Rattle.checking.specs.Calls.{legalOf}
+use Rattle.best_plan.specs.Calls.{bestOf, bestWorkAfter}
 use Rattle.openings.specs.Choosing.{chosenOf, workAfter}
 use Rattle.packed_answers.specs.Numbers.{heatNumbers, unpackNumbers, packNumbers, openNumbers, stepNumbers}
 use Rattle.plan_answers.specs.Numbers.{lookupNumbers, betterNumbers, extendNumbers, planFigures}
 use Rattle.plan_answers.specs.Numbers.{halvesFigures, questionNumbers, chooseNumbers}
+use Rattle.verdict_answers.specs.Numbers.{verdictNumbers}
 use Rattle.packed_answers.specs.declared.UnpackAnswer.{UnpackAnswer}
 use Rattle.packed_answers.specs.declared.PackAnswer.{PackAnswer}
 use Rattle.plan_answers.specs.declared.BetterAnswer.{BetterAnswer}
@@ -28,6 +32,7 @@ use Rattle.plan_answers.specs.declared.PlanAnswer.{PlanAnswer}
 use Rattle.plan_answers.specs.declared.HalvesAnswer.{HalvesAnswer}
 use Rattle.plan_answers.specs.declared.QuestionAnswer.{QuestionAnswer}
 use Rattle.plan_answers.specs.declared.ChooseAnswer.{ChooseAnswer}
+use Rattle.verdict_answers.specs.declared.VerdictAnswer.{VerdictAnswer}
 use Rattle.leafanchor.proofs.ByHand.{RecordsPost}
 use Rattle.leafanchor.proofs.leafanchor_heat_up.Reads as heat-up
 use Rattle.leafanchor.proofs.leafanchor_unpack.Reads as unpack
@@ -39,6 +44,9 @@ use Rattle.leafanchor.proofs.leafanchor_better_of.Reads as better-of
 use Rattle.leafanchor.proofs.leafanchor_extend.Reads as extend
 use Rattle.leafanchor.proofs.leafanchor_plan.Reads as plan
 use Rattle.leafanchor.proofs.leafanchor_plan_halves.Reads as halves
+use Rattle.leafanchor.proofs.leafanchor_write_plan.Reads as write-plan
+use Rattle.leafanchor.proofs.leafanchor_legal.Reads as legal
+use Rattle.leafanchor.proofs.leafanchor_best.Reads as best
 use Rattle.leafanchor.proofs.leafanchor_question.Reads as question
 use Rattle.leafanchor.proofs.leafanchor_choose.Reads as choose
 
@@ -123,6 +131,33 @@ plan-halves-determined κs =
       halvesWorkAfter (now (a .0)) (now (a .1 .0)) (now (a .1 .1 .0)),
     ))
     (λ a r x h. three (h .0) (h .1 .0) (h .1 .1))
+
+-- ---- plans in bytes
+
+pub write-plan-determined : (κs : Lfts 3)
+    → Determines {Z = PackAnswer × List ℕ × List ℤ} (write-plan.Post κs) (λ r x. (r, now (x .1 .0), now (x .1 .1 .0)))
+write-plan-determined κs =
+    determined (write-plan.Post κs) (λ r x. (r, now (x .1 .0), now (x .1 .1 .0)))
+    (λ a. (
+      packNumbers (writtenOf (now (a .0)) (now (a .1 .0)) (now (a .1 .1 .0))),
+      planAfter (now (a .0)) (now (a .1 .0)) (now (a .1 .1 .0)),
+      writeWorkAfter (now (a .0)) (now (a .1 .0)) (now (a .1 .1 .0)),
+    ))
+    (λ a r x h. three (h .0) (h .1 .0) (h .1 .1))
+
+pub legal-determined : (κs : Lfts 2) → Determines (legal.Post κs) (λ r x. r)
+legal-determined κs =
+    determined (legal.Post κs) (λ r x. r) (λ a. verdictNumbers (legalOf (now (a .0)) (now (a .1 .0)))) (λ a r x h. h)
+
+pub best-determined : (κs : Lfts 3)
+    → Determines {Z = VerdictAnswer × List ℤ} (best.Post κs) (λ r x. (r, now (x .1 .1 .0)))
+best-determined κs =
+    determined (best.Post κs) (λ r x. (r, now (x .1 .1 .0)))
+    (λ a. (
+      verdictNumbers (bestOf (now (a .0)) (now (a .1 .0)) (now (a .1 .1 .0))),
+      bestWorkAfter (now (a .0)) (now (a .1 .0)) (now (a .1 .1 .0)),
+    ))
+    (λ a r x h. two (h .0) (h .1))
 
 -- ---- openings
 

@@ -21,6 +21,9 @@ use Rattle.extending.specs.Answers.{extend-refusal, extend-six}
 use Rattle.planner.specs.Answers.{plan-refusal, plan-six}
 use Rattle.halves.specs.Calls.{HalvesCall}
 use Rattle.halves.specs.Answers.{halves-refusal, halves-six}
+use Rattle.plan_writer.specs.Answers.{write-refusal, write-six}
+use Rattle.checking.specs.Answers.{legal-refusal, legal-six}
+use Rattle.best_plan.specs.Answers.{best-refusal, best-six}
 use Rattle.openings.specs.Choosing.{chosenOf, workAfter, Asked, refusalOf as choiceRefusal}
 use Rattle.openings.specs.WinnerLaws.{BadIn, asked-six, asked-names}
 use Rattle.packed_answers.specs.declared.UnpackAnswer.{UnpackAnswer}
@@ -31,12 +34,16 @@ use Rattle.plan_answers.specs.declared.PlanAnswer.{PlanAnswer}
 use Rattle.plan_answers.specs.declared.HalvesAnswer.{HalvesAnswer}
 use Rattle.plan_answers.specs.declared.QuestionAnswer.{QuestionAnswer}
 use Rattle.plan_answers.specs.declared.ChooseAnswer.{ChooseAnswer}
+use Rattle.verdict_answers.specs.declared.VerdictAnswer.{VerdictAnswer}
 use Rattle.leafanchor.proofs.leafanchor_unpack.Reads as unpack
 use Rattle.leafanchor.proofs.leafanchor_pack.Reads as pack
 use Rattle.leafanchor.proofs.leafanchor_step.Reads as step
 use Rattle.leafanchor.proofs.leafanchor_extend.Reads as extend
 use Rattle.leafanchor.proofs.leafanchor_plan.Reads as plan
 use Rattle.leafanchor.proofs.leafanchor_plan_halves.Reads as plan-halves
+use Rattle.leafanchor.proofs.leafanchor_write_plan.Reads as write-plan
+use Rattle.leafanchor.proofs.leafanchor_legal.Reads as legal
+use Rattle.leafanchor.proofs.leafanchor_best.Reads as best
 use Rattle.leafanchor.proofs.leafanchor_question.Reads as question
 use Rattle.leafanchor.proofs.leafanchor_choose.Reads as choose
 
@@ -86,6 +93,12 @@ pub record FieldsNamed : Type 0 where
       (λ a (r : PlanAnswer). Names (inField (r .refusal) (r .place) (r .field)) (InBytes (now (a .0))))
   pub plans-halves : (κs : Lfts 3) → Told (plan-halves.Post κs)
       (λ a (r : HalvesAnswer). Names (inField (r .refusal) (r .place) (r .field)) (InBytes (now (a .0))))
+  pub writes-plans : (κs : Lfts 3) → Told (write-plan.Post κs)
+      (λ a (r : PackAnswer). Names (inField (r .refusal) (r .place) (r .field)) (InBytes (now (a .0))))
+  pub judges-legal : (κs : Lfts 2) → Told (legal.Post κs)
+      (λ a (r : VerdictAnswer). Names (inField (r .refusal) (r .place) (r .field)) (InBytes (now (a .0))))
+  pub judges-best : (κs : Lfts 3) → Told (best.Post κs)
+      (λ a (r : VerdictAnswer). Names (inField (r .refusal) (r .place) (r .field)) (InBytes (now (a .0))))
   pub asks : (κs : Lfts 3) → Told (question.Post κs)
       (λ a (r : QuestionAnswer). NamesField (inField (r .refusal) 0 (r .field)) (InOpenings (now (a .0)) (now (a .1 .0))))
   pub chooses : (κs : Lfts 3) → Told (choose.Post κs)
@@ -134,6 +147,18 @@ fields-named =
           (record {
             six = halves-six (now (a .0)) (now (a .1 .0)) (now (a .1 .1 .0)) call;
             other = no-field (halves-refusal (now (a .0)) (now (a .1 .0)) (now (a .1 .1 .0)) call);
+          });
+      writes-plans = λ κs a r x h. rw (h .0)
+          (record {
+            six = write-six (now (a .0)) (now (a .1 .0)) (now (a .1 .1 .0));
+            other = no-field (write-refusal (now (a .0)) (now (a .1 .0)) (now (a .1 .1 .0)));
+          });
+      judges-legal = λ κs a r x h. rw h
+          (record { six = legal-six (now (a .0)) (now (a .1 .0)); other = no-field (legal-refusal (now (a .0)) (now (a .1 .0))) });
+      judges-best = λ κs a r x h. rw (h .0)
+          (record {
+            six = best-six (now (a .0)) (now (a .1 .0)) (now (a .1 .1 .0));
+            other = no-field (best-refusal (now (a .0)) (now (a .1 .0)) (now (a .1 .1 .0)));
           });
       asks = λ κs a r x h. rw (h .0) (choice-names (now (a .0)) (now (a .1 .0)) (a .1 .1 .0) (now (a .1 .1 .1 .0)));
       chooses = λ κs a r x h. rw (h .0) (choice-names (now (a .0)) (now (a .1 .0)) (a .1 .1 .0) (now (a .1 .1 .1 .0)));

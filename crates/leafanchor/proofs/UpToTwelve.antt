@@ -1,8 +1,9 @@
--- Of all exported calls only the one that plans halves gives 13: whatever it is given, every other one's refusal is at most 12,
--- in every outcome that its contract allows.
+-- Of all exported calls only the one that plans halves gives 13, and only the two that check plans give 14 and 15: whatever it is
+-- given, every other one's refusal is at most 12, in every outcome that its contract allows.
 use Prim.Native.Nat.{ℕ, _≤_}
-use mathlib.Core.Path.{_≡_, refl}
+use mathlib.Core.Path.{_≡_, refl, sym}
 use mathlib.Core.Bool.{true}
+use mathlib.Core.Logic.{_≢_}
 use mathlib.Core.List.{List}
 use mathlib.Core.Option.{Option, none, some}
 use native.Mathlib.Omega.{arith}
@@ -15,7 +16,8 @@ use borrow.Table.Steps.{cases}
 use Rattle.packed.specs.declared.Refusal.{Refusal}
 use Rattle.packed.specs.Judge.{Check, Verdict, fine, refused, judge}
 use Rattle.packed.specs.Packed.{countOf, orderOf}
-use Rattle.packed.specs.Refusals.{headerChecks, listChecks, jobChecks, weightChecks, unpackChecks, packChecks}
+use Rattle.packed.specs.JudgeLaws.{without, never}
+use Rattle.packed.specs.Refusals.{headerChecks, listChecks, jobChecks, weightChecks, halvesChecks, unpackChecks, packChecks}
 use Rattle.plan.specs.Plan.{Answer, planAnswer}
 use Rattle.judge.specs.Told.{upToTen, up-to-ten}
 use Rattle.heat.specs.Answer.{refusalOf as heatRefusal, heatingOf}
@@ -32,6 +34,10 @@ use Rattle.better.specs.declared.Joined.{Joined}
 use Rattle.better.specs.declared.Joined.the-variants as joined
 use Rattle.extending.specs.Calls.{extendJudged, extendChecks, extension, extendedBy, extendedOf, extendRefusal}
 use Rattle.planner.specs.Calls.{planChecks, plannedBy, plannedOf, planNumbers}
+use Rattle.halves.specs.Calls.{planHalvesChecks, withSeconds, lostSeconds, halvesOf, halvesNumbers}
+use Rattle.plan_writer.specs.Calls.{writeChecks, writtenBy, writtenOf}
+use Rattle.checking.specs.Answers.{legal-never}
+use Rattle.best_plan.specs.Answers.{best-never}
 use Rattle.openings.specs.Choosing.{byWorth, openingWorth, toFirst, winnerBy, choosingChecks, chosenBy, chosenOf, refusalOf}
 use Rattle.point_records.specs.Records.{flattened}
 use Rattle.packed_answers.specs.declared.HeatAnswer.{HeatAnswer}
@@ -43,8 +49,10 @@ use Rattle.plan_answers.specs.declared.LookupAnswer.{LookupAnswer}
 use Rattle.plan_answers.specs.declared.BetterAnswer.{BetterAnswer}
 use Rattle.plan_answers.specs.declared.ExtendAnswer.{ExtendAnswer}
 use Rattle.plan_answers.specs.declared.PlanAnswer.{PlanAnswer}
+use Rattle.plan_answers.specs.declared.HalvesAnswer.{HalvesAnswer}
 use Rattle.plan_answers.specs.declared.QuestionAnswer.{QuestionAnswer}
 use Rattle.plan_answers.specs.declared.ChooseAnswer.{ChooseAnswer}
+use Rattle.verdict_answers.specs.declared.VerdictAnswer.{VerdictAnswer}
 use Rattle.leafanchor.proofs.ByHand.{RecordsPost}
 use Rattle.leafanchor.proofs.leafanchor_heat_up.Reads as heat-up
 use Rattle.leafanchor.proofs.leafanchor_unpack.Reads as unpack
@@ -55,6 +63,10 @@ use Rattle.leafanchor.proofs.leafanchor_lookup.Reads as lookup
 use Rattle.leafanchor.proofs.leafanchor_better_of.Reads as better-of
 use Rattle.leafanchor.proofs.leafanchor_extend.Reads as extend
 use Rattle.leafanchor.proofs.leafanchor_plan.Reads as plan
+use Rattle.leafanchor.proofs.leafanchor_plan_halves.Reads as halves
+use Rattle.leafanchor.proofs.leafanchor_write_plan.Reads as write-plan
+use Rattle.leafanchor.proofs.leafanchor_legal.Reads as legal
+use Rattle.leafanchor.proofs.leafanchor_best.Reads as best
 use Rattle.leafanchor.proofs.leafanchor_question.Reads as question
 use Rattle.leafanchor.proofs.leafanchor_choose.Reads as choose
 
@@ -120,6 +132,16 @@ plan-low bytes starts work =
     by-verdict (planChecks bytes starts work) tt (λ v. planNumbers (plannedBy v (planAnswer (orderOf bytes))) .refusal .number)
     (made-low (planAnswer (orderOf bytes))) (λ r. refl)
 
+written-low : (a : Option Answer) → packRefusal (writtenBy fine a) .number ≤ 12
+written-low none = omega arith
+written-low (some a) = omega arith
+
+write-low : (order out : List ℕ) (work : List ℤ) → packRefusal (writtenOf order out work) .number ≤ 12
+unfolding writeChecks headerChecks jobChecks weightChecks
+write-low order out work =
+    by-verdict (writeChecks order out work) tt (λ v. packRefusal (writtenBy v (planAnswer (orderOf order))) .number)
+    (written-low (planAnswer (orderOf order))) (λ r. refl)
+
 won-low : (a b : Option ℕ) → refusalOf (byWorth true a b) .number ≤ 12
 won-low none none = omega arith
 won-low (some v) none = omega arith
@@ -151,6 +173,7 @@ pub record OthersUpToTwelve : Type 0 where
   pub joins : (κs : Lfts 3) → UpToTwelve (better-of.Post κs) (λ (r : BetterAnswer). r .refusal)
   pub extends : (κs : Lfts 4) → UpToTwelve (extend.Post κs) (λ (r : ExtendAnswer). r .refusal)
   pub plans : (κs : Lfts 3) → UpToTwelve (plan.Post κs) (λ (r : PlanAnswer). r .refusal)
+  pub writes-plans : (κs : Lfts 3) → UpToTwelve (write-plan.Post κs) (λ (r : PackAnswer). r .refusal)
   pub asks : (κs : Lfts 3) → UpToTwelve (question.Post κs) (λ (r : QuestionAnswer). r .refusal)
   pub chooses : (κs : Lfts 3) → UpToTwelve (choose.Post κs) (λ (r : ChooseAnswer). r .refusal)
 
@@ -168,6 +191,42 @@ others-up-to-twelve =
       extends = λ κs a r x h.
           rw (h .0) (extend-low (now (a .0)) (now (a .1 .0)) (now (a .1 .1 .0)) (now (a .1 .1 .1 .0)));
       plans = λ κs a r x h. rw (h .0) (plan-low (now (a .0)) (now (a .1 .0)) (now (a .1 .1 .0)));
+      writes-plans = λ κs a r x h. rw (h .0) (write-low (now (a .0)) (now (a .1 .0)) (now (a .1 .1 .0)));
       asks = λ κs a r x h. rw (h .0) (choose-low (now (a .0)) (now (a .1 .0)) (a .1 .1 .0) (now (a .1 .1 .1 .0)));
       chooses = λ κs a r x h. rw (h .0) (choose-low (now (a .0)) (now (a .1 .0)) (a .1 .1 .0) (now (a .1 .1 .1 .0)));
+    }
+
+-- ---- the three others
+
+-- A number that none of the checks of planning halves has, and that is neither 0 nor 11, is never told.
+halves-never : (bytes : List ℕ) (starts work : List ℤ) (n : ℕ) → n ≢ 0 → n ≢ 11 → T (without n (planHalvesChecks bytes starts work))
+    → halvesNumbers (halvesOf bytes starts work) .plan .refusal .number ≢ n
+halves-never bytes starts work n given other absent = go (judge (planHalvesChecks bytes starts work)) refl (planAnswer (orderOf bytes))
+  where
+    go : (v : Verdict) → judge (planHalvesChecks bytes starts work) ≡ v → (a : Option Answer)
+        → halvesNumbers (withSeconds (lostSeconds (orderOf bytes)) (plannedBy v a)) .plan .refusal .number ≢ n
+    go (refused r) e a same = never n (planHalvesChecks bytes starts work) absent e same
+    go fine e none same = other (sym same)
+    go fine e (some a) same = given (sym same)
+
+-- No outcome that a contract allows has a number.
+abbrev Never : {A R X : Type 0} → ℕ → (A → R → X → Type 0) → (R → ℕ) → Type 0
+Never {A} {R} {X} n allows number = (a : A) (r : R) (x : X) → allows a r x → number r ≢ n
+
+pub record AboveTwelve : Type 0 where
+  pub halves-14 : (κs : Lfts 3) → Never 14 (halves.Post κs) (λ (r : HalvesAnswer). r .refusal)
+  pub halves-15 : (κs : Lfts 3) → Never 15 (halves.Post κs) (λ (r : HalvesAnswer). r .refusal)
+  pub legal-13 : (κs : Lfts 2) → Never 13 (legal.Post κs) (λ (r : VerdictAnswer). r .refusal)
+  pub best-13 : (κs : Lfts 3) → Never 13 (best.Post κs) (λ (r : VerdictAnswer). r .refusal)
+
+pub above-twelve : AboveTwelve
+unfolding planHalvesChecks headerChecks jobChecks weightChecks halvesChecks
+above-twelve =
+    record {
+      halves-14 = λ κs a r x h. rw (h .0)
+          (halves-never (now (a .0)) (now (a .1 .0)) (now (a .1 .1 .0)) 14 (λ e. omega arith) (λ e. omega arith) tt);
+      halves-15 = λ κs a r x h. rw (h .0)
+          (halves-never (now (a .0)) (now (a .1 .0)) (now (a .1 .1 .0)) 15 (λ e. omega arith) (λ e. omega arith) tt);
+      legal-13 = λ κs a r x h. rw h (legal-never (now (a .0)) (now (a .1 .0)) .4);
+      best-13 = λ κs a r x h. rw (h .0) (best-never (now (a .0)) (now (a .1 .0)) (now (a .1 .1 .0)) .3);
     }

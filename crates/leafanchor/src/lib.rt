@@ -14,10 +14,14 @@ ghost use Rattle.better.specs.Answer.{joinedOf, outAfter as joinedAfter};
 ghost use Rattle.extending.specs.Calls.{extendedOf, outAfter, extendWorkAfter};
 ghost use Rattle.planner.specs.Calls.{plannedOf, startsAfter, planWorkAfter};
 ghost use Rattle.halves.specs.Calls.{halvesOf, halvesStartsAfter, halvesWorkAfter};
+ghost use Rattle.plan_writer.specs.Calls.{writtenOf, outAfter as planAfter, writeWorkAfter};
+ghost use Rattle.checking.specs.Calls.{legalOf};
+ghost use Rattle.best_plan.specs.Calls.{bestOf, bestWorkAfter};
 ghost use Rattle.openings.specs.Choosing.{chosenOf, workAfter};
 ghost use Rattle.packed_answers.specs.Numbers.{heatNumbers, unpackNumbers, packNumbers, openNumbers, stepNumbers};
 ghost use Rattle.plan_answers.specs.Numbers.{lookupNumbers, betterNumbers, extendNumbers, planFigures};
 ghost use Rattle.plan_answers.specs.Numbers.{halvesFigures, questionNumbers, chooseNumbers};
+ghost use Rattle.verdict_answers.specs.Numbers.{verdictNumbers};
 use packed_answers::HeatAnswer;
 use packed_answers::OpenAnswer;
 use packed_answers::PackAnswer;
@@ -31,6 +35,7 @@ use plan_answers::LookupAnswer;
 use plan_answers::PlanAnswer;
 use plan_answers::QuestionAnswer;
 use point_records::Point;
+use verdict_answers::VerdictAnswer;
 
 // The heat-up length for the sampler's byte.
 #[no_mangle]
@@ -148,6 +153,42 @@ pub extern "C" fn leafanchor_plan_halves(
         now (work .exit) ≡ halvesWorkAfter (now (order .entry)) (now (starts .entry)) (now (work .entry)) ⌝ }
 {
     plan_answers::halves_answer(halves::plan_halves(order, starts, work))
+}
+
+// The plan of a packed order as a packed plan, written to the front of `out`.
+#[no_mangle]
+pub extern "C" fn leafanchor_write_plan(
+    order: &[u8],
+    out: &mut [u8],
+    work: &mut [i32],
+) -> PackAnswer
+    ensures answer { λ r. ⌜
+        r ≡ packNumbers (writtenOf (now (order .entry)) (now (out .entry)) (now (work .entry))) ⌝ }
+    ensures lent { λ r. ⌜
+        now (out .exit) ≡ planAfter (now (order .entry)) (now (out .entry)) (now (work .entry)) ⌝ }
+    ensures area { λ r. ⌜
+        now (work .exit) ≡ writeWorkAfter (now (order .entry)) (now (out .entry)) (now (work .entry)) ⌝ }
+{
+    packed_answers::pack_answer(plan_writer::write_plan(order, out, work))
+}
+
+// Whether a packed plan is legal for a packed order.
+#[no_mangle]
+pub extern "C" fn leafanchor_legal(order: &[u8], plan: &[u8]) -> VerdictAnswer
+    ensures { λ r. ⌜ r ≡ verdictNumbers (legalOf (now (order .entry)) (now (plan .entry))) ⌝ }
+{
+    verdict_answers::verdict_answer(checking::legal(order, plan))
+}
+
+// Whether a packed plan is best for a packed order.
+#[no_mangle]
+pub extern "C" fn leafanchor_best(order: &[u8], plan: &[u8], work: &mut [i32]) -> VerdictAnswer
+    ensures answer { λ r. ⌜
+        r ≡ verdictNumbers (bestOf (now (order .entry)) (now (plan .entry)) (now (work .entry))) ⌝ }
+    ensures area { λ r. ⌜
+        now (work .exit) ≡ bestWorkAfter (now (order .entry)) (now (plan .entry)) (now (work .entry)) ⌝ }
+{
+    verdict_answers::verdict_answer(best_plan::best(order, plan, work))
 }
 
 // Which of two openings wins at a time.

@@ -61,7 +61,7 @@ answers! {
         /// Its bus-free time.
         t0: i32,
     }
-    /// The answer of [`pack`](crate::calls::pack).
+    /// The answer of [`pack`](crate::calls::pack) and [`write_plan`](crate::calls::write_plan).
     PackAnswer(refusal, place; field) {
         /// Bytes written.
         bytes: usize,
@@ -106,6 +106,11 @@ answers! {
     ExtendAnswer(refusal, place; field) {
         /// Points written, two numbers each.
         points: usize,
+    }
+    /// The answer of [`legal`](crate::calls::legal) and [`best`](crate::calls::best).
+    VerdictAnswer(refusal, place; field) {
+        /// 1 where the plan is, else 0.
+        yes: u32,
     }
     /// The answer of [`question`](crate::calls::question).
     QuestionAnswer(refusal; field) {

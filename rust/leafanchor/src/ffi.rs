@@ -9,7 +9,7 @@
 
 use crate::answers::{
     BetterAnswer, ChooseAnswer, ExtendAnswer, HalvesAnswer, HeatAnswer, LookupAnswer, OpenAnswer, PackAnswer,
-    PlanAnswer, Point, QuestionAnswer, StepAnswer, UnpackAnswer,
+    PlanAnswer, Point, QuestionAnswer, StepAnswer, UnpackAnswer, VerdictAnswer,
 };
 
 #[rustfmt::skip]
@@ -40,6 +40,16 @@ extern "C" {
         order: *const u8, order_len: usize, starts: *mut i32, starts_len: usize,
         work: *mut i32, work_len: usize,
     ) -> HalvesAnswer;
+    fn leafanchor_write_plan(
+        order: *const u8, order_len: usize, out: *mut u8, out_len: usize, work: *mut i32, work_len: usize,
+    ) -> PackAnswer;
+    fn leafanchor_legal(
+        order: *const u8, order_len: usize, plan: *const u8, plan_len: usize,
+    ) -> VerdictAnswer;
+    fn leafanchor_best(
+        order: *const u8, order_len: usize, plan: *const u8, plan_len: usize,
+        work: *mut i32, work_len: usize,
+    ) -> VerdictAnswer;
     fn leafanchor_question(
         first: *const u8, first_len: usize, second: *const u8, second_len: usize, t: i32,
         work: *mut i32, work_len: usize,
@@ -151,6 +161,40 @@ pub fn plan_halves(order: &[u8], starts: &mut [i32], work: &mut [i32]) -> Halves
             work.as_mut_ptr(),
             work.len(),
         )
+    }
+}
+
+/// Writes an order's plan in packed bytes into the front of `out`, which has room for
+/// [`PLAN_BYTES`](crate::PLAN_BYTES) (R37, R40); `work` has room for [`WORK_AREA`](crate::WORK_AREA). Refusals 1
+/// to 7 and 9 to 11.
+pub fn write_plan(order: &[u8], out: &mut [u8], work: &mut [i32]) -> PackAnswer {
+    // SAFETY: the order is only read; out and work are each lent alone; the lengths are the slices' own.
+    unsafe {
+        leafanchor_write_plan(
+            order.as_ptr(),
+            order.len(),
+            out.as_mut_ptr(),
+            out.len(),
+            work.as_mut_ptr(),
+            work.len(),
+        )
+    }
+}
+
+/// Whether a packed plan is legal for an order (R38). Refusals 1 to 7 and 9 of the order, then 14 and 15 of the
+/// plan.
+pub fn legal(order: &[u8], plan: &[u8]) -> VerdictAnswer {
+    // SAFETY: both are only read, and may be one slice; the lengths are the slices' own.
+    unsafe { leafanchor_legal(order.as_ptr(), order.len(), plan.as_ptr(), plan.len()) }
+}
+
+/// Whether a packed plan is best for an order (R39); `work` has room for [`WORK_AREA`](crate::WORK_AREA).
+/// Refusals 1 to 7 and 9 of the order, 14 and 15 of the plan, then 10.
+pub fn best(order: &[u8], plan: &[u8], work: &mut [i32]) -> VerdictAnswer {
+    // SAFETY: order and plan are only read, and may be one slice; work is lent alone; the lengths are the
+    // slices' own.
+    unsafe {
+        leafanchor_best(order.as_ptr(), order.len(), plan.as_ptr(), plan.len(), work.as_mut_ptr(), work.len())
     }
 }
 

@@ -3,9 +3,10 @@
 //!
 //! An [`Order`] is packed bytes that the library has checked once, or that it has packed from [`Job`]s. It
 //! gives its jobs, its [`Plan`] and its [`Profile`], and where its checks are split into halves its
-//! [`HalvesPlan`]; profiles are extended, joined and looked up. Whatever is not in order is a [`Refusal`].
-//! Nothing here allocates but [`WorkArea::boxed`]; planning works in the caller's [`WorkArea`]. Times are whole
-//! signed seconds.
+//! [`HalvesPlan`]; profiles are extended, joined and looked up. It writes its plan in packed bytes, and says of
+//! another planner's bytes whether that plan is legal and whether it is best. Whatever is not in order is a
+//! [`Refusal`]. Nothing here allocates but [`WorkArea::boxed`]; planning works in the caller's [`WorkArea`]. Times
+//! are whole signed seconds.
 //!
 //! A job's finish is its start plus its length. The contactor rests 15 seconds after every job: the bus is
 //! free 15 seconds after the finish, and the next job kept starts then at the earliest. A deadline binds the
@@ -52,6 +53,7 @@ mod field;
 mod job;
 mod openings;
 mod order;
+mod packed_plan;
 mod plan;
 mod profile;
 mod reader;
@@ -63,6 +65,7 @@ pub use field::Field;
 pub use job::Job;
 pub use openings::{choose, question, Opening, Winner};
 pub use order::Order;
+pub use packed_plan::PackedPlan;
 pub use plan::{HalvesPlan, KeptPlaces, Plan};
 pub use profile::Profile;
 pub use reader::Reader;
@@ -87,11 +90,11 @@ pub use work::WorkArea;
 pub mod calls {
     pub use crate::answers::{
         BetterAnswer, ChooseAnswer, ExtendAnswer, HalvesAnswer, HeatAnswer, LookupAnswer, OpenAnswer,
-        PackAnswer, PlanAnswer, Point, QuestionAnswer, StepAnswer, UnpackAnswer,
+        PackAnswer, PlanAnswer, Point, QuestionAnswer, StepAnswer, UnpackAnswer, VerdictAnswer,
     };
     pub use crate::ffi::{
-        better_of, choose, extend, heat_up, lookup, lookup_records, open, pack, plan, plan_halves, question,
-        step, unpack,
+        best, better_of, choose, extend, heat_up, legal, lookup, lookup_records, open, pack, plan,
+        plan_halves, question, step, unpack, write_plan,
     };
 }
 
@@ -105,6 +108,8 @@ pub const ORDER_BYTES: usize = HEADER_BYTES + 8 * MOST_JOBS;
 pub const JOB_NUMBERS: usize = 6;
 /// Numbers of the longest unpacked order.
 pub const ORDER_NUMBERS: usize = JOB_NUMBERS * MOST_JOBS;
+/// Bytes of the longest packed plan: 48 bits for the jobs kept, and 18 for the start of each.
+pub const PLAN_BYTES: usize = (48 + 18 * MOST_JOBS) / 8;
 /// Points of one profile, at most.
 pub const MOST_POINTS: usize = 301;
 /// Numbers that extending and better-of ask room for.

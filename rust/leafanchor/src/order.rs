@@ -2,6 +2,7 @@
 
 use crate::calls;
 use crate::job::Job;
+use crate::packed_plan::PackedPlan;
 use crate::plan::{HalvesPlan, Plan};
 use crate::profile::Profile;
 use crate::refusal::Refusal;
@@ -121,5 +122,31 @@ impl<'a> Order<'a> {
     /// Refusal 13 with the place of the first job that does not fit this; else 11 if no choice is feasible.
     pub fn plan_halves(self, work: &mut WorkArea) -> Result<HalvesPlan, Refusal> {
         HalvesPlan::of(self, work)
+    }
+
+    /// The plan in packed bytes (R37, R40), as the hangar reads plans. It is legal and best.
+    ///
+    /// # Errors
+    /// Refusal 11 if no choice is feasible.
+    pub fn write_plan(self, work: &mut WorkArea) -> Result<PackedPlan, Refusal> {
+        PackedPlan::of(self, work)
+    }
+
+    /// Whether a packed plan, of any planner, is legal (R38): it keeps every critical job, starts none before the
+    /// bus-free time or the job's ready time, leaves [`REST`](crate::REST) seconds between a finish and the next
+    /// start, and meets every deadline. Idle time is legal.
+    ///
+    /// # Errors
+    /// Refusals 14 and 15 if the bytes are no plan for this order's number of jobs.
+    pub fn is_legal(self, plan: &[u8]) -> Result<bool, Refusal> {
+        Ok(calls::legal(self.bytes, plan).accepted()?.yes == 1)
+    }
+
+    /// Whether a packed plan, of any planner, is best (R39): legal, and no feasible choice keeps more weight.
+    ///
+    /// # Errors
+    /// As for [`is_legal`](Order::is_legal).
+    pub fn is_best(self, plan: &[u8], work: &mut WorkArea) -> Result<bool, Refusal> {
+        Ok(calls::best(self.bytes, plan, work.numbers()).accepted()?.yes == 1)
     }
 }

@@ -8,7 +8,7 @@ use core::fmt;
 macro_rules! refusals {
     ($($number:literal $name:ident $({ $place:ident $(, $field:ident)? })? $phrase:literal,)*) => {
         /// Why a call refused. Where several reasons apply, the one of the lowest number is given, but for 13,
-        /// which comes after 9 and before 10.
+        /// 14 and 15, which come after 9 and before 10.
         ///
         /// Later versions may add reasons, and figures to the reasons that are about one job.
         ///
@@ -114,6 +114,8 @@ refusals! {
     11 NoFeasibleChoice "no choice is feasible",
     12 CellTooCold "the cell is below -30 degrees",
     13 NotOfHalves { place } "the job at place {place} does not fit an order of halves",
+    14 PlanWrongLength "the length does not fit the packed plan's mask",
+    15 PlanStrayBits "the packed plan has bits set beyond the order's jobs or at its end",
 }
 
 #[cfg(feature = "std")]

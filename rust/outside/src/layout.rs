@@ -3,7 +3,7 @@
 
 use leafanchor::calls::{
     BetterAnswer, ChooseAnswer, ExtendAnswer, HalvesAnswer, HeatAnswer, LookupAnswer, OpenAnswer, PackAnswer,
-    PlanAnswer, Point, QuestionAnswer, StepAnswer, UnpackAnswer,
+    PlanAnswer, Point, QuestionAnswer, StepAnswer, UnpackAnswer, VerdictAnswer,
 };
 use std::mem::{align_of, size_of};
 
@@ -69,6 +69,7 @@ pub fn print() {
         points,
         seconds_lost
     );
+    layout!(VerdictAnswer, "verdict_answer", refusal, place, field, yes);
     layout!(QuestionAnswer, "question_answer", refusal, field, winner);
     layout!(ChooseAnswer, "choose_answer", refusal, field, winner, offset, length);
 }

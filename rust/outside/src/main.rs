@@ -6,8 +6,10 @@ mod calls;
 mod inputs;
 mod layout;
 mod lent;
+mod plans;
 mod reference;
 mod tally;
+mod verdicts;
 
 use calls::Trial;
 use std::process::ExitCode;
@@ -21,6 +23,9 @@ const ROUNDS_OF_LONG_LISTS: usize = 200;
 
 /// Rounds with orders of halves; one in LONG plans two long ones beside the rest.
 const ROUNDS_OF_HALVES: usize = 5_000;
+
+/// Rounds with plans to be judged, each of about ten; one in LONG judges as many for a long order beside them.
+const ROUNDS_OF_PLANS: usize = 6_000;
 
 fn main() -> ExitCode {
     if std::env::args().nth(1).as_deref() == Some("layout") {
@@ -55,6 +60,14 @@ fn main() -> ExitCode {
     }
     for _ in 0..ROUNDS_OF_LONG_LISTS {
         trial.long_lists();
+    }
+    trial.check_lengths();
+    for round in 0..ROUNDS_OF_PLANS {
+        trial.check_plans();
+        trial.check_any_bytes();
+        if round % LONG == 0 {
+            trial.check_plans_of_long_order();
+        }
     }
     if trial.tally.report() {
         ExitCode::SUCCESS

@@ -1,5 +1,6 @@
 //! Counts of what was called, what was refused and what differed.
 
+use crate::verdicts::Verdicts;
 use std::collections::{BTreeMap, BTreeSet};
 use std::fmt::Debug;
 
@@ -27,7 +28,7 @@ impl Held {
 const MANY_POINTS: usize = 48 * 200;
 
 /// Refusals are numbered below this; 0 is none.
-const NUMBERS: usize = 14;
+const NUMBERS: usize = 16;
 
 /// Counts by refusal number.
 type Counts = [usize; NUMBERS];
@@ -56,6 +57,8 @@ pub struct Tally {
     pub halves: HalvesEdges,
     /// The fields that refusal 6 named.
     pub fields: Fields,
+    /// What the verdicts on plans turned on.
+    pub verdicts: Verdicts,
 }
 
 /// How often the inputs came to an edge of the contactor's rest.
@@ -154,7 +157,7 @@ impl Fields {
         let as_could = |(&call, counts): (&&str, &[usize; FIELDS])| {
             counts.iter().enumerate().all(|(at, &count)| (count > 0) == could(call, at))
         };
-        self.counts.len() == 8
+        self.counts.len() == 11
             && self.counts.iter().all(as_could)
             && [self.several, self.earlier_behind, self.both_openings].iter().all(|&seen| seen > 0)
     }
@@ -192,8 +195,8 @@ impl Tally {
         }
     }
 
-    /// Prints the counts; true if nothing differed, every refusal 1 to 13 was seen over the C boundary, and so
-    /// was every edge of the rest and of halves and every field of refusal 6.
+    /// Prints the counts; true if nothing differed, every refusal 1 to 15 was seen over the C boundary, and so
+    /// was every edge of the rest, of halves and of verdicts and every field of refusal 6.
     pub fn report(&self) -> bool {
         print!("{:>18}", "refusal");
         (0..NUMBERS).for_each(|number| print!("{number:>8}"));
@@ -217,6 +220,7 @@ impl Tally {
         );
         println!("bus free past 100,000: {late_plans} plans, {late_profiles} profiles extended");
         let halves_met = self.halves.report();
+        let verdicts_met = self.verdicts.report();
         let fields_named = self.fields.report();
         let unseen: Vec<usize> = (0..NUMBERS).filter(|&number| of_calls[number] == 0).collect();
         if !unseen.is_empty() {
@@ -228,6 +232,7 @@ impl Tally {
         self.mismatches == 0
             && unseen.is_empty()
             && halves_met
+            && verdicts_met
             && fields_named
             && self.most_points > MANY_POINTS
             && [met, missed, late_plans, late_profiles].iter().all(|&seen| seen > 0)

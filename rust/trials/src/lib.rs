@@ -1,6 +1,6 @@
 //! Generated orders and profiles, the same on every machine: a fixed generator, plain orders in several
 //! styles that make ties, tight windows, critical jobs and infeasible orders frequent, orders of halves, orders
-//! with many scheduling points, and a plain bit-by-bit packer.
+//! with many scheduling points, and a plain bit-by-bit packer of orders and plans.
 
 mod halves;
 mod long_lists;
@@ -11,7 +11,7 @@ mod random;
 pub use halves::halves_of;
 pub use long_lists::{dense_order, wide_order};
 pub use orders::{full_order, order_of, profile_of, Style};
-pub use packing::packed;
+pub use packing::{packed, packed_plan};
 pub use random::Random;
 
 /// A job as its six fields, which may be out of range.

@@ -1,4 +1,4 @@
-//! Packing bit by bit, highest first, straight from the table of fields.
+//! Packing bit by bit, highest first: orders straight from the table of fields, and plans.
 
 use crate::Order;
 
@@ -16,7 +16,23 @@ pub fn packed(order: &Order) -> Vec<u8> {
             put(&mut bits, field, width);
         }
     }
-    bits.chunks(8).map(|byte| byte.iter().fold(0, |sum, &bit| 2 * sum + u8::from(bit))).collect()
+    bytes_of(&bits)
+}
+
+/// The packed bytes of a plan that keeps the jobs at these places, rising, each from its start on; a start too great for
+/// its width loses its high bits.
+pub fn packed_plan(kept: &[(usize, i32)]) -> Vec<u8> {
+    let mut bits: Vec<bool> = (0..48).map(|place| kept.iter().any(|&(at, _)| at == place)).collect();
+    for &(_, start) in kept {
+        put(&mut bits, start, 18);
+    }
+    bytes_of(&bits)
+}
+
+/// Bits as bytes, with zero bits to the next whole one.
+fn bytes_of(bits: &[bool]) -> Vec<u8> {
+    let byte = |bits: &[bool]| (0..8).fold(0, |sum, at| 2 * sum + u8::from(bits.get(at) == Some(&true)));
+    bits.chunks(8).map(byte).collect()
 }
 
 /// Appends the low `width` bits of a number in two's complement.

@@ -2,6 +2,7 @@
 //! and all lent memory are held against the reference. The wrapper's types are then held against it on the
 //! same input.
 
+mod checking;
 mod halves;
 mod long_lists;
 mod openings;

@@ -149,7 +149,7 @@ fn wanted_plan(order: &Order, best: Best) -> PlanAnswer {
 }
 
 /// The starts in place order.
-fn starts_of(order: &Order, best: Best) -> Vec<i32> {
+pub(super) fn starts_of(order: &Order, best: Best) -> Vec<i32> {
     let mut bus_free = order.t0;
     let mut start = |place: usize| {
         if !keeps(best, place) {

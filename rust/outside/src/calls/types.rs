@@ -48,6 +48,31 @@ impl Trial {
         self.compare_types("Order::plan_halves", given, wanted, &bytes);
     }
 
+    /// `Order::write_plan` gives the plan's bytes.
+    pub(super) fn typed_write_plan(&mut self, bytes: &[u8], refused: Refused, written: &[u8]) {
+        let work = &mut self.typed_work;
+        let given = Order::try_from(bytes).and_then(|order| order.write_plan(work));
+        let given = given.map(|plan| plan.as_bytes().to_vec());
+        self.compare_types("Order::write_plan", given, unless_refused(refused, written.to_vec()), &bytes);
+    }
+
+    /// `Order::is_legal` and `Order::is_best` give the verdicts.
+    pub(super) fn typed_verdicts(
+        &mut self,
+        bytes: &[u8],
+        plan: &[u8],
+        is_legal: Result<bool, Refused>,
+        is_best: Result<bool, Refused>,
+    ) {
+        let order = match Order::try_from(bytes) {
+            Ok(order) => order,
+            Err(_) => return, // The order is judged before a plan comes into it.
+        };
+        self.compare_types("Order::is_legal", order.is_legal(plan), is_legal, &(bytes, plan));
+        let given = order.is_best(plan, &mut self.typed_work);
+        self.compare_types("Order::is_best", given, is_best, &(bytes, plan));
+    }
+
     /// `Profile::lookup` over a list that a profile takes.
     pub(super) fn typed_lookup(&mut self, profile: Result<Profile, Refusal>, t: i32, wanted: LookupAnswer) {
         let input = (t, format!("{profile:?}"));

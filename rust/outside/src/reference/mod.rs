@@ -1,10 +1,12 @@
 //! The rules (docs/RULES.md) written out plainly, with no thought for speed: what every call must answer.
 
+mod checking;
 mod halves;
 mod packing;
 mod plans;
 mod profiles;
 
+pub use checking::{is_legal, keeps_critical, sent, spare, weight_of, Condition, Kept};
 pub use halves::{judged_halves, offending, seconds_lost};
 pub use packing::{bad_fields, header, job_of, judged, judged_numbers, reader_job};
 pub use plans::{best_by_all_choices, best_forward, point_total, Best, Keep, MOST_JOBS_OF_ALL_CHOICES};

@@ -4,12 +4,12 @@ use super::Refused;
 use trials::{Job, Order};
 
 /// `width` bits from bit `at` on, highest first.
-fn bits(bytes: &[u8], at: usize, width: usize) -> i32 {
+pub(super) fn bits(bytes: &[u8], at: usize, width: usize) -> i32 {
     (at..at + width).fold(0, |sum, bit| 2 * sum + i32::from(bytes[bit / 8] >> (7 - bit % 8) & 1))
 }
 
 /// The same in two's complement.
-fn signed_bits(bytes: &[u8], at: usize, width: usize) -> i32 {
+pub(super) fn signed_bits(bytes: &[u8], at: usize, width: usize) -> i32 {
     let plain = bits(bytes, at, width);
     if plain >= 1 << (width - 1) {
         plain - (1 << width)
