@@ -60,7 +60,7 @@ def area(work, cleared):
 def told(answer):
     """The word of an answer's kind, where the program writes one, and its figures."""
     kind = answer[0]
-    return (' ' + kind if kind in ('refused', 'made', 'none', 'end', 'job') else '') + plain(answer[1:])
+    return (' ' + kind if kind in ('refused', 'made', 'none', 'end', 'job', 'yes', 'no') else '') + plain(answer[1:])
 
 
 class Case:
@@ -103,6 +103,26 @@ def plan(case):
 
 def plan_halves(case):
     return planned(case, rules.plan_halves)
+
+
+def legal(case):
+    return told(rules.check_legal(order_in(case.parts[0]), numbers_in(case.parts[1])))
+
+
+def legal_cut(case):
+    """The plan cut to each length, from none of its bytes to all."""
+    order, sent = order_in(case.parts[0]), numbers_in(case.parts[1])
+    return ''.join(told(rules.check_legal(order, sent[:many])) for many in range(len(sent) + 1))
+
+
+def best(case):
+    answer, cleared = rules.check_best(order_in(case.parts[0]), numbers_in(case.parts[1]), case.work)
+    return told(answer) + area(case.work, cleared)
+
+
+def write_plan(case):
+    answer, data, cleared = rules.write_plan(order_in(case.parts[0]), case.room, case.work)
+    return told(answer) + ' |' + plain(written(data, BYTE_MARK, case.room)) + area(case.work, cleared)
 
 
 def report(case):
@@ -164,8 +184,9 @@ def read(case):
 
 
 CALLS = {
-    'unpack': unpack, 'pack': pack, 'heat': heat, 'plan': plan, 'plan_halves': plan_halves, 'report': report,
-    'extend': extend, 'better': better, 'lookup': lookup, 'records': records, 'question': question, 'choose': choose,
+    'unpack': unpack, 'pack': pack, 'heat': heat, 'plan': plan, 'plan_halves': plan_halves, 'legal': legal,
+    'legal_cut': legal_cut, 'best': best, 'write_plan': write_plan, 'report': report, 'extend': extend, 'better': better,
+    'lookup': lookup, 'records': records, 'question': question, 'choose': choose,
     'read': read, 'open': lambda case: opened(order_in(case.parts[0])),
     'step': lambda case: stepped(order_in(case.parts[0]), case.place('at')),
 }

@@ -9,6 +9,7 @@ REST = 15
 LATEST_FREE = LATEST + REST
 WORK_AREA = 14_749
 PROFILE_ROOM = 602
+PLAN_ROOM = 114  # bytes of the longest packed plan
 LEFT_OUT = 200_000
 HIGHEST_HALF, APART, PER_WEIGHT = 31, 32, 60  # of an order of halves
 MANY = 10  # up to so many jobs every choice is tried as well
@@ -25,20 +26,28 @@ def signed(text):
     return int(text, 2) - (int(text[0]) << len(text))
 
 
+def bits_in(data):
+    return ''.join(bits(byte, 8) for byte in data)
+
+
+def bytes_of(text):
+    return [int(text[i:i + 8], 2) for i in range(0, len(text), 8)]
+
+
 def packed(t0, jobs):
     text = bits(len(jobs), 6) + bits(t0, 18) + bits(0, 8)
     for job in jobs:
         text += ''.join(bits(value, width) for value, width in zip(job, (6, 1, 7, 18, 14, 18)))
-    return [int(text[i:i + 8], 2) for i in range(0, len(text), 8)]
+    return bytes_of(text)
 
 
 def header(data):
-    text = ''.join(bits(byte, 8) for byte in data[:4])
+    text = bits_in(data[:4])
     return int(text[:6], 2), signed(text[6:24]), int(text[24:], 2)
 
 
 def record(data, place):
-    text = ''.join(bits(byte, 8) for byte in data[4 + 8 * place:12 + 8 * place])
+    text = bits_in(data[4 + 8 * place:12 + 8 * place])
     return (int(text[:6], 2), int(text[6:7], 2), int(text[7:14], 2), signed(text[14:32]), int(text[32:46], 2),
             signed(text[46:]))
 
@@ -357,6 +366,75 @@ def question(first, second, t, work):
         return (11, 0, 0), 0, True
     return ACCEPTED, (2 if worth[1] > worth[0] else 1), True
 
+
+# ---- packed plans (R37), legal and best ones (R38, R39), and our own written (R40)
+
+def packed_plan(kept, starts):
+    """The bytes of a plan: a 1 or a 0 for each job, and the starts of those kept."""
+    text = ''.join(map(str, kept)).ljust(48, '0') + ''.join(bits(start, 18) for start in starts)
+    return bytes_of(text + '0' * (-len(text) % 8))
+
+
+def judge_sent(data, sent):
+    """A packed order judged up to 9, and the plan sent for it by 14 and 15: refusal, t0, jobs, a 1 or a 0 for each, and the
+    starts."""
+    refusal, t0, jobs = judge(data)
+    mask, rest = bits_in(sent)[:48], bits_in(sent)[48:]
+    end = 18 * mask.count('1')  # of the starts
+    refusal = then(refusal, len(sent) < 6 or len(sent) != (48 + end + 7) // 8, 14)
+    refusal = then(refusal, '1' in mask[len(jobs):] + rest[end:], 15)
+    starts = [signed(rest[at:at + 18]) for at in range(0, end, 18)] if refusal == ACCEPTED else []
+    return refusal, t0, jobs, [int(bit) for bit in mask[:len(jobs)]], starts
+
+
+def is_legal(t0, jobs, kept, starts):
+    """Critical jobs kept, no start before t0 or the job's ready time, no finish past its deadline, and the rest observed."""
+    runs = list(zip((job for job, stays in zip(jobs, kept) if stays), starts))
+    finishes = [start + job[4] for job, start in runs]
+    return (all(stays for job, stays in zip(jobs, kept) if job[1])
+            and all(start >= t0 and start >= job[3] for job, start in runs)
+            and all(finish <= job[5] for (job, _), finish in zip(runs, finishes))
+            and all(start >= finish + REST for finish, (_, start) in zip(finishes, runs[1:])))
+
+
+def is_best(t0, jobs, kept, starts):
+    """Legal, and no feasible choice keeps more weight. A legal plan's own choice is feasible, so there is one."""
+    if not is_legal(t0, jobs, kept, starts):
+        return False
+    return kept_weight(jobs, kept) >= kept_weight(jobs, best(t0, jobs))
+
+
+def verdict(yes):
+    return ('yes' if yes else 'no',)
+
+
+def check_legal(data, sent):
+    refusal, *plan_sent = judge_sent(data, sent)
+    return verdict(is_legal(*plan_sent)) if refusal == ACCEPTED else refused(refusal)
+
+
+def check_best(data, sent, work):
+    """The answer, and whether the work area is cleared."""
+    refusal, *plan_sent = judge_sent(data, sent)
+    refusal = then(refusal, work < WORK_AREA, 10)
+    if refusal != ACCEPTED:
+        return refused(refusal), False
+    return verdict(is_best(*plan_sent)), True
+
+
+def write_plan(data, room, work):
+    """The answer, the bytes written, and whether the work area is cleared."""
+    refusal, t0, jobs = judge(data)
+    judged = then(refusal, room < PLAN_ROOM, 10), t0, jobs
+    answer, starts, cleared = plan_judged(judged, len(jobs), work)
+    if answer[0] == 'refused':
+        return answer, [], cleared
+    kept = [int(start != LEFT_OUT) for start in starts]
+    written = packed_plan(kept, [start for start in starts if start != LEFT_OUT])
+    return ('bytes', len(written)), written, cleared
+
+
+# ---- the program
 
 def report(data):
     """The program's text (R31, R32)."""

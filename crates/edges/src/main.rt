@@ -4,6 +4,7 @@
 // that takes a case's line, and a word in the `run` of its file.
 mod choices;
 mod orders;
+mod packed_plans;
 mod plans;
 mod points;
 mod readers;
@@ -25,6 +26,9 @@ pub const MARK: i32 = 7_777;
 
 pub const WORK_MARK: i32 = -77_777;
 
+// What bytes are written over.
+pub const BYTE_MARK: u8 = 170;
+
 // Whether a case is for a call.
 pub fn calls(line: &[u8], call: &[u8]) -> bool {
     same(call_of(line), call)
@@ -34,6 +38,7 @@ pub fn calls(line: &[u8], call: &[u8]) -> bool {
 fn run(line: &[u8]) -> bool {
     orders::run(line)
         || plans::run(line)
+        || packed_plans::run(line)
         || points::run(line)
         || choices::run(line)
         || readers::run(line)

@@ -1,4 +1,5 @@
 // Packed orders and heat-up: unpacking, packing, and the length for a sampler's byte.
+use crate::BYTE_MARK;
 use crate::MARK;
 use crate::calls;
 use careful::front;
@@ -19,9 +20,6 @@ use case_lines::setting;
 use heat::Heating;
 use pack::Packed;
 use unpack::Unpacked;
-
-// What bytes are written over.
-const BYTE_MARK: u8 = 170;
 
 // What unpacking answered.
 fn put_unpacked(answer: Unpacked) {
@@ -45,7 +43,7 @@ fn unpack(line: &[u8]) {
 }
 
 // What packing answered.
-fn put_packed(answer: Packed) {
+pub fn put_packed(answer: Packed) {
     match answer {
         Packed::Refused(refusal) => put_refusal(refusal),
         Packed::Bytes(written) => put_count(written as u64),
