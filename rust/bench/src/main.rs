@@ -1,11 +1,12 @@
 //! Times the library's planner against a plain Rust one on the same packed orders and buffers, 1,000 orders of
-//! each family. Weights sum to 300 in all of them. Both judge the order and clear the work area.
+//! each family. Weights sum to 300 in all of them. Both judge the order and clear the work area. Then the calls on
+//! packed plans are timed, on the library's own plans.
 //! Times mean nothing under an emulator; tools/speed.sh runs this on the machine at hand.
 
 mod plain;
 
 use leafanchor::calls::{self, PlanAnswer};
-use leafanchor::{MOST_JOBS, WORK_AREA};
+use leafanchor::{MOST_JOBS, PLAN_BYTES, WORK_AREA};
 use std::time::Instant;
 use trials::{dense_order, full_order, packed, wide_order, Order, Random};
 
@@ -45,6 +46,7 @@ fn main() {
         println!("{ORDERS} orders of {family}: all answers equal, damaged ones too; {kept} jobs kept");
         println!("  {:.1} points a prefix in the mean", f64::from(points) / jobs as f64);
         time_both(&orders, &mut buffers);
+        time_plans(&orders, &mut buffers.work);
     }
 }
 
@@ -109,7 +111,32 @@ fn time_once(planner: Planner, orders: &[Vec<u8>], buffers: &mut Buffers) -> f64
     took.as_nanos() as f64 / orders.len() as f64
 }
 
-/// Prints one planner's line and gives its median.
+/// Prints the same of writing the plan of each order that has one, and of both verdicts on it, which are yes.
+fn time_plans(orders: &[Vec<u8>], work: &mut [i32]) {
+    let mut out = [0; PLAN_BYTES];
+    let mut write = |order: &[u8], work: &mut [i32]| {
+        let bytes = calls::write_plan(order, &mut out, work).bytes;
+        out[..bytes].to_vec()
+    };
+    let plans: Vec<_> = orders.iter().map(|order| (order, write(order, work))).collect();
+    let plans: Vec<_> = plans.iter().filter(|(_, plan)| !plan.is_empty()).collect();
+    let time = |name, yes: &mut dyn FnMut(&[u8], &[u8]) -> bool| {
+        let mut times: Vec<f64> = (0..=ROUNDS)
+            .map(|_| {
+                let began = Instant::now();
+                assert!(plans.iter().all(|(order, plan)| yes(order, plan)), "{name} is no");
+                began.elapsed().as_nanos() as f64 / plans.len() as f64
+            })
+            .collect();
+        report(name, &mut times[1..]); // the first round only warms up
+    };
+    let mut out = [0; PLAN_BYTES];
+    time("write_plan", &mut |order, plan| calls::write_plan(order, &mut out, work).bytes == plan.len());
+    time("legal", &mut |order, plan| calls::legal(order, plan).yes == 1);
+    time("best", &mut |order, plan| calls::best(order, plan, work).yes == 1);
+}
+
+/// Prints one line and gives its median.
 fn report(name: &str, times: &mut [f64]) -> f64 {
     times.sort_by(f64::total_cmp);
     let median = times[times.len() / 2];
