@@ -1,34 +1,42 @@
 -- What the definitions say at the named inputs, by computation, as far as it depends on the bytes: the orders that they
--- mean, and that all checks are passed, or which is not.
+-- mean, that all checks are passed, or which is not, and which plans are legal and best.
 use Prim.Native.Nat.{ℕ, suc}
 use mathlib.Core.Path.{_≡_, refl, _∙_}
 use mathlib.Core.Bool.{true, false}
 use mathlib.Core.List.{List, [], _∷_}
+use lib.Count.{ones as count-ones}
 use lib.IntN.{ℤ, pos, negsuc}
 use lib.ListN.{length, getD, length-replicate}
 use Rattle.seconds.specs.Limits.{rest}
 use Rattle.seconds.specs.Twos.{bitsTo, toBits}
 use Rattle.order.specs.Job.{Order, oneRate}
-use Rattle.packed.specs.Judge.{inField, fine, refused}
+use Rattle.packed.specs.Judge.{inField, plainly, fine, refused}
 use Rattle.packed.specs.Layout.{decode, encode, numberOf, bytesOf}
 use Rattle.packed.specs.Places.{part, flat, each, first}
 use Rattle.packed.specs.Packed.{headerWord, headerOf, countOf, t0Of, spareOf, recordAt, jobWord, jobFields, numbersOf}
 use Rattle.packed.specs.Packed.{jobCount, fieldsAt, packedHeader, packedJob, packOrder, jobOf, jobsOf, orderOf}
 use Rattle.packed.specs.Refusals.{fieldsWithin, badField, firstBad, numberAt, firstRepeat, firstOffending, headerChecks, jobChecks, weightChecks}
 use Rattle.packed.specs.Refusals.{halvesChecks}
+use Rattle.packed_plan.specs.Plan.{planNumber, packPlan, maskIn, countIn, planFields, startsIn, padIn, keptIn, sentChecks}
+use Rattle.legal.specs.Legal.{isLegal, isBest}
 use Rattle.profiles.specs.Numbers.{mostNumbers}
 use Rattle.area.specs.Area.{area, cleared, clearedTo}
 use Rattle.extending.specs.Calls.{extendJudged, extendChecks, extendVerdict}
 use Rattle.planner.specs.Calls.{planChecks, planVerdict}
 use Rattle.halves.specs.Calls.{planHalvesChecks, halvesVerdict}
 use Rattle.openings.specs.Choosing.{choosingChecks, choosingVerdict}
+use Rattle.checking.specs.Calls.{legalChecks, legalOf}
+use Rattle.checking.specs.declared.Checked.the-variants.{Refused, Answered}
+use Rattle.best_plan.specs.Calls.{bestChecks, bestVerdict, bestOf}
+use Rattle.plan_writer.specs.Calls.{writeChecks, writeVerdict}
 use Rattle.text.specs.Decimal.{digitsIn, digits, figure}
 use Rattle.report.specs.Report.{refusalLine, planLine, startWord, jobLine, jobLines, planText, textOf, reportOf}
 use Rattle.report.specs.Report.{textRoom, printed}
 use Rattle.report.specs.AsPrinted.{morningBytes, morningText, morning-printed}
 use Rattle.worked.specs.Examples.{morning}
 use Rattle.worked.specs.Halves.{twoChecks}
-use Rattle.hollow.specs.Named.{ones, front, room, workArea, refusedBytes, oneJobBytes, start, page}
+use Rattle.worked.specs.Plans.{ones-of-byte, ownPlan, lighterPlan}
+use Rattle.hollow.specs.Named.{ones, front, room, workArea, refusedBytes, oneJobBytes, start, page, oneJobPlan, planPage}
 
 -- P4 as an order.
 abbrev pub oneJob : Order
@@ -57,6 +65,16 @@ pub record Accepted (out work : List ℤ) : Type 0 where
   pub extend-morning : extendVerdict start morningBytes out work ≡ fine
   pub extend-one-job : extendVerdict start oneJobBytes out work ≡ fine
   pub choose : choosingVerdict morningBytes oneJobBytes work ≡ fine
+  pub legal-own : legalOf morningBytes ownPlan ≡ Answered true
+  pub legal-other : legalOf morningBytes oneJobPlan ≡ Answered false
+  pub legal-one-job : legalOf oneJobBytes oneJobPlan ≡ Answered true
+  pub legal-refused : legalOf oneJobBytes ownPlan ≡ Refused (plainly 15)
+  pub best-passed : bestVerdict morningBytes ownPlan work ≡ fine
+  pub best-own : bestOf morningBytes ownPlan work ≡ Answered true
+  pub best-lighter : bestOf morningBytes lighterPlan work ≡ Answered false
+  pub best-refused : bestOf oneJobBytes ownPlan work ≡ Refused (plainly 15)
+  pub write-morning : writeVerdict morningBytes planPage work ≡ fine
+  pub write-one-job : writeVerdict oneJobBytes planPage work ≡ fine
   pub morning-order : orderOf morningBytes ≡ morning
   pub one-job-order : orderOf oneJobBytes ≡ oneJob
   pub checked-order : orderOf twoChecks ≡ checked
@@ -66,7 +84,8 @@ with-room : (out work : List ℤ) → length out ≡ mostNumbers → length work
 unfolding rest bitsTo toBits decode encode numberOf bytesOf part flat each first headerWord headerOf countOf t0Of spareOf
     recordAt jobWord jobFields numbersOf jobCount fieldsAt packedHeader packedJob packOrder jobOf jobsOf orderOf fieldsWithin
     badField firstBad numberAt firstRepeat firstOffending headerChecks jobChecks weightChecks halvesChecks planChecks planHalvesChecks
-    extendJudged extendChecks choosingChecks ones
+    extendJudged extendChecks choosingChecks planNumber packPlan maskIn countIn planFields startsIn padIn keptIn sentChecks isLegal
+    isBest legalChecks bestChecks writeChecks ones
 with-room out work d e =
     record {
       plan-morning = rw e;
@@ -77,6 +96,16 @@ with-room out work d e =
       extend-morning = rw (d, e);
       extend-one-job = rw (d, e);
       choose = rw e;
+      legal-own = rw (ones-of-byte 0xD8) (unfold count-ones in refl);
+      legal-other = rw (ones-of-byte 0x80) (unfold count-ones in refl);
+      legal-one-job = rw (ones-of-byte 0x80) (unfold count-ones in refl);
+      legal-refused = rw (ones-of-byte 0xD8) (unfold count-ones in refl);
+      best-passed = rw (ones-of-byte 0xD8) (unfold count-ones in rw e);
+      best-own = rw (ones-of-byte 0xD8) (unfold count-ones in rw e);
+      best-lighter = rw (ones-of-byte 0xB8) (unfold count-ones in rw e);
+      best-refused = rw (ones-of-byte 0xD8) (unfold count-ones in refl);
+      write-morning = rw e;
+      write-one-job = rw e;
       morning-order = refl;
       one-job-order = refl;
       checked-order = refl;

@@ -48,6 +48,11 @@ use Rattle.extending.specs.declared.Extended.the-variants as extended
 use Rattle.openings.specs.Choosing.{chosenOf, workAfter, Asked, partOf, placeOf, Handed}
 use Rattle.openings.specs.declared.Chosen.{Chosen}
 use Rattle.openings.specs.declared.Chosen.the-variants as chosen
+use Rattle.checking.specs.Calls.{legalOf}
+use Rattle.checking.specs.declared.Checked.{Checked}
+use Rattle.checking.specs.declared.Checked.the-variants as checked
+use Rattle.best_plan.specs.Calls.{bestOf, bestWorkAfter, BestCall}
+use Rattle.plan_writer.specs.Calls.{writtenOf, outAfter as writtenAfter, writeWorkAfter, WriteCall}
 use Rattle.report.specs.Report.{printed}
 use Rattle.hollow.specs.Contract.{Contract, answering, writing, over}
 
@@ -100,6 +105,10 @@ abbrev questionRefused : Chosen → Bool
 questionRefused (chosen.Refused r) = true
 questionRefused chosen.First = false
 questionRefused chosen.Second = false
+
+abbrev checkRefused : Checked → Bool
+checkRefused (checked.Refused r) = true
+checkRefused (checked.Answered b) = false
 
 -- ---- planning and profiles
 
@@ -219,6 +228,44 @@ steppingReader =
 -- Bytes to open a reader over, and a place to step from.
 abbrev pub readingAt : Contract (List ℕ × ℕ) Reading (Unit {0})
 readingAt = answering (λ x. readAt (x .0) (x .1)) (λ r. stepRefused (r .moved .answer))
+
+-- ---- packed plans
+
+-- A packed order and a packed plan; nothing is lent to write to.
+abbrev pub checkingLegal : Contract (List ℕ × List ℕ) Checked (Unit {0})
+checkingLegal = answering (λ x. legalOf (x .0) (x .1)) checkRefused
+
+-- The same and the work area.
+abbrev pub BestInput : Type 0
+BestInput = List ℕ × List ℕ × List ℤ
+
+abbrev pub checkingBest : Contract BestInput Checked (List ℤ)
+checkingBest =
+    record {
+      allows = λ x r b. BestCall (x .0) (x .1) (x .2) r b;
+      answer = λ x. bestOf (x .0) (x .1) (x .2);
+      left = λ x. bestWorkAfter (x .0) (x .1) (x .2);
+      met = λ x. record { answer = refl; area = refl };
+      only = λ x r b h. (h .answer, h .area);
+      lent = λ x. x .2;
+      refusal = checkRefused;
+    }
+
+-- A packed order, bytes to write its plan to, and work area. Of the last two, what it leaves.
+abbrev pub WriteInput : Type 0
+WriteInput = List ℕ × List ℕ × List ℤ
+
+abbrev pub writingPlan : Contract WriteInput Packed (List ℕ × List ℤ)
+writingPlan =
+    record {
+      allows = λ x r b. WriteCall (x .0) (x .1) (x .2) r (b .0) (b .1);
+      answer = λ x. writtenOf (x .0) (x .1) (x .2);
+      left = λ x. (writtenAfter (x .0) (x .1) (x .2), writeWorkAfter (x .0) (x .1) (x .2));
+      met = λ x. record { answer = refl; written = refl; area = refl };
+      only = λ x r b h. (h .answer, λ i. (h .written i, h .area i));
+      lent = λ x. (x .1, x .2);
+      refusal = packRefused;
+    }
 
 -- ---- the text
 

@@ -55,9 +55,16 @@ use Rattle.openings.proofs.question as question
 use Rattle.openings.proofs.question.Reads as question-reads
 use Rattle.openings.proofs.choose as choose
 use Rattle.openings.proofs.choose.Reads as choose-reads
+use Rattle.checking.specs.declared.Checked.{Checked}
+use Rattle.checking.proofs.legal as legal
+use Rattle.checking.proofs.legal.Reads as legal-reads
+use Rattle.best_plan.proofs.best as best
+use Rattle.best_plan.proofs.best.Reads as best-reads
+use Rattle.plan_writer.proofs.write_plan as write-plan
+use Rattle.plan_writer.proofs.write_plan.Reads as write-plan-reads
 use Rattle.hollow.specs.Contracts.{planning, extending, joiningProfiles, lookingUp, lookingUpRecords, unpacking, packing}
 use Rattle.hollow.specs.Contracts.{openingReader, stepping, beginning, steppingReader, readingAt, reporting, heatingUp}
-use Rattle.hollow.specs.Contracts.{planningHalves, asking, choosing}
+use Rattle.hollow.specs.Contracts.{planningHalves, asking, choosing, checkingLegal, checkingBest, writingPlan}
 
 pub plan-is : (κs : Lfts 3) (a : Args plan.signature κs) (r : Planned) (x : AtExit plan.ended κs)
     → plan-reads.Post κs a r x
@@ -136,3 +143,16 @@ pub choose-says : (κs : Lfts 2) (a : Args choose.signature κs) (r : RefT (List
     → choose-reads.Post κs a r x
     → choosing .allows (a .0, a .1 .0, a .1 .1 .0, a .1 .1 .1 .0 .now) (now r, r .ptr) (x .1 .1 .1 .0 .now)
 choose-says κs a r x h = (r .name, h)
+
+pub legal-is : (κs : Lfts 2) (a : Args legal.signature κs) (r : Checked) (x : AtExit legal.ended κs)
+    → legal-reads.Post κs a r x ≡ checkingLegal .allows (a .0 .now, a .1 .0 .now) r tt
+legal-is κs a r x = refl
+
+pub best-is : (κs : Lfts 3) (a : Args best.signature κs) (r : Checked) (x : AtExit best.ended κs)
+    → best-reads.Post κs a r x ≡ checkingBest .allows (a .0 .now, a .1 .0 .now, a .1 .1 .0 .now) r (x .1 .1 .0 .now)
+best-is κs a r x = refl
+
+pub write-plan-is : (κs : Lfts 3) (a : Args write-plan.signature κs) (r : Packed) (x : AtExit write-plan.ended κs)
+    → write-plan-reads.Post κs a r x
+    ≡ writingPlan .allows (a .0 .now, a .1 .0 .now, a .1 .1 .0 .now) r (x .1 .0 .now, x .1 .1 .0 .now)
+write-plan-is κs a r x = refl

@@ -2,7 +2,7 @@
 -- version by it.
 use Prim.Native.Nat.{ℕ}
 use mathlib.Core.Path.{_≡_, sym, ap, _∙_}
-use mathlib.Core.Bool.{true, false}
+use mathlib.Core.Bool.{true, false, true≢false}
 use mathlib.Core.Logic.{_≢_}
 use native.Mathlib.Omega.{arith}
 use lib.IntN.{ℤ}
@@ -26,11 +26,22 @@ module _ {X R B : Type 0} (c : Contract X R B) where
       let z : _≡_ {A = ℕ} 0 1 = cc in
       omega arith)
 
+  -- one that answers an input which the definitions refuse;
+  pub answered-wrongly : (f : X → R × B) (x : X) → c .refusal (c .answer x) ≡ true → c .refusal (f x .0) ≡ false → ShutOut c f x
+  answered-wrongly f x refuses answers = other-answer f x (λ e. true≢false (sym refuses ∙ ap (c .refusal) (sym e) ∙ answers))
+
   -- one with the same answer where the definitions answer with different figures;
   same-answer : (f : X → R × B) (x y : X) (figure : R → ℕ) → figure (c .answer x) ≢ figure (c .answer y) → f x .0 ≡ f y .0
       → Allowed c f x → ShutOut c f y
   same-answer f x y figure differ same h k =
       differ (ap figure (sym (c .only x (f x .0) (f x .1) h .0) ∙ same ∙ c .only y (f y .0) (f y .1) k .0))
+
+  -- one that writes the same into a part where the definitions show different numbers in it;
+  pub same-buffers : {P : Type 0} (part : B → P) (f : X → R × B) (x y : X) (shown : P → ℤ)
+      → shown (part (c .left x)) ≢ shown (part (c .left y)) → part (f x .1) ≡ part (f y .1) → Allowed c f x → ShutOut c f y
+  same-buffers part f x y shown differ same h k =
+      let wrote = ap part (sym (c .only x (f x .0) (f x .1) h .1)) in
+      differ (ap shown (wrote ∙ same ∙ ap part (c .only y (f y .0) (f y .1) k .1)))
 
   -- and one that leaves a part as it was where the definitions show another number in it.
   pub unwritten : {P : Type 0} (part : B → P) (f : X → R × B) (x : X) (shown : P → ℤ)

@@ -1,5 +1,5 @@
--- The inputs at which hollow versions are tried: P1, P2, P4 and P9 of the rules, the README's order of halves and its refused one,
--- with lent buffers that hold a 1 everywhere, so that what is written or cleared shows. Definitions only.
+-- The inputs at which hollow versions are tried: P1, P2, P4 and P9 of the rules, plans of P1 and P4, the README's order of halves and its
+-- refused one, with lent buffers that hold a 1 everywhere, so that what is written or cleared shows. Definitions only.
 use Prim.Native.Nat.{ℕ}
 use mathlib.Core.List.{List, [], _∷_}
 use denote.Ref.{RefT}
@@ -12,8 +12,10 @@ use Rattle.area.specs.Area.{area}
 use Rattle.reader_struct.specs.declared.Reader.{Reader}
 use Rattle.report.specs.Report.{textRoom}
 use Rattle.report.specs.AsPrinted.{morningBytes}
+use Rattle.plan_writer.specs.Calls.{planRoom}
 use Rattle.worked.specs.Halves.{twoChecks}
-use Rattle.hollow.specs.Contracts.{PlanInput, ExtendInput}
+use Rattle.worked.specs.Plans.{keeping}
+use Rattle.hollow.specs.Contracts.{PlanInput, ExtendInput, BestInput, WriteInput}
 
 -- ---- lent buffers
 
@@ -32,7 +34,7 @@ room = ones mostNumbers
 abbrev pub workArea : List ℤ
 workArea = ones area
 
--- ---- orders and profiles
+-- ---- orders, plans and profiles
 
 -- P4: one critical job, ready at 0, of 10 seconds and with the deadline 10; the bus is free at 0.
 abbrev pub oneJobBytes : List ℕ
@@ -41,6 +43,10 @@ oneJobBytes = 0x04 ∷ 0x00 ∷ 0x00 ∷ 0x00 ∷ 0x02 ∷ 0x00 ∷ 0x00 ∷ 0x0
 -- P1 with a length of 10,001 for the job at place 2.
 abbrev pub refusedBytes : List ℕ
 refusedBytes = set (set morningBytes 24 0x9C) 25 0x44
+
+-- P4's plan: its job is kept, and starts at 0.
+abbrev pub oneJobPlan : List ℕ
+oneJobPlan = keeping 0x80 (pos 0 ∷ [])
 
 -- The profile (-600, 0), which P1 extends to its own.
 abbrev pub start : List ℤ
@@ -119,3 +125,20 @@ askAt t = (morningBytes, oneJobBytes, t, workArea)
 -- The same openings in two blocks.
 abbrev pub chooseAt : ℤ → RefT (List ℕ) × RefT (List ℕ) × ℤ × List ℤ
 chooseAt t = (block 0 morningBytes, block 1 oneJobBytes, t, workArea)
+
+-- Asking whether a plan is best for P1, and for P4.
+abbrev pub bestMorning : List ℕ → BestInput
+bestMorning plan = (morningBytes, plan, workArea)
+
+abbrev pub bestOneJob : List ℕ → BestInput
+bestOneJob plan = (oneJobBytes, plan, workArea)
+
+-- Writing the plan of P1, and of P4, over ones.
+abbrev pub planPage : List ℕ
+planPage = replicate planRoom 1
+
+abbrev pub writeMorning : WriteInput
+writeMorning = (morningBytes, planPage, workArea)
+
+abbrev pub writeOneJob : WriteInput
+writeOneJob = (oneJobBytes, planPage, workArea)

@@ -1,6 +1,8 @@
 -- Of every call, a version that refuses everything, one with a constant answer and one that writes nothing are shut out, at
 -- inputs that the call accepts, by what the definitions answer and write there.
-use mathlib.Core.Path.{refl}
+use Prim.Native.Nat.{ℕ}
+use mathlib.Core.Path.{_≡_, refl}
+use mathlib.Core.Bool.{false}
 use mathlib.Core.List.{List}
 use native.Mathlib.Omega.{arith}
 use lib.IntN.{ℤ, pos, natAbs}
@@ -14,11 +16,13 @@ use Rattle.packed.specs.Packed.{headerWord, headerOf, countOf, t0Of, spareOf, r
 use Rattle.packed.specs.Packed.{jobCount, fieldsAt, packedHeader, packedJob, packOrder, jobOf, jobsOf}
 use Rattle.packed.specs.Refusals.{fieldsWithin, firstBad, numberAt, firstRepeat, headerChecks, listChecks, jobChecks}
 use Rattle.packed.specs.Refusals.{weightChecks}
+use Rattle.packed_plan.specs.Plan.{planNumber, packPlan}
 use Rattle.profiles.specs.Numbers.{mostNumbers}
 use Rattle.profiles.specs.Answer.{foundOf}
 use Rattle.better.specs.Answer.{pointsWritten as pointsJoined}
 use Rattle.unpack.specs.Answer.{jobsUnpacked}
 use Rattle.pack.specs.Answer.{bytesWritten}
+use Rattle.pack.specs.declared.Packed.{Packed}
 use Rattle.reader.specs.Reading.{openCount, readNumbers}
 use Rattle.heat.specs.Answer.{lengthOf}
 use Rattle.extending.specs.Calls.{pointsWritten}
@@ -28,16 +32,22 @@ use Rattle.halves.specs.Calls.{halvesNumbers}
 use Rattle.halves.specs.declared.HalvesPlanned.{HalvesPlanned}
 use Rattle.extending.specs.declared.Extended.{Extended}
 use Rattle.openings.specs.Choosing.{winnerOf}
+use Rattle.checking.specs.Calls.{checkedNumbers}
+use Rattle.checking.specs.declared.Checked.{Checked}
+use Rattle.plan_writer.specs.Calls.{bytesFor}
 use Rattle.report.specs.AsPrinted.{morningBytes}
-use Rattle.hollow.specs.Contract.{ShutOut, Leaves, NotHollow, NotHollowIn}
+use Rattle.worked.specs.Plans.{ownPlan, lighterPlan}
+use Rattle.hollow.specs.Contract.{Allowed, ShutOut, Leaves, NotHollow, NotHollowIn}
 use Rattle.hollow.specs.Contracts.{PlanInput, planning, ExtendInput, extending, joiningProfiles, lookingUp, lookingUpRecords}
 use Rattle.hollow.specs.Contracts.{unpacking, packing, openingReader, stepping, beginning, steppingReader, readingAt}
 use Rattle.hollow.specs.Contracts.{planningHalves, reporting, heatingUp, asking, choosing}
-use Rattle.hollow.specs.Laws.{unwritten, not-hollow, not-hollow-in}
+use Rattle.hollow.specs.Contracts.{checkingLegal, BestInput, checkingBest, WriteInput, writingPlan}
+use Rattle.hollow.specs.Laws.{answered-wrongly, same-buffers, unwritten, not-hollow, not-hollow-in}
 use Rattle.hollow.specs.Named.{ones, front, workArea, oneJobBytes, planMorning, planOneJob, halvesChecked}
 use Rattle.hollow.specs.Named.{extendMorning, extendOneJob}
 use Rattle.hollow.specs.Named.{joinTwo, joinOne, lookupAt, lookupRecordsAt, unpackMorning, unpackOneJob}
 use Rattle.hollow.specs.Named.{packMorning, packOneJob, block, readerAt, page, askAt, chooseAt}
+use Rattle.hollow.specs.Named.{oneJobPlan, bestMorning, bestOneJob, writeMorning, writeOneJob}
 use Rattle.hollow.specs.Computed.{accepted, length-ones, front-ones, front-cleared}
 use Rattle.hollow.specs.Computed.{morning-on-page, one-job-on-page, page-front}
 
@@ -153,6 +163,59 @@ packed-not-hollow =
           (omega signed);
       reads = not-hollow readingAt refl (λ r. natAbs (front (readNumbers (r .moved .answer)))) (omega arith);
     }
+
+-- ---- packed plans, for P1 and P4
+
+-- By the verdict: for P1, yes to its own plan and no to P4's, so neither may always be said;
+pub legal-not-hollow : NotHollow checkingLegal (morningBytes, ownPlan) (morningBytes, oneJobPlan)
+legal-not-hollow =
+    not-hollow checkingLegal (rw (accepted .legal-own)) (λ r. checkedNumbers r .yes)
+    (rw (accepted .legal-own, accepted .legal-other) (omega arith))
+
+-- of P4's plan, yes for P4 and no for P1, so it does not go by the plan alone;
+pub legal-not-by-plan : NotHollow checkingLegal (oneJobBytes, oneJobPlan) (morningBytes, oneJobPlan)
+legal-not-by-plan =
+    not-hollow checkingLegal (rw (accepted .legal-one-job)) (λ r. checkedNumbers r .yes)
+    (rw (accepted .legal-one-job, accepted .legal-other) (omega arith))
+
+-- of two plans that are legal for P1, yes to its own and no to the one of weight 30; and by the cleared work area.
+pub best-not-hollow : NotHollowIn checkingBest (λ b. b) (bestMorning ownPlan) (bestMorning lighterPlan)
+best-not-hollow =
+    not-hollow-in checkingBest (rw (accepted .best-own)) (λ r. checkedNumbers r .yes)
+    (rw (accepted .best-own, accepted .best-lighter) (omega arith)) (λ b. b) front
+    (rw (accepted .best-passed, front-cleared workArea, front-ones 14748) (omega signed))
+
+-- Neither call may answer for P4 and P1's own plan, which has bits set beyond P4's one job.
+pub legal-refuses : (f : List ℕ × List ℕ → Checked × Unit {0}) → checkingLegal .refusal (f (oneJobBytes, ownPlan) .0) ≡ false
+    → ShutOut checkingLegal f (oneJobBytes, ownPlan)
+legal-refuses f = answered-wrongly checkingLegal f (oneJobBytes, ownPlan) (rw (accepted .legal-refused))
+
+pub best-refuses : (f : BestInput → Checked × List ℤ) → checkingBest .refusal (f (bestOneJob ownPlan) .0) ≡ false
+    → ShutOut checkingBest f (bestOneJob ownPlan)
+best-refuses f = answered-wrongly checkingBest f (bestOneJob ownPlan) (rw (accepted .best-refused))
+
+-- By the number of bytes, and the first one.
+pub write-plan-not-hollow : NotHollowIn writingPlan (λ b. b .0) writeMorning writeOneJob
+unfolding rest toBits encode bytesOf planNumber packPlan bytesFor
+write-plan-not-hollow =
+    not-hollow-in writingPlan (rw (accepted .write-morning, accepted .morning-order)) bytesWritten
+    (rw (accepted .write-morning, accepted .morning-order, accepted .write-one-job, accepted .one-job-order) (omega arith))
+    (λ b. b .0) (λ l. pos (getD l 0 0)) (rw (accepted .write-morning, accepted .morning-order) (omega signed))
+
+-- The bytes may not be the same for both, whatever is answered,
+pub write-plan-not-constant : (f : WriteInput → Packed × (List ℕ × List ℤ)) → f writeMorning .1 .0 ≡ f writeOneJob .1 .0
+    → Allowed writingPlan f writeMorning → ShutOut writingPlan f writeOneJob
+unfolding rest toBits encode bytesOf planNumber packPlan bytesFor
+write-plan-not-constant f =
+    same-buffers writingPlan (λ b. b .0) f writeMorning writeOneJob (λ l. pos (getD l 0 0))
+    (rw (accepted .write-morning, accepted .morning-order, accepted .write-one-job, accepted .one-job-order) (omega signed))
+
+-- and the work area may not stay as it was.
+pub write-plan-clears : (f : WriteInput → Packed × (List ℕ × List ℤ)) → Leaves writingPlan (λ b. b .1) f
+    → ShutOut writingPlan f writeMorning
+write-plan-clears f leaves =
+    unwritten writingPlan (λ b. b .1) f writeMorning front
+    (rw (accepted .write-morning, front-cleared workArea, front-ones 14748) (omega signed)) (leaves writeMorning)
 
 -- ---- the text, of P1 and P4
 

@@ -16,6 +16,10 @@ use Rattle.reader.specs.Reading.{stepChecks}
 use Rattle.extending.specs.Calls.{extendJudged, extendChecks}
 use Rattle.planner.specs.Calls.{planChecks}
 use Rattle.halves.specs.Calls.{planHalvesChecks}
+use Rattle.packed_plan.specs.Plan.{maskBits, maskBytes, startBits, padBits, sentChecks}
+use Rattle.plan_writer.specs.Calls.{planRoom, writeChecks}
+use Rattle.checking.specs.Calls.{legalChecks}
+use Rattle.best_plan.specs.Calls.{bestChecks}
 use Rattle.openings.specs.Choosing.{choosingChecks}
 
 -- ---- names and figures
@@ -64,6 +68,16 @@ figures =
     ∷ is (pos highestHalf) (pos 31)
     ∷ is (pos halvesApart) (pos 32)
     ∷ is (pos secondsPerWeight) (pos 60)
+    -- R37: the bits and bytes of a packed plan's mask, the bits of a start, the bytes of the longest plan, and the bits at the end after one
+    -- start, two, three and four
+    ∷ is (pos maskBits) (pos 48)
+    ∷ is (pos maskBytes) (pos 6)
+    ∷ is (pos startBits) (pos 18)
+    ∷ is (pos planRoom) (pos 114)
+    ∷ is (pos (padBits 1)) (pos 6)
+    ∷ is (pos (padBits 2)) (pos 4)
+    ∷ is (pos (padBits 3)) (pos 2)
+    ∷ is (pos (padBits 4)) (pos 0)
     ∷ []
 
 -- Every name stands for its figure.
@@ -96,13 +110,18 @@ module _ (bytes other : List ℕ) (t0 : ℤ) (profile given out work : List ℤ)
       -- the reader: open, step
       ∷ record { checks = headerChecks bytes; refusals = 1 ∷ 2 ∷ 3 ∷ 4 ∷ 5 ∷ [] }
       ∷ record { checks = stepChecks bytes place; refusals = 1 ∷ 2 ∷ 3 ∷ 4 ∷ 5 ∷ 6 ∷ [] }
-      -- extend, plan and planning halves, with two rooms each; choosing, with two orders
+      -- extend, plan and planning halves, with two rooms each
       ∷ record {
         checks = extendChecks profile bytes out work;
         refusals = 1 ∷ 2 ∷ 3 ∷ 4 ∷ 5 ∷ 6 ∷ 7 ∷ 8 ∷ 9 ∷ 10 ∷ 10 ∷ [];
       }
       ∷ record { checks = planChecks bytes out work; refusals = 1 ∷ 2 ∷ 3 ∷ 4 ∷ 5 ∷ 6 ∷ 7 ∷ 9 ∷ 10 ∷ 10 ∷ [] }
       ∷ record { checks = planHalvesChecks bytes out work; refusals = 1 ∷ 2 ∷ 3 ∷ 4 ∷ 5 ∷ 6 ∷ 7 ∷ 9 ∷ 13 ∷ 10 ∷ 10 ∷ [] }
+      -- writing a plan, with two rooms; legal, and best
+      ∷ record { checks = writeChecks bytes other work; refusals = 1 ∷ 2 ∷ 3 ∷ 4 ∷ 5 ∷ 6 ∷ 7 ∷ 9 ∷ 10 ∷ 10 ∷ [] }
+      ∷ record { checks = legalChecks bytes other; refusals = 1 ∷ 2 ∷ 3 ∷ 4 ∷ 5 ∷ 6 ∷ 7 ∷ 9 ∷ 14 ∷ 15 ∷ [] }
+      ∷ record { checks = bestChecks bytes other work; refusals = 1 ∷ 2 ∷ 3 ∷ 4 ∷ 5 ∷ 6 ∷ 7 ∷ 9 ∷ 14 ∷ 15 ∷ 10 ∷ [] }
+      -- choosing, with two orders
       ∷ record {
         checks = choosingChecks bytes other work;
         refusals = 1 ∷ 2 ∷ 3 ∷ 4 ∷ 5 ∷ 6 ∷ 7 ∷ 9 ∷ 1 ∷ 2 ∷ 3 ∷ 4 ∷ 5 ∷ 6 ∷ 7 ∷ 9 ∷ 10 ∷ [];
@@ -112,5 +131,5 @@ module _ (bytes other : List ℕ) (t0 : ℤ) (profile given out work : List ℤ)
   -- Each call judges these, in this sequence.
   pub judged-hold : map (λ (j : Judged). numbers (j .checks)) judged ≡ map (λ (j : Judged). j .refusals) judged
   unfolding headerChecks listChecks jobChecks weightChecks halvesChecks extendJudged extendChecks planChecks planHalvesChecks
-      choosingChecks
+      sentChecks writeChecks legalChecks bestChecks choosingChecks
   judged-hold = refl

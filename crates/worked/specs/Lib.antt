@@ -3,3 +3,4 @@ pub mod Figures
 pub mod Examples
 pub mod Rest
 pub mod Halves
+pub mod Plans
