@@ -14,17 +14,17 @@ pub const CRITICAL: usize = 1;
 
 pub const WEIGHT: usize = 2;
 
-const READY: usize = 3;
+pub const READY: usize = 3;
 
 pub const LENGTH: usize = 4;
 
-const DEADLINE: usize = 5;
+pub const DEADLINE: usize = 5;
 
 // The seconds that the contactor rests after every job.
-const REST: i32 = 15;
+pub const REST: i32 = 15;
 
 // What stands for the start of a job that is left out.
-const LEFT_OUT: i32 = 200_000;
+pub const LEFT_OUT: i32 = 200_000;
 
 // What running a choice comes to: whether it may be run at all, when the bus is free after it, and the
 // weight kept.

@@ -8,7 +8,6 @@ use crate::counts::POINTS;
 use crate::counts::QUESTIONS;
 use crate::counts::SECONDS;
 use crate::counts::TIES;
-use crate::counts::count;
 use crate::counts::expect;
 use better::Joined;
 use by_hand::Best;
@@ -20,39 +19,18 @@ use careful::front_bytes;
 use careful::is_count;
 use careful::plus;
 use careful::same;
+use comparing::MARK;
+use comparing::count;
+use comparing::leaves;
+use comparing::pack_order;
+use comparing::says;
 use extending::Extended;
 use halves::HalvesPlanned;
 use openings::Chosen;
-use pack::Packed;
-use packed::Refusal;
 use planner::Figures;
 use planner::Planned;
 use profiles::Finding;
 ghost use Prim.Native.Nat.{_≤_};
-
-// What lent buffers hold before a call, so that every number written shows.
-const MARK: i32 = 7_777;
-
-// The numbers of the work area.
-const AREA: usize = 14_749;
-
-// The bytes of an order; an order that is refused has none.
-fn pack_order(t0: i32, numbers: &[i32], bytes: &mut [u8]) -> usize {
-    match pack::pack(t0, numbers, bytes) {
-        Packed::Refused(_) => 0,
-        Packed::Bytes(written) => written,
-    }
-}
-
-// Whether a refusal is this one at this place; none of the orders compared has a field out of range.
-fn says(refusal: Refusal, number: u32, place: usize) -> bool {
-    refusal.number == number && refusal.place == place && refusal.field == 0
-}
-
-// Whether a call left the work area as it should, full of one number, and what is past it as it was.
-fn leaves(work: &[i32], number: i32) -> bool {
-    all_are(front(work, AREA), number) && at(work, AREA) == MARK
-}
 
 // Whether a plan's figures are those of the best choice.
 fn figures_agree(figures: Figures, numbers: &[i32], t0: i32, best: Best) -> bool {

@@ -1,5 +1,6 @@
 // The counts of a run: what was met, what was compared, and how often an answer differed.
-use careful::more;
+use comparing::count;
+use comparing::write_count;
 
 // Where each count stands.
 pub const ORDERS: usize = 0;
@@ -22,27 +23,10 @@ pub const SECONDS: usize = 8;
 
 pub const MISMATCHES: usize = 9;
 
-// Adds to a count.
-pub fn count(counts: &mut [u64], which: usize, by: u64) {
-    if which < counts.len() {
-        let sum = more(counts[which], by);
-        counts[which] = sum;
-    }
-}
-
 // Counts a mismatch where an answer differs.
 pub fn expect(counts: &mut [u64], agrees: bool) {
     if !agrees {
         count(counts, MISMATCHES, 1);
-    }
-}
-
-// Writes a count on a line of its own, behind a word.
-fn write_count(counts: &[u64], which: usize, word: &[u8]) {
-    if which < counts.len() {
-        io::write_all(1, word);
-        io::print_decimal(1, counts[which]);
-        io::write_all(1, b"\n");
     }
 }
 

@@ -135,7 +135,7 @@ fn draw(seed: &mut u64, many: u64) -> u64 {
 }
 
 // The next number drawn, one of so many from a number up.
-fn draw_from(seed: &mut u64, low: i32, many: u64) -> i32 {
+pub fn draw_from(seed: &mut u64, low: i32, many: u64) -> i32 {
     let by = draw(seed, many);
     plus(low, number_of(by))
 }
