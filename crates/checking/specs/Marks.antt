@@ -19,6 +19,7 @@ use Rattle.packed.specs.PlacesLaws.{length-each, getD-each}
 use Rattle.starting.specs.Picks.{picksOf}
 use Rattle.starting.specs.PicksLaws.{picks-none, picks-more, length-picks, pick-is-bit}
 use Rattle.packed_plan.specs.Plan.{maskIn, countIn, keptAt, keptIn}
+use Rattle.packed_plan.specs.PlanLaws.{ones-raised}
 use Rattle.legal.specs.Legal.{keptOf}
 use Rattle.checking.specs.Turns.{keptBy}
 
@@ -42,21 +43,11 @@ zeros-up m d h e =
 
 -- ---- how many ones
 
-pub ones-0 : ones 0 ≡ 0
-unfolding ones
-ones-0 = refl
-
 one-digit : (x : ℕ) → x ≤ 1 → ones x ≡ x
 unfolding ones
 one-digit zero l = refl
 one-digit (suc zero) l = refl
 one-digit (suc (suc x)) l = absurd (omega arith)
-
--- Moved up by some places they are as many.
-ones-raised : (m k : ℕ) → ones (m * 2 ^ k) ≡ ones m
-ones-raised m k =
-    let e : m * 2 ^ k ≡ m * 2 ^ k + 0 = omega arith in
-    ap ones e ∙ ones-cat k m 0 (pow-pos k) ∙ omega (arith, ones-0)
 
 -- Those of a mask are its highest bit and those of the others, moved up.
 pub ones-left : (m : ℕ) → m < 2 ^ 64 → ones m ≡ m / 2 ^ 63 + ones (m % 2 ^ 63 * 2)

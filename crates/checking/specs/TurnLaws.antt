@@ -30,12 +30,13 @@ use Rattle.fields.specs.Fields.{asJob}
 use Rattle.fields.specs.Facts.{JobFacts}
 use Rattle.fields.specs.Places.{drop-more}
 use Rattle.packed_plan.specs.Plan.{planBytes, padBits}
+use Rattle.packed_plan.specs.PlanLaws.{ones-0}
 use Rattle.packed_plan.specs.Writing.{placeOf}
 use Rattle.plan_bytes.specs.Asks.{StartThere, startFrom}
 use Rattle.legal.specs.Legal.{endOf, startLegal, legalFrom}
 use Rattle.legal.specs.LegalLaws.{start-legal}
 use Rattle.checking.specs.Turns.{keptBy, turnOf}
-use Rattle.checking.specs.Marks.{kept-none, kept-more, zeros-up, ones-0, ones-left}
+use Rattle.checking.specs.Marks.{kept-none, kept-more, zeros-up, ones-left}
 use Rattle.checking.specs.declared.Turn.{Turn}
 
 -- ---- one turn, as the code takes it

@@ -35,7 +35,8 @@ use Rattle.report.specs.Report.{textRoom, printed}
 use Rattle.report.specs.AsPrinted.{morningBytes, morningText, morning-printed}
 use Rattle.worked.specs.Examples.{morning}
 use Rattle.worked.specs.Halves.{twoChecks}
-use Rattle.worked.specs.Plans.{ones-of-byte, ownPlan, lighterPlan}
+use Rattle.packed_plan.specs.PlanLaws.{ones-raised}
+use Rattle.worked.specs.Plans.{ownPlan, lighterPlan}
 use Rattle.hollow.specs.Named.{ones, front, room, workArea, refusedBytes, oneJobBytes, start, page, oneJobPlan, planPage}
 
 -- P4 as an order.
@@ -96,14 +97,14 @@ with-room out work d e =
       extend-morning = rw (d, e);
       extend-one-job = rw (d, e);
       choose = rw e;
-      legal-own = rw (ones-of-byte 0xD8) (unfold count-ones in refl);
-      legal-other = rw (ones-of-byte 0x80) (unfold count-ones in refl);
-      legal-one-job = rw (ones-of-byte 0x80) (unfold count-ones in refl);
-      legal-refused = rw (ones-of-byte 0xD8) (unfold count-ones in refl);
-      best-passed = rw (ones-of-byte 0xD8) (unfold count-ones in rw e);
-      best-own = rw (ones-of-byte 0xD8) (unfold count-ones in rw e);
-      best-lighter = rw (ones-of-byte 0xB8) (unfold count-ones in rw e);
-      best-refused = rw (ones-of-byte 0xD8) (unfold count-ones in refl);
+      legal-own = rw (ones-raised 0xD8 40) (unfold count-ones in refl);
+      legal-other = rw (ones-raised 0x80 40) (unfold count-ones in refl);
+      legal-one-job = rw (ones-raised 0x80 40) (unfold count-ones in refl);
+      legal-refused = rw (ones-raised 0xD8 40) (unfold count-ones in refl);
+      best-passed = rw (ones-raised 0xD8 40) (unfold count-ones in rw e);
+      best-own = rw (ones-raised 0xD8 40) (unfold count-ones in rw e);
+      best-lighter = rw (ones-raised 0xB8 40) (unfold count-ones in rw e);
+      best-refused = rw (ones-raised 0xD8 40) (unfold count-ones in refl);
       write-morning = rw e;
       write-one-job = rw e;
       morning-order = refl;

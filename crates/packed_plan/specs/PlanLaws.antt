@@ -1,9 +1,10 @@
 -- The laws of packed plans.
 use Prim.Native.Nat.{ℕ, suc, _+_, _*_, _-_, _/_, _%_, _^_, _≤_, _<_}
-use mathlib.Core.Path.{_≡_, sym, ap, _∙_, subst}
+use mathlib.Core.Path.{_≡_, refl, sym, ap, _∙_, subst}
 use mathlib.Core.List.{List, [], _∷_, _++_, append-assoc}
 use native.Mathlib.Omega.{arith}
-use lib.Pow.{shr-shr, field, mod-mod-pow}
+use lib.Count.{ones, ones-cat}
+use lib.Pow.{pow-pos, shr-shr, field, mod-mod-pow}
 use lib.IntN.{ℤ, pos}
 use lib.ListN.{length, replicate, getD, take, drop, length-append, length-drop, length-replicate}
 use lib.ListN.{replicate-append-replicate}
@@ -14,6 +15,20 @@ use Rattle.packed.specs.Layout.{Field, plain, twos, decode, numberOf}
 use Rattle.packed.specs.LayoutLaws.{AreBytes, numberOf-lt}
 use Rattle.packed_plan.specs.Plan.{planBytes, padBits, frontLayout, planLayout, planFields}
 use Rattle.packed_plan.specs.Appended.{bits, bits-append, bits-replicate, decode-at, number-behind, number-front}
+
+-- ---- how many ones
+
+pub ones-0 : ones 0 ≡ 0
+unfolding ones
+ones-0 = refl
+
+-- Moved up by some places they are as many.
+pub ones-raised : (m k : ℕ) → ones (m * 2 ^ k) ≡ ones m
+ones-raised m k =
+    let e : m * 2 ^ k ≡ m * 2 ^ k + 0 = omega arith in
+    ap ones e ∙ ones-cat k m 0 (pow-pos k) ∙ omega (arith, ones-0)
+
+-- ---- starts
 
 -- Starts that have room in 18 bits.
 abbrev pub Starts : List ℤ → Type 0

@@ -5,7 +5,7 @@ use mathlib.Core.Path.{_≡_, refl, sym, ap, _∙_}
 use mathlib.Core.Bool.{true, and-eq-true-iff, false≢true}
 use mathlib.Core.List.{List, [], _∷_, _++_}
 use native.Mathlib.Omega.{arith}
-use lib.Count.{ones, ones-cat}
+use lib.Count.{ones}
 use lib.Dec.{T}
 use lib.IntN.{ℤ, pos}
 use lib.ListN.{length, drop, getD}
@@ -21,6 +21,7 @@ use Rattle.order.specs.Choice.{Choice, feasible, starts, maskOf, mask, numberKe
 use Rattle.order.specs.Within.{JobWithin, jobs-within}
 use Rattle.order.specs.Moves.{pick-holds}
 use Rattle.order.specs.Counts.{mask-fits, kept-is-ones}
+use Rattle.packed_plan.specs.PlanLaws.{ones-raised}
 use Rattle.packed_plan.specs.Plan.{startsKept}
 use Rattle.legal.specs.Legal.{keptOf, keptStarts}
 
@@ -140,8 +141,4 @@ module _ (c : Choice) (few : length c ≤ 48) where
 
   -- and their ones are the jobs kept.
   pub top-ones : ones (mask c / 2 ^ 16) ≡ numberKept c
-  top-ones =
-      let below : ones 0 ≡ 0 = unfold ones in refl in
-      let whole : ones (mask c) ≡ ones (maskOf 48 c) =
-      ap ones (up ∙ omega arith) ∙ ones-cat 16 (maskOf 48 c) 0 (omega arith) ∙ omega (arith, below) in
-      ap ones top-bits ∙ sym whole ∙ kept-is-ones c (omega arith)
+  top-ones = ap ones top-bits ∙ sym (ap ones up ∙ ones-raised (maskOf 48 c) 16) ∙ kept-is-ones c (omega arith)

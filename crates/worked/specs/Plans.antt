@@ -1,14 +1,12 @@
 -- Checking plans and writing them (R37 to R40): the plans of P1, every condition of a legal plan on both sides, and the edges of the calls
 -- around checks 14 and 15. Each question as the calls are asked it, and what the rules say. One statement holds of the whole list, by
 -- computation.
-use Prim.Native.Nat.{ℕ, _+_, _*_, _^_}
-use mathlib.Core.Path.{_≡_, refl, ap, _∙_}
+use Prim.Native.Nat.{ℕ, _*_, _^_}
+use mathlib.Core.Path.{_≡_, refl}
 use mathlib.Core.List.{List, [], _∷_, _++_, map}
-use native.Mathlib.Omega.{arith}
-use lib.Count.{ones, ones-cat}
+use lib.Count.{ones}
 use lib.IntN.{ℤ, pos, negsuc}
 use lib.ListN.{length, take, replicate, set}
-use lib.Pow.{pow-pos}
 use Rattle.seconds.specs.Limits.{rest}
 use Rattle.seconds.specs.Twos.{bitsTo, toBits}
 use Rattle.packed.specs.Layout.{decode, encode, numberOf, bytesOf}
@@ -17,6 +15,7 @@ use Rattle.packed.specs.Packed.{headerWord, headerOf, countOf, t0Of, spareOf, r
 use Rattle.packed.specs.Packed.{jobCount, fieldsAt, packedHeader, packedJob, packOrder, jobOf, jobsOf, orderOf}
 use Rattle.packed.specs.Refusals.{fieldsWithin, firstBad, numberAt, firstRepeat, headerChecks, jobChecks, weightChecks}
 use Rattle.packed_plan.specs.Plan.{planNumber, packPlan, maskIn, countIn, planFields, startsIn, padIn, keptIn, sentChecks}
+use Rattle.packed_plan.specs.PlanLaws.{ones-raised}
 use Rattle.legal.specs.Legal.{isLegal, isBest}
 use Rattle.pack.specs.Answer.{refusalOf, bytesWritten}
 use Rattle.checking.specs.Calls.{legalChecks, legalOf, checkedNumbers}
@@ -31,13 +30,6 @@ use Rattle.worked.specs.Examples.{Example, job, critical, worth10, from0
 -- The jobs whose bits stand in a byte are kept, the highest bit for place 0, at these starts.
 abbrev pub keeping : ℕ → List ℤ → List ℕ
 keeping byte starts = packPlan (byte * 2 ^ 40) starts
-
--- Such a mask has the ones of its byte.
-pub ones-of-byte : (byte : ℕ) → ones (byte * 2 ^ 40) ≡ ones byte
-ones-of-byte byte =
-    let zeros : ones 0 ≡ 0 = unfold ones in refl in
-    let whole : byte * 2 ^ 40 ≡ byte * 2 ^ 40 + 0 = omega arith in
-    ap ones whole ∙ ones-cat 40 byte 0 (pow-pos 40) ∙ omega (arith, zeros)
 
 -- Our own plan of P1: jobs 7, 3, 5 and 9 at -600, -90, 225 and 340.
 abbrev pub ownPlan : List ℕ
@@ -171,7 +163,7 @@ module _ (work short : List ℤ) where
   unfolding toBits encode numberOf bytesOf planNumber packPlan maskIn countIn startsIn padIn sentChecks legalChecks bestChecks
       writeChecks
   plans-hold area less =
-      rw (ones-of-byte 0x80, ones-of-byte 0xB8, ones-of-byte 0xC0, ones-of-byte 0xC8, ones-of-byte 0xD8, area, less)
+      rw (ones-raised 0x80 40, ones-raised 0xB8 40, ones-raised 0xC0 40, ones-raised 0xC8 40, ones-raised 0xD8 40, area, less)
       (unfold
       ones rest bitsTo decode part flat each first headerWord headerOf countOf t0Of spareOf recordAt jobWord jobFields numbersOf
       jobCount fieldsAt packedHeader packedJob packOrder jobOf jobsOf orderOf fieldsWithin firstBad numberAt firstRepeat headerChecks
