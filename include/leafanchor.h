@@ -33,7 +33,7 @@ extern "C" {
  * one rises then. */
 #define LEAFANCHOR_VERSION_MAJOR 0
 /** The version's second figure: it rises when something is added. */
-#define LEAFANCHOR_VERSION_MINOR 5
+#define LEAFANCHOR_VERSION_MINOR 6
 /** The version's third figure: it rises when something is mended or made smaller. */
 #define LEAFANCHOR_VERSION_PATCH 0
 /** The version as text, "MAJOR.MINOR.PATCH". */
@@ -472,9 +472,10 @@ LEAFANCHOR_MUST_USE
 leafanchor_verdict_answer leafanchor_best(const uint8_t *order, size_t order_len, const uint8_t *plan,
                                           size_t plan_len, int32_t *work, size_t work_len);
 
-/** Asks which of two openings is worth more at a time; equal goes to the first (R17). Refusals 1 to 7 and 9 of
- * either opening, 10 and 11 name no winner. Which opening one of 1 to 9 is about: plan the first alone. It gives that
- * refusal with its place and field; or else it is the second's, and planning the second alone gives it.
+/** Asks which of two openings is worth more at a time; equal weight goes to the opening that reaches it sooner, by the
+ * times of the points found at t, and only then to the first (R17). Refusals 1 to 7 and 9 of either opening, 10 and 11
+ * name no winner. Which opening one of 1 to 9 is about: plan the first alone. It gives that refusal with its place and
+ * field; or else it is the second's, and planning the second alone gives it.
  * @param first the first packed order
  * @param first_len its bytes
  * @param second the second packed order
@@ -486,6 +487,19 @@ leafanchor_verdict_answer leafanchor_best(const uint8_t *order, size_t order_len
 LEAFANCHOR_MUST_USE
 leafanchor_question_answer leafanchor_question(const uint8_t *first, size_t first_len, const uint8_t *second,
                                                size_t second_len, int32_t t, int32_t *work, size_t work_len);
+
+/** leafanchor_question by the older rule: equal weight always goes to the first (R17).
+ * @param first the first packed order
+ * @param first_len its bytes
+ * @param second the second packed order
+ * @param second_len its bytes
+ * @param t any time
+ * @param work the work area
+ * @param work_len room for LEAFANCHOR_WORK_AREA numbers
+ * @return the winner */
+LEAFANCHOR_MUST_USE
+leafanchor_question_answer leafanchor_question_first(const uint8_t *first, size_t first_len, const uint8_t *second,
+                                                     size_t second_len, int32_t t, int32_t *work, size_t work_len);
 
 /** Chooses between two openings: leafanchor_question, and where the winner's records lie in its bytes, without
  * the header (R18). Refused as the question is, it hands back an empty part of the first.
@@ -500,6 +514,19 @@ leafanchor_question_answer leafanchor_question(const uint8_t *first, size_t firs
 LEAFANCHOR_MUST_USE
 leafanchor_choose_answer leafanchor_choose(const uint8_t *first, size_t first_len, const uint8_t *second,
                                            size_t second_len, int32_t t, int32_t *work, size_t work_len);
+
+/** leafanchor_choose by the older rule: equal weight always goes to the first (R18).
+ * @param first the first packed order
+ * @param first_len its bytes
+ * @param second the second packed order
+ * @param second_len its bytes
+ * @param t any time
+ * @param work the work area
+ * @param work_len room for LEAFANCHOR_WORK_AREA numbers
+ * @return the winner and its part */
+LEAFANCHOR_MUST_USE
+leafanchor_choose_answer leafanchor_choose_first(const uint8_t *first, size_t first_len, const uint8_t *second,
+                                                 size_t second_len, int32_t t, int32_t *work, size_t work_len);
 
 /** A job (R2). An array of jobs is a list of unpacked numbers, six a job. */
 typedef struct leafanchor_job {

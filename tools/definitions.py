@@ -21,7 +21,7 @@ PARTS = [
         profiles Numbers, profiles Answer, point_records Records, better Answer,
         area Area, filling After, planner Calls, halves Calls, extending Calls, openings Choosing,
         packed_plan Plan, plan_writer Calls, checking Calls, best_plan Calls,
-        packed_answers Numbers, plan_answers Numbers, verdict_answers Numbers, text Decimal, report Report'''),
+        packed_answers Numbers, plan_answers Numbers, opening_answers Numbers, verdict_answers Numbers, text Decimal, report Report'''),
 ]
 IMPORT = re.compile(r'(?:unfoldable )?(?:pub |ghost )?use Rattle·(\w+?)(?:·specs\.specs|\.specs)\.(\w+)\.')
 LAW = re.compile(r'(pub )?\S+ : |.*\b(refl|omega|rw|cc|search|unfolding)\b')

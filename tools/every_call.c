@@ -1,7 +1,7 @@
 /* Calls every function of the header, on the worked figures P1 to P11, at the edges of the rest, on orders of halves,
- * on plans of P1 and on each field out of range, and says which answer differs. That the header declares what the
- * library defines, and that its own calls over jobs and profiles give what the plain ones give, is seen here from C.
- * Compiles as C11 and as C++17. */
+ * on plans of P1, on openings of the same weight and on each field out of range, and says which answer differs. That
+ * the header declares what the library defines, and that its own calls over jobs and profiles give what the plain ones
+ * give, is seen here from C. Compiles as C11 and as C++17. */
 #include "leafanchor.h"
 
 #include <stdio.h>
@@ -303,6 +303,41 @@ static void checked_plans(void)
     CHECK(leafanchor_legal(order, 3, plan, 0).refusal == LEAFANCHOR_ORDER_TOO_SHORT);
 }
 
+/* Whether the question names this winner. */
+static int names(leafanchor_question_answer asked, uint32_t winner)
+{
+    return asked.refusal == 0 && asked.field == 0 && asked.winner == winner;
+}
+
+/* Whether the choice hands back the one record of this winner. */
+static int hands(leafanchor_choose_answer chosen, uint32_t winner)
+{
+    return chosen.refusal == 0 && chosen.field == 0 && chosen.winner == winner && chosen.offset == 4 &&
+           chosen.length == 8;
+}
+
+/* Whether these win between two openings of one job each: by the default, and where equal weight always goes to the
+ * first. */
+static int win(const uint8_t *first, const uint8_t *second, int32_t t, uint32_t sooner, uint32_t to_first)
+{
+    return names(leafanchor_question(first, 12, second, 12, t, work, LEAFANCHOR_WORK_AREA), sooner) &&
+           hands(leafanchor_choose(first, 12, second, 12, t, work, LEAFANCHOR_WORK_AREA), sooner) &&
+           names(leafanchor_question_first(first, 12, second, 12, t, work, LEAFANCHOR_WORK_AREA), to_first) &&
+           hands(leafanchor_choose_first(first, 12, second, 12, t, work, LEAFANCHOR_WORK_AREA), to_first);
+}
+
+/* Two openings of the same weight, with the bus free at 25 and at 20: where both rules differ, and a second before. */
+static void rival_openings(void)
+{
+    static const leafanchor_job one = {1, 0, 10, 0, 10, 10}, other = {1, 0, 10, 0, 5, 10};
+    static uint8_t slow[12], quick[12];
+    CHECK(leafanchor_pack_jobs(0, &one, 1, slow, sizeof slow).bytes == 12);
+    CHECK(leafanchor_pack_jobs(0, &other, 1, quick, sizeof quick).bytes == 12);
+    CHECK(win(slow, quick, 19, 1, 1) && win(slow, quick, 24, 2, 2) && win(slow, quick, 25, 2, 1));
+    CHECK(win(quick, slow, 19, 1, 1) && win(quick, slow, 24, 1, 1) && win(quick, slow, 25, 1, 1));
+    CHECK(win(slow, slow, 25, 1, 1));
+}
+
 /* P1 as the first opening against an order of no jobs, and the other way round. */
 static void openings(void)
 {
@@ -316,6 +351,10 @@ static void openings(void)
     chosen = leafanchor_choose(empty, 4, order, 44, -1, work, LEAFANCHOR_WORK_AREA);
     CHECK(chosen.refusal == LEAFANCHOR_NO_FEASIBLE_CHOICE && chosen.field == 0);
     CHECK(chosen.winner == 0 && chosen.length == 0);
+    asked = leafanchor_question_first(order, 44, empty, 4, -1, work, LEAFANCHOR_WORK_AREA);
+    CHECK(asked.refusal == LEAFANCHOR_NO_FEASIBLE_CHOICE && asked.field == 0 && asked.winner == 0);
+    chosen = leafanchor_choose_first(empty, 4, order, 44, -1, work, LEAFANCHOR_WORK_AREA);
+    CHECK(chosen.refusal == LEAFANCHOR_NO_FEASIBLE_CHOICE && chosen.winner == 0 && chosen.length == 0);
 }
 
 /* An order of two jobs as packed bytes, whatever the fields from the weight on hold. */
@@ -334,10 +373,25 @@ static void put_two(const int32_t *two, uint8_t *bytes)
     }
 }
 
+/* Every call on openings refuses an order with a job whose field is out of range, as either of them, and names the
+ * field. */
+static void named_by_openings(const uint8_t *bad, size_t bad_len, uint32_t field)
+{
+    static const uint8_t empty[] = {0, 0, 0, 0};
+    leafanchor_question_answer asked =
+        leafanchor_question(bad, bad_len, empty, 4, 0, work, LEAFANCHOR_WORK_AREA);
+    CHECK(asked.refusal == 6 && asked.field == field && asked.winner == 0);
+    asked = leafanchor_question_first(empty, 4, bad, bad_len, 0, work, LEAFANCHOR_WORK_AREA);
+    CHECK(asked.refusal == 6 && asked.field == field && asked.winner == 0);
+    leafanchor_choose_answer chosen = leafanchor_choose(empty, 4, bad, bad_len, 0, work, LEAFANCHOR_WORK_AREA);
+    CHECK(chosen.refusal == 6 && chosen.field == field && chosen.winner == 0 && chosen.length == 0);
+    chosen = leafanchor_choose_first(bad, bad_len, empty, 4, 0, work, LEAFANCHOR_WORK_AREA);
+    CHECK(chosen.refusal == 6 && chosen.field == field && chosen.winner == 0 && chosen.length == 0);
+}
+
 /* Every call on bytes refuses an order whose second job has this field out of range, and names it. */
 static void named_over_bytes(const int32_t *two, uint32_t field)
 {
-    static const uint8_t empty[] = {0, 0, 0, 0};
     static const int32_t bus_free[] = {0, 0};
     static uint8_t bad[4 + 2 * 8];
     put_two(two, bad);
@@ -360,11 +414,7 @@ static void named_over_bytes(const int32_t *two, uint32_t field)
     CHECK(legal.refusal == 6 && legal.place == 1 && legal.field == field && legal.yes == 0);
     leafanchor_verdict_answer best = leafanchor_best(bad, sizeof bad, our_plan, 0, work, 0);
     CHECK(best.refusal == 6 && best.place == 1 && best.field == field && best.yes == 0);
-    leafanchor_question_answer asked =
-        leafanchor_question(bad, sizeof bad, empty, 4, 0, work, LEAFANCHOR_WORK_AREA);
-    CHECK(asked.refusal == 6 && asked.field == field && asked.winner == 0);
-    leafanchor_choose_answer chosen = leafanchor_choose(empty, 4, bad, sizeof bad, 0, work, LEAFANCHOR_WORK_AREA);
-    CHECK(chosen.refusal == 6 && chosen.field == field && chosen.winner == 0 && chosen.length == 0);
+    named_by_openings(bad, sizeof bad, field);
 }
 
 /* Each field of a second job out of range in turn, and the deadline with it: the first is named. Bytes hold a number
@@ -452,6 +502,7 @@ int main(void)
     written_plans();
     checked_plans();
     openings();
+    rival_openings();
     fields_out_of_range();
     in_words();
     heat_up();

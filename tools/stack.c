@@ -80,9 +80,18 @@ static uint32_t question(size_t i)
 {
     return leafanchor_question(orders[i], bytes[i], orders[0], bytes[0], 9000, work, LEAFANCHOR_WORK_AREA).refusal;
 }
+static uint32_t question_first(size_t i)
+{
+    return leafanchor_question_first(orders[i], bytes[i], orders[0], bytes[0], 9000, work,
+                                     LEAFANCHOR_WORK_AREA).refusal;
+}
 static uint32_t choose(size_t i)
 {
     return leafanchor_choose(orders[i], bytes[i], orders[0], bytes[0], 9000, work, LEAFANCHOR_WORK_AREA).refusal;
+}
+static uint32_t choose_first(size_t i)
+{
+    return leafanchor_choose_first(orders[i], bytes[i], orders[0], bytes[0], 9000, work, LEAFANCHOR_WORK_AREA).refusal;
 }
 static uint32_t unpack_jobs(size_t i)
 {
@@ -107,9 +116,9 @@ static const struct { const char *name; call *run; } calls[] = {
     {"heat_up", heat_up}, {"unpack", unpack}, {"pack", pack}, {"open", open}, {"step", step}, {"lookup", lookup},
     {"lookup_records", lookup_records}, {"better_of", better_of}, {"extend", extend}, {"plan", plan},
     {"plan_halves", plan_halves}, {"write_plan", write_plan}, {"legal", legal}, {"best", best},
-    {"question", question}, {"choose", choose}, {"unpack_jobs", unpack_jobs}, {"pack_jobs", pack_jobs},
-    {"profile_of_order", profile_of_order}, {"profile_extended", profile_extended},
-    {"profile_better", profile_better}, {"profile_lookup", profile_lookup}};
+    {"question", question}, {"question_first", question_first}, {"choose", choose}, {"choose_first", choose_first},
+    {"unpack_jobs", unpack_jobs}, {"pack_jobs", pack_jobs}, {"profile_of_order", profile_of_order},
+    {"profile_extended", profile_extended}, {"profile_better", profile_better}, {"profile_lookup", profile_lookup}};
 
 /* Ends the program where the system refuses something. */
 static void must(int result, const char *what)

@@ -150,19 +150,19 @@ def records(case):
     return told(rules.lookup(numbers[:2 * min(8, case.place('of'))], case.at))
 
 
-def asked(case):
+def asked(case, tie):
     first, second = order_in(case.parts[0]), order_in(case.parts[1])
-    return rules.question(first, second, case.at, case.work) + (first, second)
+    return rules.question(first, second, case.at, case.work, tie) + (first, second)
 
 
-def question(case):
-    refusal, winner, cleared, _, _ = asked(case)
+def question(case, tie=rules.sooner):
+    refusal, winner, cleared, _, _ = asked(case, tie)
     number, _, field = refusal
     return (' refused %d %d' % (number, field) if number else ' %d' % winner) + area(case.work, cleared)
 
 
-def choose(case):
-    refusal, winner, cleared, first, second = asked(case)
+def choose(case, tie=rules.sooner):
+    refusal, winner, cleared, first, second = asked(case, tie)
     part = (first, second)[winner - 1][4:] if winner else []
     return ' part %d' % len(part) + plain(part) + area(case.work, cleared)
 
@@ -187,6 +187,8 @@ CALLS = {
     'unpack': unpack, 'pack': pack, 'heat': heat, 'plan': plan, 'plan_halves': plan_halves, 'legal': legal,
     'legal_cut': legal_cut, 'best': best, 'write_plan': write_plan, 'report': report, 'extend': extend, 'better': better,
     'lookup': lookup, 'records': records, 'question': question, 'choose': choose,
+    'question_first': lambda case: question(case, rules.to_first),
+    'choose_first': lambda case: choose(case, rules.to_first),
     'read': read, 'open': lambda case: opened(order_in(case.parts[0])),
     'step': lambda case: stepped(order_in(case.parts[0]), case.place('at')),
 }

@@ -286,9 +286,9 @@ def valid(numbers):
             and all(EARLIEST <= time <= LATEST_FREE for time in times) and all(0 <= weight <= 300 for weight in weights))
 
 
-def by(points, t):
-    """The greatest weight at or before t, none where there is no point."""
-    return max((weight for time, weight in points if time <= t), default=None)
+def last_by(points, t):
+    """The last point at or before t, none where there is no point."""
+    return max((point for point in points if point[0] <= t), default=None)
 
 
 # ---- the calls on profiles and orders: the answer, what is written, and whether the work area is cleared (R25, R28, R29)
@@ -347,24 +347,42 @@ def better(one, other, room):
 def lookup(numbers, t):
     if not valid(numbers):
         return ('refused', 8)
-    weight = by(points_in(numbers), t)
-    return ('none',) if weight is None else ('found', weight)
+    point = last_by(points_in(numbers), t)
+    return ('none',) if point is None else ('found', point[1])
 
 
-def question(first, second, t, work):
+def sooner(one, other):
+    """The winner of two points of the same weight: the second if it is earlier."""
+    return 2 if other[0] < one[0] else 1
+
+
+def to_first(one, other):
+    """The same by the night desk's rule: always the first."""
+    return 1
+
+
+def winner(one, other, tie):
+    """The winner of two points, of which one may be none: by weight, and of the same weight by the tie."""
+    if one is None or other is None:
+        return 2 if one is None else 1
+    if one[1] != other[1]:
+        return 2 if other[1] > one[1] else 1
+    return tie(one, other)
+
+
+def question(first, second, t, work, tie):
     """Refusal, which names no place, winner (R17), and whether the work area is cleared."""
-    worth = []
+    found = []
     for data in (first, second):
         refusal, t0, jobs = judge(data)
         if refusal != ACCEPTED:
             return (refusal[0], 0, refusal[2]), 0, False
-        weight = by(profile_from(t0, jobs), t)
-        worth.append(-1 if weight is None else weight)
+        found.append(last_by(profile_from(t0, jobs), t))
     if work < WORK_AREA:
         return (10, 0, 0), 0, False
-    if worth == [-1, -1]:
+    if found == [None, None]:
         return (11, 0, 0), 0, True
-    return ACCEPTED, (2 if worth[1] > worth[0] else 1), True
+    return ACCEPTED, winner(*found, tie), True
 
 
 # ---- packed plans (R37), legal and best ones (R38, R39), and our own written (R40)

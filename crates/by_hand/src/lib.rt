@@ -27,6 +27,7 @@ pub use plans::PAST_DEADLINE;
 pub use plans::flip_bit;
 pub use plans::judge_plan;
 pub use plans::pack_plan;
+pub use points::Reached;
 pub use points::extend;
 pub use points::is_profile;
 pub use points::join;

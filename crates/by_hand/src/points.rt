@@ -25,6 +25,13 @@ const LATEST: i32 = 100_015;
 
 const HEAVIEST: i32 = 300;
 
+// What is reached by a time: the greatest weight of the outcomes or points at or before it, -1 where there
+// is none, and the earliest time of those that have it.
+pub struct Reached {
+    pub weight: i32,
+    pub time: i32,
+}
+
 // The time of an outcome or a point.
 fn time_of(pairs: &[i32], place: usize) -> i32 {
     if place < MOST {
@@ -185,30 +192,44 @@ pub fn point_total(numbers: &[i32], t0: i32) -> u64 {
     total
 }
 
-// The greatest weight of the pairs at or before a time, -1 where there is none.
-fn weight_by(pairs: &[i32], many: usize, t: i32) -> i32 {
-    let mut greatest = -1;
+// What is reached by a time with a pair too: a heavier one counts, and of the same weight an earlier one.
+fn with_pair(so_far: Reached, time: i32, weight: i32, t: i32) -> Reached {
+    let heavier = so_far.weight < weight;
+    let sooner = so_far.weight == weight && time < so_far.time;
+    if time <= t && (heavier || sooner) {
+        return Reached {
+            weight: weight,
+            time: time,
+        };
+    }
+    so_far
+}
+
+// What the pairs reach by a time.
+fn reached_by(pairs: &[i32], many: usize, t: i32) -> Reached {
+    let mut reached = Reached {
+        weight: -1,
+        time: LATEST,
+    };
     let mut i = 0;
     while i < many {
-        let weight = weight_of(pairs, i);
-        if time_of(pairs, i) <= t && greatest < weight {
-            greatest = weight;
-        }
+        reached = with_pair(reached, time_of(pairs, i), weight_of(pairs, i), t);
         i += 1;
     }
-    greatest
+    reached
 }
 
 // The weight that a profile gives at a time, -1 where it gives none.
 pub fn look_up(profile: &[i32], t: i32) -> i32 {
-    weight_by(profile, profile.len() / 2, t)
+    let reached = reached_by(profile, profile.len() / 2, t);
+    reached.weight
 }
 
-// The greatest weight that an order can keep by a time, -1 where none leaves the bus free by then.
-pub fn worth(numbers: &[i32], t0: i32, t: i32) -> i32 {
+// What an order is worth at a time: what the outcomes of all its choices reach by then.
+pub fn worth(numbers: &[i32], t0: i32, t: i32) -> Reached {
     let mut pairs = [0; 2048];
     let many = gather(numbers, numbers.len() / 6, t0, 0, &mut pairs, 0);
-    weight_by(&pairs, many, t)
+    reached_by(&pairs, many, t)
 }
 
 // Whether numbers are a profile: pairs whose times and weights rise within their ranges.

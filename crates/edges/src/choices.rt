@@ -1,4 +1,4 @@
-// Two openings: the question which of them wins at a time, and the choice between them.
+// Two openings: the question which of them wins at a time, and the choice between them, by either tie rule.
 use crate::WORK_MARK;
 use crate::calls;
 use careful::front_bytes;
@@ -13,6 +13,15 @@ use case_lines::put_refused_field;
 use case_lines::setting;
 use openings::Chosen;
 
+// The calls on two openings: the question and the choice by the usual rule, and by the rule that gives a tie
+// to the first.
+enum Call {
+    Question,
+    QuestionFirst,
+    Choose,
+    ChooseFirst,
+}
+
 // What the question answered.
 fn put_chosen(answer: Chosen) {
     match answer {
@@ -22,16 +31,18 @@ fn put_chosen(answer: Chosen) {
     }
 }
 
-// The choice between two orders at a time, or the question which of them wins.
-fn compare<'a>(choose: bool, first: &'a [u8], second: &'a [u8], t: i32, work: &mut [i32]) {
-    if choose {
-        return put_part(openings::choose(first, second, t, work));
+// What the call that a case is for answers on two orders at a time.
+fn put_answer<'a>(call: Call, first: &'a [u8], second: &'a [u8], t: i32, work: &mut [i32]) {
+    match call {
+        Call::Question => put_chosen(openings::question(first, second, t, work)),
+        Call::QuestionFirst => put_chosen(openings::question_first(first, second, t, work)),
+        Call::Choose => put_part(openings::choose(first, second, t, work)),
+        Call::ChooseFirst => put_part(openings::choose_first(first, second, t, work)),
     }
-    put_chosen(openings::question(first, second, t, work))
 }
 
 // Either of two orders at a time, with a work area lent.
-fn with_two_orders(line: &[u8], choose: bool) {
+fn with_two_orders(line: &[u8], call: Call) {
     let mut one = [0; 400];
     let one_size = make_order(part(line, 1), &mut one);
     let mut other = [0; 400];
@@ -40,28 +51,26 @@ fn with_two_orders(line: &[u8], choose: bool) {
     let work = lend(&mut space, count_setting(line, b'k'));
     let first = front_bytes(&one, one_size);
     let second = front_bytes(&other, other_size);
-    compare(choose, first, second, setting(line, b't'), work);
+    put_answer(call, first, second, setting(line, b't'), work);
     put_buffer(work);
-}
-
-// `question`.
-fn question(line: &[u8]) {
-    with_two_orders(line, false);
-}
-
-// `choose`.
-fn choose(line: &[u8]) {
-    with_two_orders(line, true);
 }
 
 // Runs a case that is for one of these calls; false for any other.
 pub fn run(line: &[u8]) -> bool {
     if calls(line, b"question") {
-        question(line);
+        with_two_orders(line, Call::Question);
+        return true;
+    }
+    if calls(line, b"question_first") {
+        with_two_orders(line, Call::QuestionFirst);
         return true;
     }
     if calls(line, b"choose") {
-        choose(line);
+        with_two_orders(line, Call::Choose);
+        return true;
+    }
+    if calls(line, b"choose_first") {
+        with_two_orders(line, Call::ChooseFirst);
         return true;
     }
     false

@@ -1,11 +1,11 @@
-// Each call compared with the planner by trial: its answer, all that it wrote, and that it wrote no more.
+// Each call but the choice between openings compared with the planner by trial: its answer, all that it
+// wrote, and that it wrote no more.
 use crate::counts::FEASIBLE;
 use crate::counts::HALVES;
 use crate::counts::LOOKUPS;
 use crate::counts::OFFENDING;
 use crate::counts::ORDERS;
 use crate::counts::POINTS;
-use crate::counts::QUESTIONS;
 use crate::counts::SECONDS;
 use crate::counts::TIES;
 use crate::counts::expect;
@@ -26,7 +26,6 @@ use comparing::pack_order;
 use comparing::says;
 use extending::Extended;
 use halves::HalvesPlanned;
-use openings::Chosen;
 use planner::Figures;
 use planner::Planned;
 use profiles::Finding;
@@ -259,82 +258,4 @@ pub fn check_lookups(profile: &[i32], counts: &mut [u64]) {
         i += 2;
     }
     check_lookup(profile, 150_000, counts);
-}
-
-// Whether the answer to the question is that of what each opening is worth, -1 for nothing.
-fn is_answer(answer: Chosen, one: i32, other: i32) -> bool {
-    match answer {
-        Chosen::Refused(refusal) => says(refusal, 11, 0) && one < 0 && other < 0,
-        Chosen::First => one >= 0 && other <= one,
-        Chosen::Second => one < other,
-    }
-}
-
-// Whether the question on two openings agrees with what each is worth at a time.
-fn question_agrees(first: &[u8], one: i32, second: &[u8], other: i32, t: i32) -> bool {
-    let mut work = [MARK; 14_750];
-    let answer = openings::question(first, second, t, &mut work);
-    is_answer(answer, one, other) && leaves(&work, 0)
-}
-
-// The records of a packed order.
-fn records(bytes: &[u8]) -> &[u8] {
-    if bytes.len() < 4 {
-        return bytes;
-    }
-    &bytes[4..]
-}
-
-// Whether a part is the records of the opening that is worth more, or empty where neither is worth
-// anything.
-fn is_part(part: &[u8], first: &[u8], one: i32, second: &[u8], other: i32) -> bool {
-    if one < 0 && other < 0 {
-        return part.len() == 0;
-    }
-    if one < other {
-        return check::same(part, records(second));
-    }
-    check::same(part, records(first))
-}
-
-// Whether the choice between two openings hands back the part that what each is worth asks for.
-fn choice_agrees<'a>(first: &'a [u8], one: i32, second: &'a [u8], other: i32, t: i32) -> bool {
-    let mut work = [MARK; 14_750];
-    let part = openings::choose(first, second, t, &mut work);
-    is_part(part, first, one, second, other) && leaves(&work, 0)
-}
-
-// The question and the choice between two openings that are worth so much at a time.
-fn check_openings<'a>(
-    first: &'a [u8],
-    one: i32,
-    second: &'a [u8],
-    other: i32,
-    t: i32,
-    counts: &mut [u64],
-) {
-    expect(counts, question_agrees(first, one, second, other, t));
-    expect(counts, choice_agrees(first, one, second, other, t));
-    count(counts, QUESTIONS, 1);
-}
-
-// The choice between two orders at a time, both ways round.
-pub fn check_choice(
-    one: &[i32],
-    one_t0: i32,
-    other: &[i32],
-    other_t0: i32,
-    t: i32,
-    counts: &mut [u64],
-) {
-    let mut one_space = [0; 84];
-    let mut other_space = [0; 84];
-    let one_size = pack_order(one_t0, one, &mut one_space);
-    let other_size = pack_order(other_t0, other, &mut other_space);
-    let first = front_bytes(&one_space, one_size);
-    let second = front_bytes(&other_space, other_size);
-    let one_worth = by_hand::worth(one, one_t0, t);
-    let other_worth = by_hand::worth(other, other_t0, t);
-    check_openings(first, one_worth, second, other_worth, t, counts);
-    check_openings(second, other_worth, first, one_worth, t, counts);
 }

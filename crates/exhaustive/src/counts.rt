@@ -15,13 +15,15 @@ pub const LOOKUPS: usize = 4;
 
 pub const QUESTIONS: usize = 5;
 
-pub const HALVES: usize = 6;
+pub const SECOND_SOONER: usize = 6;
 
-pub const OFFENDING: usize = 7;
+pub const HALVES: usize = 7;
 
-pub const SECONDS: usize = 8;
+pub const OFFENDING: usize = 8;
 
-pub const MISMATCHES: usize = 9;
+pub const SECONDS: usize = 9;
+
+pub const MISMATCHES: usize = 10;
 
 // Counts a mismatch where an answer differs.
 pub fn expect(counts: &mut [u64], agrees: bool) {
@@ -38,6 +40,7 @@ pub fn write_counts(counts: &[u64]) {
     write_count(counts, POINTS, b"points ");
     write_count(counts, LOOKUPS, b"lookups ");
     write_count(counts, QUESTIONS, b"questions ");
+    write_count(counts, SECOND_SOONER, b"second sooner ");
     write_count(counts, HALVES, b"halves ");
     write_count(counts, OFFENDING, b"offending ");
     write_count(counts, SECONDS, b"seconds lost ");

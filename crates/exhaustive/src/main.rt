@@ -1,16 +1,17 @@
 // Compares the library's calls with a planner by trial on many drawn orders and profiles, and writes
 // what was met and compared, a count to a line. No answer may differ.
 mod checks;
+mod choices;
 mod counts;
 
 use careful::front;
 use careful::plus;
-use checks::check_choice;
 use checks::check_extend;
 use checks::check_halves;
 use checks::check_join;
 use checks::check_lookups;
 use checks::check_plan;
+use choices::check_choice;
 use counts::write_counts;
 use trial_orders::HALVES_KINDS;
 use trial_orders::KINDS;
@@ -113,7 +114,7 @@ fn play_rounds(counts: &mut [u64]) {
 }
 
 fn main() {
-    let mut counts = [0; 10];
+    let mut counts = [0; 11];
     play_rounds(&mut counts);
     write_counts(&counts);
 }

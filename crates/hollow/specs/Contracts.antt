@@ -45,7 +45,7 @@ use Rattle.halves.specs.declared.HalvesPlanned.{HalvesPlanned}
 use Rattle.halves.specs.declared.HalvesPlanned.the-variants as halved
 use Rattle.extending.specs.declared.Extended.{Extended}
 use Rattle.extending.specs.declared.Extended.the-variants as extended
-use Rattle.openings.specs.Choosing.{chosenOf, workAfter, Asked, partOf, placeOf, Handed}
+use Rattle.openings.specs.Choosing.{TieRule, chosenOf, workAfter, Asked, partOf, placeOf, Handed}
 use Rattle.openings.specs.declared.Chosen.{Chosen}
 use Rattle.openings.specs.declared.Chosen.the-variants as chosen
 use Rattle.checking.specs.Calls.{legalOf}
@@ -286,13 +286,13 @@ heatingUp = answering heatingOf heatRefused
 
 -- ---- openings
 
--- Two packed orders, a time and the work area.
-abbrev pub asking : Contract (List ℕ × List ℕ × ℤ × List ℤ) Chosen (List ℤ)
-asking =
+-- Two packed orders, a time and the work area; by a tie rule.
+abbrev pub asking : TieRule → Contract (List ℕ × List ℕ × ℤ × List ℤ) Chosen (List ℤ)
+asking rule =
     record {
-      allows = λ x r b. Asked (x .0) (x .1) (x .2) (x .3) r b;
-      answer = λ x. chosenOf (x .0) (x .1) (x .2) (x .3);
-      left = λ x. workAfter (x .0) (x .1) (x .2) (x .3);
+      allows = λ x r b. Asked rule (x .0) (x .1) (x .2) (x .3) r b;
+      answer = λ x. chosenOf rule (x .0) (x .1) (x .2) (x .3);
+      left = λ x. workAfter rule (x .0) (x .1) (x .2) (x .3);
       met = λ x. record { answer = refl; area = refl };
       only = λ x r b h. (h .answer, h .area);
       lent = λ x. x .3;
@@ -301,14 +301,14 @@ asking =
 
 -- The same, with the orders where they stand. What is handed back is a part, by its bytes and its place, under whatever
 -- ghost name; an empty one stands for a refusal.
-abbrev pub choosing : Contract (RefT (List ℕ) × RefT (List ℕ) × ℤ × List ℤ) (List ℕ × (ℕ × ℕ)) (List ℤ)
-choosing =
+abbrev pub choosing : TieRule → Contract (RefT (List ℕ) × RefT (List ℕ) × ℤ × List ℤ) (List ℕ × (ℕ × ℕ)) (List ℤ)
+choosing rule =
     record {
-      allows = λ x r b. (n : GName) × Handed (x .0) (x .1) (x .2) (x .3) (record { ptr = r .1; name = n; now = r .0 }) b;
+      allows = λ x r b. (n : GName) × Handed rule (x .0) (x .1) (x .2) (x .3) (record { ptr = r .1; name = n; now = r .0 }) b;
       answer = λ x.
-          let c = chosenOf (now (x .0)) (now (x .1)) (x .2) (x .3) in
+          let c = chosenOf rule (now (x .0)) (now (x .1)) (x .2) (x .3) in
           (partOf c (now (x .0)) (now (x .1)), placeOf c (x .0 .ptr) (x .1 .ptr));
-      left = λ x. workAfter (now (x .0)) (now (x .1)) (x .2) (x .3);
+      left = λ x. workAfter rule (now (x .0)) (now (x .1)) (x .2) (x .3);
       met = λ x. (x .0 .name, record { bytes = refl; place = refl; area = refl });
       only = λ x r b h. (λ i. (h .1 .bytes i, h .1 .place i), h .1 .area);
       lent = λ x. x .3;

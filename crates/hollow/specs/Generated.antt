@@ -53,8 +53,12 @@ use Rattle.extending.proofs.extend.Reads as extend-reads
 use Rattle.openings.specs.declared.Chosen.{Chosen}
 use Rattle.openings.proofs.question as question
 use Rattle.openings.proofs.question.Reads as question-reads
+use Rattle.openings.proofs.question_first as question-first
+use Rattle.openings.proofs.question_first.Reads as question-first-reads
 use Rattle.openings.proofs.choose as choose
 use Rattle.openings.proofs.choose.Reads as choose-reads
+use Rattle.openings.proofs.choose_first as choose-first
+use Rattle.openings.proofs.choose_first.Reads as choose-first-reads
 use Rattle.checking.specs.declared.Checked.{Checked}
 use Rattle.checking.proofs.legal as legal
 use Rattle.checking.proofs.legal.Reads as legal-reads
@@ -64,6 +68,7 @@ use Rattle.plan_writer.proofs.write_plan as write-plan
 use Rattle.plan_writer.proofs.write_plan.Reads as write-plan-reads
 use Rattle.hollow.specs.Contracts.{planning, extending, joiningProfiles, lookingUp, lookingUpRecords, unpacking, packing}
 use Rattle.hollow.specs.Contracts.{openingReader, stepping, beginning, steppingReader, readingAt, reporting, heatingUp}
+use Rattle.openings.specs.Choosing.{sooner, toFirst}
 use Rattle.hollow.specs.Contracts.{planningHalves, asking, choosing, checkingLegal, checkingBest, writingPlan}
 
 pub plan-is : (κs : Lfts 3) (a : Args plan.signature κs) (r : Planned) (x : AtExit plan.ended κs)
@@ -135,14 +140,24 @@ heat-up-is κs a r x = refl
 
 pub question-is : (κs : Lfts 3) (a : Args question.signature κs) (r : Chosen) (x : AtExit question.ended κs)
     → question-reads.Post κs a r x
-    ≡ asking .allows (a .0 .now, a .1 .0 .now, a .1 .1 .0, a .1 .1 .1 .0 .now) r (x .1 .1 .1 .0 .now)
+    ≡ asking sooner .allows (a .0 .now, a .1 .0 .now, a .1 .1 .0, a .1 .1 .1 .0 .now) r (x .1 .1 .1 .0 .now)
 question-is κs a r x = refl
+
+pub question-first-is : (κs : Lfts 3) (a : Args question-first.signature κs) (r : Chosen) (x : AtExit question-first.ended κs)
+    → question-first-reads.Post κs a r x
+    ≡ asking toFirst .allows (a .0 .now, a .1 .0 .now, a .1 .1 .0, a .1 .1 .1 .0 .now) r (x .1 .1 .1 .0 .now)
+question-first-is κs a r x = refl
 
 -- Of the choice the ghost name of the part is not seen: the relation holds wherever the contract does.
 pub choose-says : (κs : Lfts 2) (a : Args choose.signature κs) (r : RefT (List ℕ)) (x : AtExit choose.ended κs)
     → choose-reads.Post κs a r x
-    → choosing .allows (a .0, a .1 .0, a .1 .1 .0, a .1 .1 .1 .0 .now) (now r, r .ptr) (x .1 .1 .1 .0 .now)
+    → choosing sooner .allows (a .0, a .1 .0, a .1 .1 .0, a .1 .1 .1 .0 .now) (now r, r .ptr) (x .1 .1 .1 .0 .now)
 choose-says κs a r x h = (r .name, h)
+
+pub choose-first-says : (κs : Lfts 2) (a : Args choose-first.signature κs) (r : RefT (List ℕ)) (x : AtExit choose-first.ended κs)
+    → choose-first-reads.Post κs a r x
+    → choosing toFirst .allows (a .0, a .1 .0, a .1 .1 .0, a .1 .1 .1 .0 .now) (now r, r .ptr) (x .1 .1 .1 .0 .now)
+choose-first-says κs a r x h = (r .name, h)
 
 pub legal-is : (κs : Lfts 2) (a : Args legal.signature κs) (r : Checked) (x : AtExit legal.ended κs)
     → legal-reads.Post κs a r x ≡ checkingLegal .allows (a .0 .now, a .1 .0 .now) r tt

@@ -31,7 +31,7 @@ use Rattle.planner.specs.declared.Planned.{Planned}
 use Rattle.halves.specs.Calls.{halvesNumbers}
 use Rattle.halves.specs.declared.HalvesPlanned.{HalvesPlanned}
 use Rattle.extending.specs.declared.Extended.{Extended}
-use Rattle.openings.specs.Choosing.{winnerOf}
+use Rattle.openings.specs.Choosing.{TieRule, winnerOf}
 use Rattle.checking.specs.Calls.{checkedNumbers}
 use Rattle.checking.specs.declared.Checked.{Checked}
 use Rattle.plan_writer.specs.Calls.{bytesFor}
@@ -116,20 +116,20 @@ pub heat-up-not-hollow : NotHollow heatingUp 255 0
 unfolding bitsTo
 heat-up-not-hollow = not-hollow heatingUp refl lengthOf (omega arith)
 
--- ---- openings: P1 wins at 1,000, and P4 at 100, when P1 has no point yet
+-- ---- openings, by every tie rule: P1 wins at 1,000, and P4 at 100, when P1 has no point yet
 
-pub question-not-hollow : NotHollowIn asking (λ b. b) (askAt (pos 1000)) (askAt (pos 100))
+pub question-not-hollow : (rule : TieRule) → NotHollowIn (asking rule) (λ b. b) (askAt (pos 1000)) (askAt (pos 100))
 unfolding rest
-question-not-hollow =
-    not-hollow-in asking (rw (accepted .choose, accepted .morning-order, accepted .one-job-order)) winnerOf
+question-not-hollow rule =
+    not-hollow-in (asking rule) (rw (accepted .choose, accepted .morning-order, accepted .one-job-order)) winnerOf
     (rw (accepted .choose, accepted .morning-order, accepted .one-job-order) (omega arith)) (λ b. b) front
     (rw (accepted .choose, accepted .morning-order, accepted .one-job-order, front-cleared workArea, front-ones 14748)
     (omega signed))
 
-pub choose-not-hollow : NotHollowIn choosing (λ b. b) (chooseAt (pos 1000)) (chooseAt (pos 100))
+pub choose-not-hollow : (rule : TieRule) → NotHollowIn (choosing rule) (λ b. b) (chooseAt (pos 1000)) (chooseAt (pos 100))
 unfolding rest
-choose-not-hollow =
-    not-hollow-in choosing (rw (accepted .choose, accepted .morning-order, accepted .one-job-order)) (λ r. length (r .0))
+choose-not-hollow rule =
+    not-hollow-in (choosing rule) (rw (accepted .choose, accepted .morning-order, accepted .one-job-order)) (λ r. length (r .0))
     (rw (accepted .choose, accepted .morning-order, accepted .one-job-order) (omega arith)) (λ b. b) front
     (rw (accepted .choose, accepted .morning-order, accepted .one-job-order, front-cleared workArea, front-ones 14748)
     (omega signed))

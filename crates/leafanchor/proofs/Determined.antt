@@ -19,10 +19,11 @@ use Rattle.halves.specs.Calls.{halvesOf, halvesStartsAfter, halvesWorkAfter}
 use Rattle.plan_writer.specs.Calls.{writtenOf, outAfter as planAfter, writeWorkAfter}
 use Rattle.checking.specs.Calls.{legalOf}
 use Rattle.best_plan.specs.Calls.{bestOf, bestWorkAfter}
-use Rattle.openings.specs.Choosing.{chosenOf, workAfter}
+use Rattle.openings.specs.Choosing.{sooner, toFirst, chosenOf, workAfter}
 use Rattle.packed_answers.specs.Numbers.{heatNumbers, unpackNumbers, packNumbers, openNumbers, stepNumbers}
 use Rattle.plan_answers.specs.Numbers.{lookupNumbers, betterNumbers, extendNumbers, planFigures}
-use Rattle.plan_answers.specs.Numbers.{halvesFigures, questionNumbers, chooseNumbers}
+use Rattle.plan_answers.specs.Numbers.{halvesFigures}
+use Rattle.opening_answers.specs.Numbers.{questionNumbers, chooseNumbers}
 use Rattle.verdict_answers.specs.Numbers.{verdictNumbers}
 use Rattle.packed_answers.specs.declared.UnpackAnswer.{UnpackAnswer}
 use Rattle.packed_answers.specs.declared.PackAnswer.{PackAnswer}
@@ -30,8 +31,8 @@ use Rattle.plan_answers.specs.declared.BetterAnswer.{BetterAnswer}
 use Rattle.plan_answers.specs.declared.ExtendAnswer.{ExtendAnswer}
 use Rattle.plan_answers.specs.declared.PlanAnswer.{PlanAnswer}
 use Rattle.plan_answers.specs.declared.HalvesAnswer.{HalvesAnswer}
-use Rattle.plan_answers.specs.declared.QuestionAnswer.{QuestionAnswer}
-use Rattle.plan_answers.specs.declared.ChooseAnswer.{ChooseAnswer}
+use Rattle.opening_answers.specs.declared.QuestionAnswer.{QuestionAnswer}
+use Rattle.opening_answers.specs.declared.ChooseAnswer.{ChooseAnswer}
 use Rattle.verdict_answers.specs.declared.VerdictAnswer.{VerdictAnswer}
 use Rattle.leafanchor.proofs.ByHand.{RecordsPost}
 use Rattle.leafanchor.proofs.leafanchor_heat_up.Reads as heat-up
@@ -48,7 +49,9 @@ use Rattle.leafanchor.proofs.leafanchor_write_plan.Reads as write-plan
 use Rattle.leafanchor.proofs.leafanchor_legal.Reads as legal
 use Rattle.leafanchor.proofs.leafanchor_best.Reads as best
 use Rattle.leafanchor.proofs.leafanchor_question.Reads as question
+use Rattle.leafanchor.proofs.leafanchor_question_first.Reads as question-first
 use Rattle.leafanchor.proofs.leafanchor_choose.Reads as choose
+use Rattle.leafanchor.proofs.leafanchor_choose_first.Reads as choose-first
 
 -- ---- calls that write nothing
 
@@ -166,8 +169,18 @@ pub question-determined : (κs : Lfts 3)
 question-determined κs =
     determined (question.Post κs) (λ r x. (r, now (x .1 .1 .1 .0)))
     (λ a. (
-      questionNumbers (chosenOf (now (a .0)) (now (a .1 .0)) (a .1 .1 .0) (now (a .1 .1 .1 .0))),
-      workAfter (now (a .0)) (now (a .1 .0)) (a .1 .1 .0) (now (a .1 .1 .1 .0)),
+      questionNumbers (chosenOf sooner (now (a .0)) (now (a .1 .0)) (a .1 .1 .0) (now (a .1 .1 .1 .0))),
+      workAfter sooner (now (a .0)) (now (a .1 .0)) (a .1 .1 .0) (now (a .1 .1 .1 .0)),
+    ))
+    (λ a r x h. two (h .0) (h .1))
+
+pub question-first-determined : (κs : Lfts 3)
+    → Determines {Z = QuestionAnswer × List ℤ} (question-first.Post κs) (λ r x. (r, now (x .1 .1 .1 .0)))
+question-first-determined κs =
+    determined (question-first.Post κs) (λ r x. (r, now (x .1 .1 .1 .0)))
+    (λ a. (
+      questionNumbers (chosenOf toFirst (now (a .0)) (now (a .1 .0)) (a .1 .1 .0) (now (a .1 .1 .1 .0))),
+      workAfter toFirst (now (a .0)) (now (a .1 .0)) (a .1 .1 .0) (now (a .1 .1 .1 .0)),
     ))
     (λ a r x h. two (h .0) (h .1))
 
@@ -176,8 +189,19 @@ pub choose-determined : (κs : Lfts 3)
 choose-determined κs =
     determined (choose.Post κs) (λ r x. (r, now (x .1 .1 .1 .0)))
     (λ a. (
-      chooseNumbers (chosenOf (now (a .0)) (now (a .1 .0)) (a .1 .1 .0) (now (a .1 .1 .1 .0)))
+      chooseNumbers (chosenOf sooner (now (a .0)) (now (a .1 .0)) (a .1 .1 .0) (now (a .1 .1 .1 .0)))
           (length (now (a .0))) (length (now (a .1 .0))),
-      workAfter (now (a .0)) (now (a .1 .0)) (a .1 .1 .0) (now (a .1 .1 .1 .0)),
+      workAfter sooner (now (a .0)) (now (a .1 .0)) (a .1 .1 .0) (now (a .1 .1 .1 .0)),
+    ))
+    (λ a r x h. two (h .0) (h .1))
+
+pub choose-first-determined : (κs : Lfts 3)
+    → Determines {Z = ChooseAnswer × List ℤ} (choose-first.Post κs) (λ r x. (r, now (x .1 .1 .1 .0)))
+choose-first-determined κs =
+    determined (choose-first.Post κs) (λ r x. (r, now (x .1 .1 .1 .0)))
+    (λ a. (
+      chooseNumbers (chosenOf toFirst (now (a .0)) (now (a .1 .0)) (a .1 .1 .0) (now (a .1 .1 .1 .0)))
+          (length (now (a .0))) (length (now (a .1 .0))),
+      workAfter toFirst (now (a .0)) (now (a .1 .0)) (a .1 .1 .0) (now (a .1 .1 .1 .0)),
     ))
     (λ a r x h. two (h .0) (h .1))

@@ -24,7 +24,7 @@ use Rattle.halves.specs.Answers.{halves-refusal, halves-six}
 use Rattle.plan_writer.specs.Answers.{write-refusal, write-six}
 use Rattle.checking.specs.Answers.{legal-refusal, legal-six}
 use Rattle.best_plan.specs.Answers.{best-refusal, best-six}
-use Rattle.openings.specs.Choosing.{chosenOf, workAfter, Asked, refusalOf as choiceRefusal}
+use Rattle.openings.specs.Choosing.{TieRule, sooner, toFirst, chosenOf, workAfter, Asked, refusalOf as choiceRefusal}
 use Rattle.openings.specs.WinnerLaws.{BadIn, asked-six, asked-names}
 use Rattle.packed_answers.specs.declared.UnpackAnswer.{UnpackAnswer}
 use Rattle.packed_answers.specs.declared.PackAnswer.{PackAnswer}
@@ -32,8 +32,8 @@ use Rattle.packed_answers.specs.declared.StepAnswer.{StepAnswer}
 use Rattle.plan_answers.specs.declared.ExtendAnswer.{ExtendAnswer}
 use Rattle.plan_answers.specs.declared.PlanAnswer.{PlanAnswer}
 use Rattle.plan_answers.specs.declared.HalvesAnswer.{HalvesAnswer}
-use Rattle.plan_answers.specs.declared.QuestionAnswer.{QuestionAnswer}
-use Rattle.plan_answers.specs.declared.ChooseAnswer.{ChooseAnswer}
+use Rattle.opening_answers.specs.declared.QuestionAnswer.{QuestionAnswer}
+use Rattle.opening_answers.specs.declared.ChooseAnswer.{ChooseAnswer}
 use Rattle.verdict_answers.specs.declared.VerdictAnswer.{VerdictAnswer}
 use Rattle.leafanchor.proofs.leafanchor_unpack.Reads as unpack
 use Rattle.leafanchor.proofs.leafanchor_pack.Reads as pack
@@ -45,7 +45,9 @@ use Rattle.leafanchor.proofs.leafanchor_write_plan.Reads as write-plan
 use Rattle.leafanchor.proofs.leafanchor_legal.Reads as legal
 use Rattle.leafanchor.proofs.leafanchor_best.Reads as best
 use Rattle.leafanchor.proofs.leafanchor_question.Reads as question
+use Rattle.leafanchor.proofs.leafanchor_question_first.Reads as question-first
 use Rattle.leafanchor.proofs.leafanchor_choose.Reads as choose
+use Rattle.leafanchor.proofs.leafanchor_choose_first.Reads as choose-first
 
 -- ---- what is said of an answer's figures
 
@@ -101,20 +103,24 @@ pub record FieldsNamed : Type 0 where
       (λ a (r : VerdictAnswer). Names (inField (r .refusal) (r .place) (r .field)) (InBytes (now (a .0))))
   pub asks : (κs : Lfts 3) → Told (question.Post κs)
       (λ a (r : QuestionAnswer). NamesField (inField (r .refusal) 0 (r .field)) (InOpenings (now (a .0)) (now (a .1 .0))))
+  pub asks-first : (κs : Lfts 3) → Told (question-first.Post κs)
+      (λ a (r : QuestionAnswer). NamesField (inField (r .refusal) 0 (r .field)) (InOpenings (now (a .0)) (now (a .1 .0))))
   pub chooses : (κs : Lfts 3) → Told (choose.Post κs)
+      (λ a (r : ChooseAnswer). NamesField (inField (r .refusal) 0 (r .field)) (InOpenings (now (a .0)) (now (a .1 .0))))
+  pub chooses-first : (κs : Lfts 3) → Told (choose-first.Post κs)
       (λ a (r : ChooseAnswer). NamesField (inField (r .refusal) 0 (r .field)) (InOpenings (now (a .0)) (now (a .1 .0))))
 
 -- The choice between two openings, by the answer of the question.
-choice-names : (first second : List ℕ) (t : ℤ) (work : List ℤ) → let r = choiceRefusal (chosenOf first second t work) in
+choice-names : (rule : TieRule) (first second : List ℕ) (t : ℤ) (work : List ℤ) → let r = choiceRefusal (chosenOf rule first second t work) in
     NamesField (inField (r .number) 0 (r .field)) (InOpenings first second)
-choice-names first second t work =
-    let asked : Asked first second t work (chosenOf first second t work) (workAfter first second t work) =
+choice-names rule first second t work =
+    let asked : Asked rule first second t work (chosenOf rule first second t work) (workAfter rule first second t work) =
     record { answer = refl; area = refl } in
-    let r = choiceRefusal (chosenOf first second t work) in
-    let named = asked-names first second t work asked in
+    let r = choiceRefusal (chosenOf rule first second t work) in
+    let named = asked-names rule first second t work asked in
     let whole : r ≡ inField (r .number) 0 (r .field) = λ i. inField (r .number) (named .1 i) (r .field) in
     subst (λ (s : Refusal). NamesField s (InOpenings first second)) whole
-    (record { six = asked-six first second t work asked; other = named .0 })
+    (record { six = asked-six rule first second t work asked; other = named .0 })
 
 pub fields-named : FieldsNamed
 fields-named =
@@ -160,6 +166,8 @@ fields-named =
             six = best-six (now (a .0)) (now (a .1 .0)) (now (a .1 .1 .0));
             other = no-field (best-refusal (now (a .0)) (now (a .1 .0)) (now (a .1 .1 .0)));
           });
-      asks = λ κs a r x h. rw (h .0) (choice-names (now (a .0)) (now (a .1 .0)) (a .1 .1 .0) (now (a .1 .1 .1 .0)));
-      chooses = λ κs a r x h. rw (h .0) (choice-names (now (a .0)) (now (a .1 .0)) (a .1 .1 .0) (now (a .1 .1 .1 .0)));
+      asks = λ κs a r x h. rw (h .0) (choice-names sooner (now (a .0)) (now (a .1 .0)) (a .1 .1 .0) (now (a .1 .1 .1 .0)));
+      asks-first = λ κs a r x h. rw (h .0) (choice-names toFirst (now (a .0)) (now (a .1 .0)) (a .1 .1 .0) (now (a .1 .1 .1 .0)));
+      chooses = λ κs a r x h. rw (h .0) (choice-names sooner (now (a .0)) (now (a .1 .0)) (a .1 .1 .0) (now (a .1 .1 .1 .0)));
+      chooses-first = λ κs a r x h. rw (h .0) (choice-names toFirst (now (a .0)) (now (a .1 .0)) (a .1 .1 .0) (now (a .1 .1 .1 .0)));
     }

@@ -12,18 +12,17 @@ use lib.IntN.{ℤ}
 use lib.ListN.{length, take, drop}
 use borrow.Rule.Slice.PartAt.{part-to-end}
 use Rattle.packed.specs.Layout.{headerBytes}
-use Rattle.openings.specs.Choosing.{Asked, chosenOf, workAfter, partOf, placeOf}
+use Rattle.openings.specs.Choosing.{TieRule, sooner, toFirst, Asked, Handed, chosenOf, workAfter, partOf, placeOf}
 use Rattle.openings.specs.ChoosingLaws.{headers-there}
 use Rattle.openings.specs.declared.Chosen.{Chosen}
 use Rattle.openings.specs.declared.Chosen.the-variants.{Refused, First, Second}
+use Rattle.openings.proofs.Inputs.{Given, workIn}
 use Rattle.openings.proofs.choose.Reads as handing
-use Rattle.plan_answers.specs.Numbers.{chooseNumbers}
-use Rattle.plan_answers.specs.declared.ChooseAnswer.{ChooseAnswer}
+use Rattle.openings.proofs.choose_first.Reads as handing-first
+use Rattle.opening_answers.specs.Numbers.{chooseNumbers}
+use Rattle.opening_answers.specs.declared.ChooseAnswer.{ChooseAnswer}
 use Rattle.leafanchor.proofs.leafanchor_choose.Reads as choose
-
--- What either call is handed, and what it has at exit: two openings, a time and the work area.
-abbrev Given : Type 0
-Given = RefT (List ℕ) × (RefT (List ℕ) × (ℤ × (RefT (List ℤ) × Unit {0})))
+use Rattle.leafanchor.proofs.leafanchor_choose_first.Reads as choose-first
 
 -- The opening that a winner's number names: 2 is the second; 1, and 0 where refused, the first.
 abbrev named : {X : Type 0} → ℕ → X → X → X
@@ -51,32 +50,48 @@ place-said (Refused k) first second m n = let e : first .1 ≡ 0 + first .1 = om
 place-said First first second m n = refl
 place-said Second first second m n = refl
 
--- On the same inputs the part that is handed back is the one that the numbers say, and the work area is left the same.
-pub part-handed : (κs : Lfts 3) (μs : Lfts 2) (a x y : Given) (r : ChooseAnswer) (part : RefT (List ℕ))
-    → choose.Post κs a r x → handing.Post μs a part y
-    → IsPart r (a .0) (a .1 .0) part × (now (y .1 .1 .1 .0) ≡ now (x .1 .1 .1 .0))
-part-handed κs μs a x y r part h k =
-    let chosen : Chosen = chosenOf (now (a .0)) (now (a .1 .0)) (a .1 .1 .0) (now (a .1 .1 .1 .0)) in
-    let bytes = k .bytes ∙ bytes-said chosen (now (a .0)) (now (a .1 .0)) in
-    let place = k .place ∙ place-said chosen (a .0 .ptr) (a .1 .0 .ptr) (length (now (a .0))) (length (now (a .1 .0))) in
-    (rw (h .0) (record { bytes = bytes; place = place }), k .area ∙ sym (h .1))
-
-module _ (first second : RefT (List ℕ)) (t : ℤ) (work : List ℤ) where
+module _ (rule : TieRule) (first second : RefT (List ℕ)) (t : ℤ) (work : List ℤ) where
   -- The question's answer, as the definitions say it.
   abbrev answer : Chosen
-  answer = chosenOf (now first) (now second) t work
+  answer = chosenOf rule (now first) (now second) t work
 
-  asked : Asked (now first) (now second) t work answer (workAfter (now first) (now second) t work)
+  asked : Asked rule (now first) (now second) t work answer (workAfter rule (now first) (now second) t work)
   asked = record { answer = refl; area = refl }
+
+  -- What is handed back by a tie rule is the part that the numbers by it say.
+  is-part : {r : ChooseAnswer} {part : RefT (List ℕ)} {work′ : List ℤ}
+      → r ≡ chooseNumbers answer (length (now first)) (length (now second)) → Handed rule first second t work part work′
+      → IsPart r first second part
+  is-part e h =
+      let bytes = h .bytes ∙ bytes-said answer (now first) (now second) in
+      let place = h .place ∙ place-said answer (first .ptr) (second .ptr) (length (now first)) (length (now second)) in
+      rw e (record { bytes = bytes; place = place })
 
   -- Offset and length stay within the bytes of the winner, for a winner has a header; they are 0 if refused.
   inside : (c : Chosen) → answer ≡ c → let r = chooseNumbers c (length (now first)) (length (now second)) in
       r .offset + r .length ≤ length (named (r .winner) (now first) (now second))
   inside (Refused n) e = omega arith
-  inside First e = let h = headers-there first second t work asked e (lit< tt) in omega arith
-  inside Second e = let h = headers-there first second t work asked e (lit< tt) in omega arith
+  inside First e = let h = headers-there rule first second t work asked e (lit< tt) in omega arith
+  inside Second e = let h = headers-there rule first second t work asked e (lit< tt) in omega arith
 
--- So they do in the answer of the call.
-pub part-inside : (κs : Lfts 3) (a x : Given) (r : ChooseAnswer) → choose.Post κs a r x
-    → r .offset + r .length ≤ length (named (r .winner) (now (a .0)) (now (a .1 .0)))
-part-inside κs a x r h = rw (h .0) (inside (a .0) (a .1 .0) (a .1 .1 .0) (now (a .1 .1 .1 .0)) _ refl)
+-- On the same inputs the part that is handed back is the one that the numbers say, and the work area is left the same.
+module _ (κs : Lfts 3) (μs : Lfts 2) (a x y : Given) (r : ChooseAnswer) (part : RefT (List ℕ)) where
+  pub part-handed : choose.Post κs a r x → handing.Post μs a part y
+      → IsPart r (a .0) (a .1 .0) part × (workIn y ≡ workIn x)
+  part-handed h k =
+      (is-part sooner (a .0) (a .1 .0) (a .1 .1 .0) (workIn a) (h .0) k, k .area ∙ sym (h .1))
+
+  pub part-handed-first : choose-first.Post κs a r x → handing-first.Post μs a part y
+      → IsPart r (a .0) (a .1 .0) part × (workIn y ≡ workIn x)
+  part-handed-first h k =
+      (is-part toFirst (a .0) (a .1 .0) (a .1 .1 .0) (workIn a) (h .0) k, k .area ∙ sym (h .1))
+
+-- Offset and length stay within the winner's bytes in every answer of the calls.
+abbrev Inside : ChooseAnswer → Given → Type 0
+Inside r a = r .offset + r .length ≤ length (named (r .winner) (now (a .0)) (now (a .1 .0)))
+
+pub part-inside : (κs : Lfts 3) (a x : Given) (r : ChooseAnswer) → choose.Post κs a r x → Inside r a
+part-inside κs a x r h = rw (h .0) (inside sooner (a .0) (a .1 .0) (a .1 .1 .0) (workIn a) _ refl)
+
+pub part-inside-first : (κs : Lfts 3) (a x : Given) (r : ChooseAnswer) → choose-first.Post κs a r x → Inside r a
+part-inside-first κs a x r h = rw (h .0) (inside toFirst (a .0) (a .1 .0) (a .1 .1 .0) (workIn a) _ refl)

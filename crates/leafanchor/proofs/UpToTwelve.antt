@@ -2,7 +2,6 @@
 -- given, every other one's refusal is at most 12, in every outcome that its contract allows.
 use Prim.Native.Nat.{ℕ, _≤_}
 use mathlib.Core.Path.{_≡_, refl, sym}
-use mathlib.Core.Bool.{true}
 use mathlib.Core.Logic.{_≢_}
 use mathlib.Core.List.{List}
 use mathlib.Core.Option.{Option, none, some}
@@ -38,7 +37,8 @@ use Rattle.halves.specs.Calls.{planHalvesChecks, withSeconds, lostSeconds, halv
 use Rattle.plan_writer.specs.Calls.{writeChecks, writtenBy, writtenOf}
 use Rattle.checking.specs.Answers.{legal-never}
 use Rattle.best_plan.specs.Answers.{best-never}
-use Rattle.openings.specs.Choosing.{byWorth, openingWorth, toFirst, winnerBy, choosingChecks, chosenBy, chosenOf, refusalOf}
+use Rattle.openings.specs.Choosing.{openingPoint, TieRule, sooner, toFirst, winnerBy, choosingChecks, chosenBy, chosenOf, refusalOf}
+use Rattle.openings.specs.AnswerSays.{won-by, at-most-eleven}
 use Rattle.point_records.specs.Records.{flattened}
 use Rattle.packed_answers.specs.declared.HeatAnswer.{HeatAnswer}
 use Rattle.packed_answers.specs.declared.UnpackAnswer.{UnpackAnswer}
@@ -50,8 +50,8 @@ use Rattle.plan_answers.specs.declared.BetterAnswer.{BetterAnswer}
 use Rattle.plan_answers.specs.declared.ExtendAnswer.{ExtendAnswer}
 use Rattle.plan_answers.specs.declared.PlanAnswer.{PlanAnswer}
 use Rattle.plan_answers.specs.declared.HalvesAnswer.{HalvesAnswer}
-use Rattle.plan_answers.specs.declared.QuestionAnswer.{QuestionAnswer}
-use Rattle.plan_answers.specs.declared.ChooseAnswer.{ChooseAnswer}
+use Rattle.opening_answers.specs.declared.QuestionAnswer.{QuestionAnswer}
+use Rattle.opening_answers.specs.declared.ChooseAnswer.{ChooseAnswer}
 use Rattle.verdict_answers.specs.declared.VerdictAnswer.{VerdictAnswer}
 use Rattle.leafanchor.proofs.ByHand.{RecordsPost}
 use Rattle.leafanchor.proofs.leafanchor_heat_up.Reads as heat-up
@@ -68,7 +68,9 @@ use Rattle.leafanchor.proofs.leafanchor_write_plan.Reads as write-plan
 use Rattle.leafanchor.proofs.leafanchor_legal.Reads as legal
 use Rattle.leafanchor.proofs.leafanchor_best.Reads as best
 use Rattle.leafanchor.proofs.leafanchor_question.Reads as question
+use Rattle.leafanchor.proofs.leafanchor_question_first.Reads as question-first
 use Rattle.leafanchor.proofs.leafanchor_choose.Reads as choose
+use Rattle.leafanchor.proofs.leafanchor_choose_first.Reads as choose-first
 
 -- ---- by a verdict
 
@@ -142,19 +144,12 @@ write-low order out work =
     by-verdict (writeChecks order out work) tt (λ v. packRefusal (writtenBy v (planAnswer (orderOf order))) .number)
     (written-low (planAnswer (orderOf order))) (λ r. refl)
 
-won-low : (a b : Option ℕ) → refusalOf (byWorth true a b) .number ≤ 12
-won-low none none = omega arith
-won-low (some v) none = omega arith
-won-low none (some w) = omega arith
-won-low (some v) (some w) = cases (ltb w v)
-    (λ e. rw e (omega arith))
-    (λ e. cases (ltb v w) (λ f. rw (e, f) (omega arith)) (λ f. rw (e, f) (omega arith)))
-
-choose-low : (first second : List ℕ) (t : ℤ) (work : List ℤ) → refusalOf (chosenOf first second t work) .number ≤ 12
+choose-low : (rule : TieRule) (first second : List ℕ) (t : ℤ) (work : List ℤ)
+    → refusalOf (chosenOf rule first second t work) .number ≤ 12
 unfolding choosingChecks headerChecks jobChecks weightChecks
-choose-low first second t work =
-    by-verdict (choosingChecks first second work) tt (λ v. refusalOf (chosenBy v (winnerBy toFirst first second t)) .number)
-    (won-low (openingWorth first t) (openingWorth second t)) (λ r. refl)
+choose-low rule first second t work =
+    by-verdict (choosingChecks first second work) tt (λ v. refusalOf (chosenBy v (winnerBy rule first second t)) .number)
+    (omega (arith, at-most-eleven (won-by rule (openingPoint first t) (openingPoint second t)))) (λ r. refl)
 
 -- ---- every outcome of each call
 
@@ -175,7 +170,9 @@ pub record OthersUpToTwelve : Type 0 where
   pub plans : (κs : Lfts 3) → UpToTwelve (plan.Post κs) (λ (r : PlanAnswer). r .refusal)
   pub writes-plans : (κs : Lfts 3) → UpToTwelve (write-plan.Post κs) (λ (r : PackAnswer). r .refusal)
   pub asks : (κs : Lfts 3) → UpToTwelve (question.Post κs) (λ (r : QuestionAnswer). r .refusal)
+  pub asks-first : (κs : Lfts 3) → UpToTwelve (question-first.Post κs) (λ (r : QuestionAnswer). r .refusal)
   pub chooses : (κs : Lfts 3) → UpToTwelve (choose.Post κs) (λ (r : ChooseAnswer). r .refusal)
+  pub chooses-first : (κs : Lfts 3) → UpToTwelve (choose-first.Post κs) (λ (r : ChooseAnswer). r .refusal)
 
 pub others-up-to-twelve : OthersUpToTwelve
 others-up-to-twelve =
@@ -192,8 +189,10 @@ others-up-to-twelve =
           rw (h .0) (extend-low (now (a .0)) (now (a .1 .0)) (now (a .1 .1 .0)) (now (a .1 .1 .1 .0)));
       plans = λ κs a r x h. rw (h .0) (plan-low (now (a .0)) (now (a .1 .0)) (now (a .1 .1 .0)));
       writes-plans = λ κs a r x h. rw (h .0) (write-low (now (a .0)) (now (a .1 .0)) (now (a .1 .1 .0)));
-      asks = λ κs a r x h. rw (h .0) (choose-low (now (a .0)) (now (a .1 .0)) (a .1 .1 .0) (now (a .1 .1 .1 .0)));
-      chooses = λ κs a r x h. rw (h .0) (choose-low (now (a .0)) (now (a .1 .0)) (a .1 .1 .0) (now (a .1 .1 .1 .0)));
+      asks = λ κs a r x h. rw (h .0) (choose-low sooner (now (a .0)) (now (a .1 .0)) (a .1 .1 .0) (now (a .1 .1 .1 .0)));
+      asks-first = λ κs a r x h. rw (h .0) (choose-low toFirst (now (a .0)) (now (a .1 .0)) (a .1 .1 .0) (now (a .1 .1 .1 .0)));
+      chooses = λ κs a r x h. rw (h .0) (choose-low sooner (now (a .0)) (now (a .1 .0)) (a .1 .1 .0) (now (a .1 .1 .1 .0)));
+      chooses-first = λ κs a r x h. rw (h .0) (choose-low toFirst (now (a .0)) (now (a .1 .0)) (a .1 .1 .0) (now (a .1 .1 .1 .0)));
     }
 
 -- ---- the three others

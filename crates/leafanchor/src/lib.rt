@@ -17,23 +17,24 @@ ghost use Rattle.halves.specs.Calls.{halvesOf, halvesStartsAfter, halvesWorkAft
 ghost use Rattle.plan_writer.specs.Calls.{writtenOf, outAfter as planAfter, writeWorkAfter};
 ghost use Rattle.checking.specs.Calls.{legalOf};
 ghost use Rattle.best_plan.specs.Calls.{bestOf, bestWorkAfter};
-ghost use Rattle.openings.specs.Choosing.{chosenOf, workAfter};
+ghost use Rattle.openings.specs.Choosing.{sooner, toFirst, chosenOf, workAfter};
 ghost use Rattle.packed_answers.specs.Numbers.{heatNumbers, unpackNumbers, packNumbers, openNumbers, stepNumbers};
 ghost use Rattle.plan_answers.specs.Numbers.{lookupNumbers, betterNumbers, extendNumbers, planFigures};
-ghost use Rattle.plan_answers.specs.Numbers.{halvesFigures, questionNumbers, chooseNumbers};
+ghost use Rattle.plan_answers.specs.Numbers.{halvesFigures};
+ghost use Rattle.opening_answers.specs.Numbers.{questionNumbers, chooseNumbers};
 ghost use Rattle.verdict_answers.specs.Numbers.{verdictNumbers};
+use opening_answers::ChooseAnswer;
+use opening_answers::QuestionAnswer;
 use packed_answers::HeatAnswer;
 use packed_answers::OpenAnswer;
 use packed_answers::PackAnswer;
 use packed_answers::StepAnswer;
 use packed_answers::UnpackAnswer;
 use plan_answers::BetterAnswer;
-use plan_answers::ChooseAnswer;
 use plan_answers::ExtendAnswer;
 use plan_answers::HalvesAnswer;
 use plan_answers::LookupAnswer;
 use plan_answers::PlanAnswer;
-use plan_answers::QuestionAnswer;
 use point_records::Point;
 use verdict_answers::VerdictAnswer;
 
@@ -191,7 +192,7 @@ pub extern "C" fn leafanchor_best(order: &[u8], plan: &[u8], work: &mut [i32]) -
     verdict_answers::verdict_answer(best_plan::best(order, plan, work))
 }
 
-// Which of two openings wins at a time.
+// Which of two openings wins at a time; of equal weights, the one that reaches it sooner.
 #[no_mangle]
 pub extern "C" fn leafanchor_question(
     first: &[u8],
@@ -200,14 +201,31 @@ pub extern "C" fn leafanchor_question(
     work: &mut [i32],
 ) -> QuestionAnswer
     ensures answer { λ r. ⌜
-        r ≡ questionNumbers (chosenOf (now (first .entry)) (now (second .entry)) t (now (work .entry))) ⌝ }
+        r ≡ questionNumbers (chosenOf sooner (now (first .entry)) (now (second .entry)) t (now (work .entry))) ⌝ }
     ensures area { λ r. ⌜
-        now (work .exit) ≡ workAfter (now (first .entry)) (now (second .entry)) t (now (work .entry)) ⌝ }
+        now (work .exit) ≡ workAfter sooner (now (first .entry)) (now (second .entry)) t (now (work .entry)) ⌝ }
 {
-    plan_answers::question_answer(openings::question(first, second, t, work))
+    opening_answers::question_answer(openings::question(first, second, t, work))
 }
 
-// The choice: which of two openings wins at a time, and where in its bytes the records stand. C takes no slice back.
+// The same by the night desk's rule: of equal weights, the first.
+#[no_mangle]
+pub extern "C" fn leafanchor_question_first(
+    first: &[u8],
+    second: &[u8],
+    t: i32,
+    work: &mut [i32],
+) -> QuestionAnswer
+    ensures answer { λ r. ⌜
+        r ≡ questionNumbers (chosenOf toFirst (now (first .entry)) (now (second .entry)) t (now (work .entry))) ⌝ }
+    ensures area { λ r. ⌜
+        now (work .exit) ≡ workAfter toFirst (now (first .entry)) (now (second .entry)) t (now (work .entry)) ⌝ }
+{
+    opening_answers::question_answer(openings::question_first(first, second, t, work))
+}
+
+// The choice: which of two openings wins at a time, and where in its bytes the records stand. C takes no slice back. Of equal
+// weights, the one that reaches it sooner.
 #[no_mangle]
 pub extern "C" fn leafanchor_choose(
     first: &[u8],
@@ -217,11 +235,30 @@ pub extern "C" fn leafanchor_choose(
 ) -> ChooseAnswer
     ensures answer { λ r. ⌜
         r
-        ≡ chooseNumbers (chosenOf (now (first .entry)) (now (second .entry)) t (now (work .entry)))
+        ≡ chooseNumbers (chosenOf sooner (now (first .entry)) (now (second .entry)) t (now (work .entry)))
         (length (now (first .entry))) (length (now (second .entry))) ⌝ }
     ensures area { λ r. ⌜
-        now (work .exit) ≡ workAfter (now (first .entry)) (now (second .entry)) t (now (work .entry)) ⌝ }
+        now (work .exit) ≡ workAfter sooner (now (first .entry)) (now (second .entry)) t (now (work .entry)) ⌝ }
 {
     let chosen = openings::question(first, second, t, work);
-    plan_answers::choose_answer(chosen, first.len(), second.len())
+    opening_answers::choose_answer(chosen, first.len(), second.len())
+}
+
+// The same by the night desk's rule: of equal weights, the first.
+#[no_mangle]
+pub extern "C" fn leafanchor_choose_first(
+    first: &[u8],
+    second: &[u8],
+    t: i32,
+    work: &mut [i32],
+) -> ChooseAnswer
+    ensures answer { λ r. ⌜
+        r
+        ≡ chooseNumbers (chosenOf toFirst (now (first .entry)) (now (second .entry)) t (now (work .entry)))
+        (length (now (first .entry))) (length (now (second .entry))) ⌝ }
+    ensures area { λ r. ⌜
+        now (work .exit) ≡ workAfter toFirst (now (first .entry)) (now (second .entry)) t (now (work .entry)) ⌝ }
+{
+    let won = openings::question_first(first, second, t, work);
+    opening_answers::choose_answer(won, first.len(), second.len())
 }

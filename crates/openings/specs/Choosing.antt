@@ -1,5 +1,5 @@
--- Choosing between two openings: which of two wins, the checks, the answer, the part handed back, and the work area at exit,
--- for every input. Definitions only.
+-- Choosing between two openings by a tie rule: which of two wins, the checks, the answer, the part handed back, and the work area
+-- at exit, for every input. Definitions only.
 use Prim.Native.Nat.{ℕ, _+_}
 use mathlib.Core.Path.{_≡_}
 use mathlib.Core.Bool.{Bool, true, cond}
@@ -8,8 +8,10 @@ use mathlib.Core.Option.{Option, none, some}
 use lib.Dec.{ltb}
 use lib.IntN.{ℤ}
 use lib.ListN.{length, drop}
+use lib.Signed.{leZ}
 use denote.Ref.{RefT, now}
-use Rattle.profile.specs.Profile.{worth, orderProfile}
+use Rattle.order.specs.Job.{Point}
+use Rattle.profile.specs.Profile.{lookup, orderProfile}
 use Rattle.packed.specs.Layout.{headerBytes}
 use Rattle.packed.specs.declared.Refusal.{Refusal}
 use Rattle.packed.specs.Judge.{plainly, noRefusal, withoutPlace, Check, Verdict, fine, refused, judge}
@@ -18,31 +20,44 @@ use Rattle.packed.specs.Refusals.{roomChecks, orderChecks}
 use Rattle.area.specs.Area.{area, cleared}
 use Rattle.openings.specs.declared.Chosen.{Chosen}
 use Rattle.openings.specs.declared.Chosen.the-variants.{Refused, First, Second}
+use Rattle.openings.specs.declared.Tie as declared
+use Rattle.openings.specs.declared.Tie.the-variants as tie
 
 -- ---- which of two wins
 
--- What an opening is worth at a time: the greatest weight of its profile then; nothing if it has no point by then.
-abbrev pub openingWorth : List ℕ → ℤ → Option ℕ
-openingWorth bytes t = worth (orderProfile (orderOf bytes)) t
+-- The point of an opening at a time: the last of its profile by then; nothing if it has no point by then.
+abbrev pub openingPoint : List ℕ → ℤ → Option Point
+openingPoint bytes t = lookup (orderProfile (orderOf bytes)) t
 
--- The winner by what each is worth. With no point an opening loses to one that has one; 11 where neither has one. The heavier
--- wins; where both are worth the same, the first wins if `even` says so.
-abbrev pub byWorth : Bool → Option ℕ → Option ℕ → Chosen
-byWorth even none none = Refused (plainly 11)
-byWorth even (some v) none = First
-byWorth even none (some w) = Second
-byWorth even (some v) (some w) = cond (ltb w v) First (cond (ltb v w) Second (cond even First Second))
+-- A tie rule says whether the first wins where both have the same weight, by the bus-free times at which each reaches it.
+abbrev pub TieRule : Type 0
+TieRule = ℤ → ℤ → Bool
 
--- A tie rule says of two openings and a time whether the first wins where both are worth the same. Equal goes to the first.
-abbrev pub Tie : Type 0
-Tie = List ℕ → List ℕ → ℤ → Bool
+-- Sooner: unless the second reaches it earlier. First: always.
+abbrev pub sooner : TieRule
+sooner one other = leZ one other
 
-abbrev pub toFirst : Tie
-toFirst first second t = true
+abbrev pub toFirst : TieRule
+toFirst one other = true
 
--- The winner of two openings at a time, by a tie rule.
-abbrev pub winnerBy : Tie → List ℕ → List ℕ → ℤ → Chosen
-winnerBy tie first second t = byWorth (tie first second t) (openingWorth first t) (openingWorth second t)
+-- The winner by the point of each. With no point an opening loses to one that has one; 11 where neither has one. The heavier
+-- wins; of the same weight, the first wins if the tie rule says so.
+abbrev pub byPoints : TieRule → Option Point → Option Point → Chosen
+byPoints rule none none = Refused (plainly 11)
+byPoints rule (some p) none = First
+byPoints rule none (some q) = Second
+byPoints rule (some p) (some q) =
+    let even = cond (rule (p .time) (q .time)) First Second in
+    cond (ltb (q .weight) (p .weight)) First (cond (ltb (p .weight) (q .weight)) Second even)
+
+-- The winner of two openings at a time.
+abbrev pub winnerBy : TieRule → List ℕ → List ℕ → ℤ → Chosen
+winnerBy rule first second t = byPoints rule (openingPoint first t) (openingPoint second t)
+
+-- The tie rule that the calls ask for.
+abbrev pub ruleOf : declared.Tie → TieRule
+ruleOf tie.Sooner = sooner
+ruleOf tie.First = toFirst
 
 -- ---- the calls
 
@@ -67,16 +82,16 @@ workBy fine First work = cleared work
 workBy fine Second work = cleared work
 
 -- The answer of the question, and the work area after either call.
-abbrev pub chosenOf : List ℕ → List ℕ → ℤ → List ℤ → Chosen
-chosenOf first second t work = chosenBy (choosingVerdict first second work) (winnerBy toFirst first second t)
+abbrev pub chosenOf : TieRule → List ℕ → List ℕ → ℤ → List ℤ → Chosen
+chosenOf rule first second t work = chosenBy (choosingVerdict first second work) (winnerBy rule first second t)
 
-abbrev pub workAfter : List ℕ → List ℕ → ℤ → List ℤ → List ℤ
-workAfter first second t work = workBy (choosingVerdict first second work) (winnerBy toFirst first second t) work
+abbrev pub workAfter : TieRule → List ℕ → List ℕ → ℤ → List ℤ → List ℤ
+workAfter rule first second t work = workBy (choosingVerdict first second work) (winnerBy rule first second t) work
 
--- The question on any bytes, at any time, with any work area.
-pub record Asked (first second : List ℕ) (t : ℤ) (work : List ℤ) (r : Chosen) (work′ : List ℤ) : Type 0 where
-  pub answer : r ≡ chosenOf first second t work
-  pub area : work′ ≡ workAfter first second t work
+-- The question by a tie rule on any bytes, at any time, with any work area.
+pub record Asked (rule : TieRule) (first second : List ℕ) (t : ℤ) (work : List ℤ) (r : Chosen) (work′ : List ℤ) : Type 0 where
+  pub answer : r ≡ chosenOf rule first second t work
+  pub area : work′ ≡ workAfter rule first second t work
 
 -- ---- the part handed back
 
@@ -96,11 +111,12 @@ placeOf (Refused r) first second = first
 placeOf First first second = pastHeader first
 placeOf Second first second = pastHeader second
 
--- The choice on any bytes, at any time, with any work area: which bytes it hands back, where they stand, and the work area.
-pub record Handed (first second : RefT (List ℕ)) (t : ℤ) (work : List ℤ) (r : RefT (List ℕ)) (work′ : List ℤ) : Type 0 where
-  pub bytes : now r ≡ partOf (chosenOf (now first) (now second) t work) (now first) (now second)
-  pub place : r .ptr ≡ placeOf (chosenOf (now first) (now second) t work) (first .ptr) (second .ptr)
-  pub area : work′ ≡ workAfter (now first) (now second) t work
+-- The choice by a tie rule on any bytes, at any time, with any work area: which bytes it hands back, where they stand, and the
+-- work area.
+pub record Handed (rule : TieRule) (first second : RefT (List ℕ)) (t : ℤ) (work : List ℤ) (r : RefT (List ℕ)) (work′ : List ℤ) : Type 0 where
+  pub bytes : now r ≡ partOf (chosenOf rule (now first) (now second) t work) (now first) (now second)
+  pub place : r .ptr ≡ placeOf (chosenOf rule (now first) (now second) t work) (first .ptr) (second .ptr)
+  pub area : work′ ≡ workAfter rule (now first) (now second) t work
 
 -- ---- the numbers for each case (R18)
 

@@ -1,16 +1,15 @@
 -- The calls stage by stage, as the code goes through their checks: each refusal, and what is left when all are passed.
 use Prim.Native.Nat.{ℕ, _≤_, _<_}
 use mathlib.Core.Path.{_≡_, refl, sym, ap₂, _∙_}
-use mathlib.Core.Bool.{true}
+use mathlib.Core.Bool.{true, false}
 use mathlib.Core.List.{List, _++_}
-use mathlib.Core.Option.{Option}
+use mathlib.Core.Option.{Option, some}
 use native.Mathlib.Omega.{arith}
-use lib.Dec.{ltb}
 use lib.IntN.{ℤ}
 use lib.ListN.{length, drop}
 use denote.Ref.{RefT, now}
 use borrow.Author.Tests.{lt-ltb, le-ltb}
-use borrow.Table.Steps.{cases}
+use Rattle.order.specs.Job.{Point}
 use Rattle.packed.specs.declared.Refusal.{Refusal}
 use Rattle.packed.specs.Judge.{plainly, withoutPlace, Verdict as Judged, fine, refused, judge}
 use Rattle.packed.specs.JudgeLaws.{stages-fine}
@@ -18,13 +17,10 @@ use Rattle.packed.specs.Refusals.{roomChecks, orderChecks}
 use Rattle.packed.specs.Accepted.{order-fine}
 use Rattle.area.specs.Area.{area, cleared}
 use Rattle.area.specs.Clearing.{cleared-same}
-use Rattle.reading.specs.declared.Found.{Found}
-use Rattle.reading.specs.declared.Found.the-variants.{At}
 use Rattle.judge.specs.Verdicts.{verdictOf}
 use Rattle.judge.specs.Told.{refusal-told, stays, told-next}
 use Rattle.judge.specs.declared.Verdict.the-variants.{Refused as Stopped}
-use Rattle.weighing.specs.Weighing.{weightIn}
-use Rattle.openings.specs.Choosing.{openingWorth, byWorth, toFirst, winnerBy, choosingChecks, choosingVerdict}
+use Rattle.openings.specs.Choosing.{openingPoint, TieRule, byPoints, winnerBy, choosingChecks, choosingVerdict}
 use Rattle.openings.specs.Choosing.{chosenBy, workBy, chosenOf, Asked, partOf, placeOf, Handed, winnerOf}
 use Rattle.openings.specs.Comparing.{CanCompare}
 use Rattle.openings.specs.declared.Chosen.{Chosen}
@@ -32,15 +28,21 @@ use Rattle.openings.specs.declared.Chosen.the-variants.{Refused, First, 
 
 -- ---- which of two points wins
 
--- The first, where the second is no heavier,
-pub first-wins : {one other : Found} {v w : ℕ} {t u : ℤ} → one ≡ At v t → other ≡ At w u → w ≤ v
-    → First ≡ byWorth true (weightIn one) (weightIn other)
-first-wins {v = v} {w = w} e f h = rw (e, f, le-ltb v w h) (cases (ltb w v) (λ d. rw d) (λ d. rw d))
+module _ (rule : TieRule) (p q : Point) where
+  -- The first where it is heavier, the second where that is,
+  pub first-wins : q .weight < p .weight → First ≡ byPoints rule (some p) (some q)
+  first-wins h = rw (lt-ltb (q .weight) (p .weight) h)
 
--- and the second, where it is heavier.
-pub second-wins : {one other : Found} {v w : ℕ} {t u : ℤ} → one ≡ At v t → other ≡ At w u → v < w
-    → Second ≡ byWorth true (weightIn one) (weightIn other)
-second-wins {v = v} {w = w} e f h = rw (e, f, lt-ltb v w h, le-ltb w v (omega arith))
+  pub second-wins : p .weight < q .weight → Second ≡ byPoints rule (some p) (some q)
+  second-wins h = rw (lt-ltb (p .weight) (q .weight) h, le-ltb (q .weight) (p .weight) (omega arith))
+
+  -- and of the same weight the one that the tie rule says.
+  module _ (h : p .weight ≤ q .weight) (k : q .weight ≤ p .weight) where
+    pub even-first : rule (p .time) (q .time) ≡ true → First ≡ byPoints rule (some p) (some q)
+    even-first e = rw (le-ltb (q .weight) (p .weight) h, le-ltb (p .weight) (q .weight) k, e)
+
+    pub even-second : rule (p .time) (q .time) ≡ false → Second ≡ byPoints rule (some p) (some q)
+    even-second e = rw (le-ltb (q .weight) (p .weight) h, le-ltb (p .weight) (q .weight) k, e)
 
 -- ---- the checks
 
@@ -50,24 +52,24 @@ cleared-past (Refused r) work = refl
 cleared-past First work = refl
 cleared-past Second work = refl
 
-module _ (first second : List ℕ) (t : ℤ) (work : List ℤ) where
+module _ (rule : TieRule) (first second : List ℕ) (t : ℤ) (work : List ℤ) where
   -- A refusal by these checks is given without its place, and leaves the work area as it was.
-  by-verdict : {r : Refusal} → choosingVerdict first second work ≡ refused r → Asked first second t work (Refused (withoutPlace r)) work
+  by-verdict : {r : Refusal} → choosingVerdict first second work ≡ refused r → Asked rule first second t work (Refused (withoutPlace r)) work
   by-verdict e = record { answer = rw e; area = rw e }
 
   orders-refused : {r : Refusal} → judge (orderChecks first ++ orderChecks second) ≡ refused r
-      → Asked first second t work (Refused (withoutPlace r)) work
+      → Asked rule first second t work (Refused (withoutPlace r)) work
   unfolding choosingChecks
   orders-refused e = by-verdict (stays (orderChecks first ++ orderChecks second) (roomChecks area (length work)) e)
 
   -- The first order is refused,
   pub first-refused : (r : Refusal) → verdictOf (judge (orderChecks first)) ≡ Stopped r
-      → Asked first second t work (Refused (withoutPlace r)) work
+      → Asked rule first second t work (Refused (withoutPlace r)) work
   first-refused r e = orders-refused (stays (orderChecks first) (orderChecks second) (refusal-told _ r e))
 
   -- or the second is,
   pub second-refused : (r : Refusal) → judge (orderChecks first) ≡ fine → verdictOf (judge (orderChecks second)) ≡ Stopped r
-      → Asked first second t work (Refused (withoutPlace r)) work
+      → Asked rule first second t work (Refused (withoutPlace r)) work
   second-refused r passed e =
       orders-refused (told-next (orderChecks first) (orderChecks second) passed ∙ refusal-told _ r e)
 
@@ -80,18 +82,18 @@ module _ (first second : List ℕ) (t : ℤ) (work : List ℤ) where
     room-told = told-next (orderChecks first ++ orderChecks second) (roomChecks area (length work)) both-fine
 
     -- or the work area is too short.
-    pub no-room : length work < area → Asked first second t work (Refused (plainly 10)) work
+    pub no-room : length work < area → Asked rule first second t work (Refused (plainly 10)) work
     no-room h = by-verdict {r = plainly 10} (room-told ∙ rw (lt-ltb (length work) area h))
 
     -- Past all of them both are weighed, the winner is told, and the work area cleared.
-    pub compared : {one other : Option ℕ} {end : List ℤ} {r : Chosen} (left : List ℤ) → area ≤ length work
-        → one ≡ openingWorth first t → other ≡ openingWorth second t → drop area left ≡ drop area work → end ≡ cleared left
-        → r ≡ byWorth true one other → Asked first second t work r end
+    pub compared : {one other : Option Point} {end : List ℤ} {r : Chosen} (left : List ℤ) → area ≤ length work
+        → one ≡ openingPoint first t → other ≡ openingPoint second t → drop area left ≡ drop area work → end ≡ cleared left
+        → r ≡ byPoints rule one other → Asked rule first second t work r end
     compared left h v w past c e =
         let passed : choosingVerdict first second work ≡ fine = room-told ∙ rw (le-ltb (length work) area h) in
-        let after = cleared-past (winnerBy toFirst first second t) work in
+        let after = cleared-past (winnerBy rule first second t) work in
         record {
-          answer = rw passed (e ∙ ap₂ (byWorth true) v w);
+          answer = rw passed (e ∙ ap₂ (byPoints rule) v w);
           area = rw passed (c ∙ cleared-same work left past ∙ sym after);
         }
 
@@ -102,8 +104,8 @@ won-fine : (v : Judged) (won : Chosen) → 0 < winnerOf (chosenBy v won) → v �
 won-fine fine won h = refl
 won-fine (refused r) won h = absurd (omega arith)
 
-module _ (first second : RefT (List ℕ)) (t : ℤ) (work : List ℤ) {q : Chosen} {left : List ℤ}
-    (asked : Asked (now first) (now second) t work q left)
+module _ (rule : TieRule) (first second : RefT (List ℕ)) (t : ℤ) (work : List ℤ) {q : Chosen} {left : List ℤ}
+    (asked : Asked rule (now first) (now second) t work q left)
   where
     -- Where there is a winner both openings have a header.
     pub headers-there : {c : Chosen} → q ≡ c → 0 < winnerOf c → (4 ≤ length (now first)) × (4 ≤ length (now second))
@@ -116,14 +118,14 @@ module _ (first second : RefT (List ℕ)) (t : ℤ) (work : List ℤ) {q : Chose
 
     -- What is handed back by the answer of the question is what the choice hands back.
     pub handed : {c : Chosen} {r : RefT (List ℕ)} → q ≡ c → now r ≡ partOf c (now first) (now second)
-        → r .ptr ≡ placeOf c (first .ptr) (second .ptr) → Handed first second t work r left
+        → r .ptr ≡ placeOf c (first .ptr) (second .ptr) → Handed rule first second t work r left
     handed e b p =
-        let told : chosenOf (now first) (now second) t work ≡ _ = sym (asked .answer) ∙ e in
+        let told : chosenOf rule (now first) (now second) t work ≡ _ = sym (asked .answer) ∙ e in
         record { bytes = rw told b; place = rw told p; area = asked .area }
 
 -- The question's answer and the part handed back agree: for the same inputs the part is the one that the answer names, and the
 -- work area is left the same.
-pub question-choice : {first second : RefT (List ℕ)} {t : ℤ} {work : List ℤ} {q : Chosen} {r : RefT (List ℕ)} {left end : List ℤ}
-    → Asked (now first) (now second) t work q left → Handed first second t work r end
+pub question-choice : {rule : TieRule} {first second : RefT (List ℕ)} {t : ℤ} {work : List ℤ} {q : Chosen} {r : RefT (List ℕ)} {left end : List ℤ}
+    → Asked rule (now first) (now second) t work q left → Handed rule first second t work r end
     → (now r ≡ partOf q (now first) (now second)) × (r .ptr ≡ placeOf q (first .ptr) (second .ptr)) × (end ≡ left)
 question-choice a h = rw (a .answer, a .area) (h .bytes, h .place, h .area)

@@ -1,8 +1,8 @@
--- Both sides of the edges of choosing as one list: each answer, and what the rules say of it. One statement holds of the
--- whole list, by computation.
+-- Both sides of the edges of choosing as one list, by both tie rules: each answer, and what the rules say of it. One statement
+-- holds of the whole list, by computation.
 use Prim.Native.Nat.{ℕ, _+_}
 use mathlib.Core.Path.{_≡_, refl}
-use mathlib.Core.List.{List, [], _∷_, map}
+use mathlib.Core.List.{List, [], _∷_, _++_, map}
 use lib.IntN.{ℤ, pos, negsuc}
 use Rattle.seconds.specs.Limits.{rest}
 use Rattle.seconds.specs.Twos.{bitsTo, toBits}
@@ -10,9 +10,10 @@ use Rattle.packed.specs.Layout.{decode, encode, numberOf, bytesOf}
 use Rattle.packed.specs.Places.{part, flat, each, first}
 use Rattle.packed.specs.Packed.{headerWord, headerOf, countOf, t0Of, spareOf, recordAt, jobWord, jobFields}
 use Rattle.packed.specs.Packed.{numbersOf, jobCount, fieldsAt, packedHeader, packedJob, packOrder, jobOf, jobsOf, orderOf}
+use Rattle.packed.specs.declared.Refusal.{Refusal}
 use Rattle.packed.specs.Judge.{inField, plainly}
 use Rattle.packed.specs.Refusals.{fieldsWithin, badField, firstBad, numberAt, firstRepeat, headerChecks, jobChecks, weightChecks}
-use Rattle.openings.specs.Choosing.{toFirst, winnerBy, choosingChecks, chosenOf}
+use Rattle.openings.specs.Choosing.{sooner, toFirst, winnerBy, choosingChecks, chosenOf}
 use Rattle.openings.specs.declared.Chosen.{Chosen}
 use Rattle.openings.specs.declared.Chosen.the-variants.{Refused, First, Second}
 
@@ -32,6 +33,22 @@ hopeless = opening 1 0 10 9
 
 abbrev idle : List ℕ
 idle = packOrder (pos 7) []
+
+-- Another with no jobs, free before 0.
+abbrev early : List ℕ
+early = packOrder (negsuc 2) []
+
+-- Two jobs of weight 10 and 1, and how long each takes: both keep 10 first, and 11 at 41 and at 85.
+abbrev twoJobs : ℕ → ℕ → List ℕ
+twoJobs long further =
+    packOrder (pos 0)
+    (pos 1 ∷ pos 0 ∷ pos 10 ∷ pos 0 ∷ pos long ∷ pos 100 ∷ pos 2 ∷ pos 0 ∷ pos 1 ∷ pos 0 ∷ pos further ∷ pos 100 ∷ [])
+
+abbrev soonDone : List ℕ
+soonDone = twoJobs 10 1
+
+abbrev lateDone : List ℕ
+lateDone = twoJobs 5 50
 
 -- Two that are out of range, in the length and in the weight.
 abbrev tooLong : List ℕ
@@ -53,33 +70,52 @@ pub record Edge : Type 0 where
 abbrev edge : Chosen → Chosen → Edge
 edge a b = record { asked = a; told = b }
 
+-- Two openings at a time by each tie rule: what the sooner one says, and what the older one.
+abbrev asks : List ℕ → List ℕ → ℤ → Chosen → Chosen → List Edge
+asks first second t one other = edge (winnerBy sooner first second t) one ∷ edge (winnerBy toFirst first second t) other ∷ []
+
+-- Two openings and no work area, by each.
+abbrev judges : List ℕ → List ℕ → Refusal → List Edge
+judges first second r =
+    edge (chosenOf sooner first second (pos 0) []) (Refused r) ∷ edge (chosenOf toFirst first second (pos 0) []) (Refused r) ∷ []
+
 abbrev pub edges : List Edge
 edges =
-    -- equal goes to the first, also where the second reaches that weight earlier
-    edge (winnerBy toFirst slow slow (free 10)) First
-    ∷ edge (winnerBy toFirst slow quick (free 10)) First
-    ∷ edge (winnerBy toFirst quick slow (free 10)) First
+    -- equal weight reached at once goes to the first, and to the sooner where it is not at once
+    asks slow slow (free 10) First First
+    ++ asks slow quick (free 10) Second First
+    ++ asks quick slow (free 10) First First
+    -- so do openings that keep nothing
+    ++ asks idle early (pos 7) Second First
+    ++ asks early idle (pos 7) First First
     -- the heavier wins, from the second at which it has its weight
-    ∷ edge (winnerBy toFirst slow quick (free 9)) Second
-    ∷ edge (winnerBy toFirst slow quick (free 5)) Second
-    ∷ edge (winnerBy toFirst slow quick (free 4)) First
+    ++ asks slow quick (free 9) Second Second
+    ++ asks slow quick (free 5) Second Second
+    ++ asks slow quick (free 4) First First
+    -- the times are those of the points by then: the last point of the first is the sooner of both
+    ++ asks soonDone lateDone (pos 24) Second Second
+    ++ asks soonDone lateDone (pos 25) Second First
+    ++ asks soonDone lateDone (pos 40) Second First
+    ++ asks soonDone lateDone (pos 41) First First
+    ++ asks soonDone lateDone (pos 84) First First
+    ++ asks soonDone lateDone (pos 85) First First
+    ++ asks lateDone soonDone (pos 85) Second First
     -- with no point an opening loses to one that has one, of weight 0
-    ∷ edge (winnerBy toFirst hopeless idle (pos 7)) Second
-    ∷ edge (winnerBy toFirst idle hopeless (pos 7)) First
+    ++ asks hopeless idle (pos 7) Second Second
+    ++ asks idle hopeless (pos 7) First First
     -- 11: neither has a point yet, or ever
-    ∷ edge (winnerBy toFirst hopeless idle (pos 6)) (Refused (plainly 11))
-    ∷ edge (winnerBy toFirst slow quick (negsuc 0)) (Refused (plainly 11))
-    ∷ edge (winnerBy toFirst hopeless hopeless (pos 100)) (Refused (plainly 11))
+    ++ asks hopeless idle (pos 6) (Refused (plainly 11)) (Refused (plainly 11))
+    ++ asks slow quick (negsuc 0) (Refused (plainly 11)) (Refused (plainly 11))
+    ++ asks hopeless hopeless (pos 100) (Refused (plainly 11)) (Refused (plainly 11))
     -- the first order's refusals, then the second's, then 10
-    ∷ edge (chosenOf (255 ∷ 0 ∷ 0 ∷ 1 ∷ []) [] (pos 0) []) (Refused (plainly 2))
-    ∷ edge (chosenOf idle [] (pos 0) []) (Refused (plainly 1))
-    ∷ edge (chosenOf idle (255 ∷ 0 ∷ 0 ∷ 1 ∷ []) (pos 0) []) (Refused (plainly 2))
-    ∷ edge (chosenOf idle idle (pos 0) []) (Refused (plainly 10))
+    ++ judges (255 ∷ 0 ∷ 0 ∷ 1 ∷ []) [] (plainly 2)
+    ++ judges idle [] (plainly 1)
+    ++ judges idle (255 ∷ 0 ∷ 0 ∷ 1 ∷ []) (plainly 2)
+    ++ judges idle idle (plainly 10)
     -- 6 with the field of the first order that is refused, and no place
-    ∷ edge (chosenOf tooLong weightless (pos 0) []) (Refused (inField 6 0 5))
-    ∷ edge (chosenOf weightless tooLong (pos 0) []) (Refused (inField 6 0 3))
-    ∷ edge (chosenOf idle tooLong (pos 0) []) (Refused (inField 6 0 5))
-    ∷ []
+    ++ judges tooLong weightless (inField 6 0 5)
+    ++ judges weightless tooLong (inField 6 0 3)
+    ++ judges idle tooLong (inField 6 0 5)
 
 -- Every edge is where R17, R24 and R25 have it.
 pub edges-hold : map (λ (e : Edge). e .asked) edges ≡ map (λ (e : Edge). e .told) edges

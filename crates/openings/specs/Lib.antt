@@ -5,3 +5,4 @@ pub mod Comparing
 pub mod ChoosingLaws
 pub mod AnswerSays
 pub mod WinnerLaws
+pub mod TieLaws

@@ -1,24 +1,26 @@
--- What it is to win, in the words of the rules: the winner is worth the greater of both, equal goes to the first, and 11 is
--- given exactly when the other checks are passed and neither opening has a point by the time; and what a refusal names.
+-- What it is to win, in the words of the rules: the winner is worth the greater of both, and 11 is given exactly when the other
+-- checks are passed and neither opening has a point by the time; and what a refusal names. By every tie rule.
 use Prim.Native.Nat.{ℕ, _≤_}
 use mathlib.Core.Path.{_≡_, refl, sym, ap, _∙_}
 use mathlib.Core.Bool.{Bool, true, false, cond}
 use mathlib.Core.List.{List, _++_}
 use mathlib.Core.Logic.{_↔_, _≢_, _⊎_, inl, inr, ⊎-elim, Iff·trans}
-use mathlib.Core.Option.{Option, none, some}
+use mathlib.Core.Option.{Option, none, some, Option·map}
 use native.Mathlib.Omega.{arith}
 use lib.Dec.{ltb}
 use lib.IntN.{ℤ}
 use lib.ListN.{length, drop}
-use borrow.Table.Steps.{cases}
+use lib.Signed.{_≤ℤ_}
 use Rattle.seconds.specs.Signed.{signed}
-use Rattle.profile.specs.Profile.{greater}
+use Rattle.order.specs.Job.{Point}
+use Rattle.profile.specs.Profile.{greater, worth, orderProfile}
+use Rattle.profile.specs.Worth.{lookup-worth, order-rises, Reaches, reaches-from}
 use Rattle.packed.specs.declared.Refusal.{Refusal}
 use Rattle.packed.specs.Judge.{inField, Verdict as Judged, fine, refused, judge, orElse}
 use Rattle.packed.specs.JudgeLaws.{judge-append, stages-fine, given-before}
 use Rattle.packed.specs.Layout.{headerBytes}
 use Rattle.packed.specs.Places.{flat}
-use Rattle.packed.specs.Packed.{countOf, numbersOf, recordAt}
+use Rattle.packed.specs.Packed.{countOf, numbersOf, recordAt, orderOf}
 use Rattle.packed.specs.PackedLaws.{flat-records}
 use Rattle.packed.specs.Refusals.{headerChecks, jobChecks, weightChecks, roomChecks, orderChecks}
 use Rattle.packed.specs.RefusalLaws.{room-fine}
@@ -26,14 +28,30 @@ use Rattle.packed.specs.RefusalPlaces.{BadField, no-field, six-order}
 use Rattle.packed.specs.Accepted.{order-fine}
 use Rattle.area.specs.Area.{area, cleared}
 use Rattle.judge.specs.Told.{stays, told-next, up-to-ten, Holds, holds-behind, named-check, named-order}
-use Rattle.openings.specs.Choosing.{openingWorth, byWorth, Tie, toFirst, winnerBy, choosingChecks, choosingVerdict}
+use Rattle.openings.specs.Choosing.{openingPoint, TieRule, byPoints, winnerBy, choosingChecks, choosingVerdict}
 use Rattle.openings.specs.Choosing.{chosenBy, chosenOf, Asked, refusalOf}
 use Rattle.openings.specs.ChoosingLaws.{cleared-past}
-use Rattle.openings.specs.AnswerSays.{won-by, neither-won, no-six, plain}
+use Rattle.openings.specs.AnswerSays.{won-by, neither-won, plain}
 use Rattle.openings.specs.declared.Chosen.{Chosen}
 use Rattle.openings.specs.declared.Chosen.the-variants.{Refused, First, Second}
 
 -- ---- the winner
+
+-- What an opening is worth at a time: the greatest weight of its profile by then,
+abbrev pub openingWorth : List ℕ → ℤ → Option ℕ
+openingWorth bytes t = worth (orderProfile (orderOf bytes)) t
+
+-- which is the weight of its point;
+abbrev weightOf : Option Point → Option ℕ
+weightOf = Option·map (λ (p : Point). p .weight)
+
+pub point-worth : (bytes : List ℕ) (t : ℤ) → weightOf (openingPoint bytes t) ≡ openingWorth bytes t
+point-worth bytes t = lookup-worth (order-rises (orderOf bytes)) t
+
+-- and the time of its point is the first at which it is worth as much.
+pub point-first : (bytes : List ℕ) (t : ℤ) {p : Point} → openingPoint bytes t ≡ some p
+    → (u : ℤ) → Reaches (orderProfile (orderOf bytes)) u (p .weight) ↔ p .time ≤ℤ u
+point-first bytes t = reaches-from (order-rises (orderOf bytes)) t
 
 -- What the winner is worth, of what each is worth; nothing without a winner.
 abbrev pub wonWorth : Chosen → Option ℕ → Option ℕ → Option ℕ
@@ -41,29 +59,28 @@ wonWorth (Refused r) a b = none
 wonWorth First a b = a
 wonWorth Second a b = b
 
-won-greater : (even : Bool) (a b : Option ℕ) → wonWorth (byWorth even a b) a b ≡ greater a b
-won-greater even none none = refl
-won-greater even none (some w) = refl
-won-greater even (some v) none = refl
-won-greater even (some v) (some w) = go (ltb w v) refl (ltb v w) refl even
+won-greater : (rule : TieRule) (a b : Option Point)
+    → wonWorth (byPoints rule a b) (weightOf a) (weightOf b) ≡ greater (weightOf a) (weightOf b)
+won-greater rule none none = refl
+won-greater rule none (some q) = refl
+won-greater rule (some p) none = refl
+won-greater rule (some p) (some q) =
+    go (ltb (q .weight) (p .weight)) refl (ltb (p .weight) (q .weight)) refl (rule (p .time) (q .time))
   where
-    go : (x : Bool) → ltb w v ≡ x → (y : Bool) → ltb v w ≡ y → (e : Bool)
-        → wonWorth (cond x First (cond y Second (cond e First Second))) (some v) (some w) ≡ greater (some v) (some w)
-    go true p y q e = ap some (omega signed)
-    go false p true q e = ap some (omega signed)
-    go false p false q true = ap some (omega signed)
-    go false p false q false = ap some (omega signed)
+    go : (x : Bool) → ltb (q .weight) (p .weight) ≡ x → (y : Bool) → ltb (p .weight) (q .weight) ≡ y → (e : Bool)
+        → wonWorth (cond x First (cond y Second (cond e First Second))) (some (p .weight)) (some (q .weight))
+        ≡ greater (some (p .weight)) (some (q .weight))
+    go true c y d e = ap some (omega signed)
+    go false c true d e = ap some (omega signed)
+    go false c false d true = ap some (omega signed)
+    go false c false d false = ap some (omega signed)
 
 -- By any tie rule the winner is worth the greater of both.
-pub winner-greater : (tie : Tie) (first second : List ℕ) (t : ℤ)
-    → wonWorth (winnerBy tie first second t) (openingWorth first t) (openingWorth second t)
+pub winner-greater : (rule : TieRule) (first second : List ℕ) (t : ℤ)
+    → wonWorth (winnerBy rule first second t) (openingWorth first t) (openingWorth second t)
     ≡ greater (openingWorth first t) (openingWorth second t)
-winner-greater tie first second t = won-greater (tie first second t) (openingWorth first t) (openingWorth second t)
-
--- Equal goes to the first.
-pub equal-first : (first second : List ℕ) (t : ℤ) (w : ℕ) → openingWorth first t ≡ some w → openingWorth second t ≡ some w
-    → winnerBy toFirst first second t ≡ First
-equal-first first second t w e f = rw (e, f) (cases (ltb w w) (λ d. rw d) (λ d. rw d))
+winner-greater rule first second t =
+    rw (← point-worth first t, ← point-worth second t) (won-greater rule (openingPoint first t) (openingPoint second t))
 
 -- ---- 11
 
@@ -72,17 +89,17 @@ pub record NeitherInTime (first second : List ℕ) (t : ℤ) (work : List ℤ) :
   pub one : judge (orderChecks first) ≡ fine
   pub other : judge (orderChecks second) ≡ fine
   pub room : area ≤ length work
-  pub first-late : openingWorth first t ≡ none
-  pub second-late : openingWorth second t ≡ none
+  pub first-late : openingPoint first t ≡ none
+  pub second-late : openingPoint second t ≡ none
 
-module _ (first second : List ℕ) (t : ℤ) (work : List ℤ) where
+module _ (first second : List ℕ) (work : List ℤ) where
   -- The checks give 1 to 10,
   checks-most : {r : Refusal} → choosingVerdict first second work ≡ refused r → r .number ≤ 10
   unfolding choosingChecks headerChecks jobChecks weightChecks
   checks-most = up-to-ten (choosingChecks first second work) tt
 
   -- and are passed exactly when both orders are accepted and there is room.
-  checks-passed : choosingVerdict first second work ≡ fine
+  pub checks-passed : choosingVerdict first second work ≡ fine
       ↔ ((judge (orderChecks first) ≡ fine) × (judge (orderChecks second) ≡ fine) × (area ≤ length work))
   unfolding choosingChecks
   checks-passed =
@@ -93,8 +110,9 @@ module _ (first second : List ℕ) (t : ℤ) (work : List ℤ) where
         λ h. all .1 (orders .1 (h .0, h .1), enough .1 (h .2)),
       )
 
+module _ (rule : TieRule) (first second : List ℕ) (t : ℤ) (work : List ℤ) where
   -- Every outcome of the question that its contract allows has refusal 11 exactly when neither opening has a point by the time,
-  module _ {r : Chosen} {work′ : List ℤ} (asked : Asked first second t work r work′) where
+  module _ {r : Chosen} {work′ : List ℤ} (asked : Asked rule first second t work r work′) where
     pub asked-eleven : refusalOf r .number ≡ 11 ↔ NeitherInTime first second t work
     asked-eleven = (λ e. there (choosingVerdict first second work) refl (ap number (sym (asked .answer)) ∙ e), back)
       where
@@ -102,10 +120,10 @@ module _ (first second : List ℕ) (t : ℤ) (work : List ℤ) where
         number c = refusalOf c .number
 
         there : (v : Judged) → choosingVerdict first second work ≡ v
-            → refusalOf (chosenBy v (winnerBy toFirst first second t)) .number ≡ 11 → NeitherInTime first second t work
+            → refusalOf (chosenBy v (winnerBy rule first second t)) .number ≡ 11 → NeitherInTime first second t work
         there fine d e =
-            let passed = checks-passed .0 d in
-            let late = neither-won (won-by (openingWorth first t) (openingWorth second t)) e in
+            let passed = checks-passed first second work .0 d in
+            let late = neither-won (won-by rule (openingPoint first t) (openingPoint second t)) e in
             record {
               one = passed .0;
               other = passed .1;
@@ -113,19 +131,19 @@ module _ (first second : List ℕ) (t : ℤ) (work : List ℤ) where
               first-late = late .0;
               second-late = late .1;
             }
-        there (refused s) d e = absurd (omega (arith, checks-most d))
+        there (refused s) d e = absurd (omega (arith, checks-most first second work d))
 
         back : NeitherInTime first second t work → refusalOf r .number ≡ 11
         back h =
             ap number (asked .answer)
-            ∙ rw (checks-passed .1 (h .one, h .other, h .room), h .first-late, h .second-late)
+            ∙ rw (checks-passed first second work .1 (h .one, h .other, h .room), h .first-late, h .second-late)
 
     -- and the work area is cleared then too.
     pub eleven-clears : refusalOf r .number ≡ 11 → work′ ≡ cleared work
     eleven-clears e =
         let h = asked-eleven .0 e in
         asked .area
-        ∙ rw (checks-passed .1 (h .one, h .other, h .room)) (cleared-past (winnerBy toFirst first second t) work)
+        ∙ rw (checks-passed first second work .1 (h .one, h .other, h .room)) (cleared-past (winnerBy rule first second t) work)
 
 -- ---- 6, and what a refusal names
 
@@ -133,7 +151,7 @@ module _ (first second : List ℕ) (t : ℤ) (work : List ℤ) where
 abbrev pub BadIn : List ℕ → ℕ → Type 0
 BadIn bytes f = (judge (headerChecks bytes) ≡ fine) × ((p : ℕ) × BadField (numbersOf bytes) p f)
 
-module _ (first second : List ℕ) (t : ℤ) (work : List ℤ) where
+module _ (first second : List ℕ) (work : List ℤ) where
   -- The checks give it for the first order, or for the second where the first is accepted.
   verdict-six : (p f : ℕ) → choosingVerdict first second work ≡ refused (inField 6 p f)
       ↔ ((judge (orderChecks first) ≡ refused (inField 6 p f))
@@ -169,7 +187,8 @@ module _ (first second : List ℕ) (t : ℤ) (work : List ℤ) where
       (holds-behind P (orderChecks first) (orderChecks second) (λ r e. no-field (named-order first r e)) (λ r e. no-field (named-order second r e)))
       (λ r e. no-field (named-check (numbersOf first) 10 (ltb (length work) area) refl r e))
 
-  module _ {r : Chosen} {work′ : List ℤ} (asked : Asked first second t work r work′) where
+module _ (rule : TieRule) (first second : List ℕ) (t : ℤ) (work : List ℤ) where
+  module _ {r : Chosen} {work′ : List ℤ} (asked : Asked rule first second t work r work′) where
     -- Every outcome that the contract allows has 6 with a field exactly when that is the first bad field of the first order, or of
     -- the second where the first is accepted.
     pub asked-six : (f : ℕ) → refusalOf r ≡ inField 6 0 f ↔ (BadIn first f ⊎ ((judge (orderChecks first) ≡ fine) × BadIn second f))
@@ -180,34 +199,34 @@ module _ (first second : List ℕ) (t : ℤ) (work : List ℤ) where
             → BadIn first f ⊎ ((judge (orderChecks first) ≡ fine) × BadIn second f)
         either p e =
             ⊎-elim (λ a. let b = six-order first p f .0 a in inl (b .0, (p, b .1)))
-            (λ h. let b = six-order second p f .0 (h .1) in inr (h .0, (b .0, (p, b .1)))) (verdict-six p f .0 e)
+            (λ h. let b = six-order second p f .0 (h .1) in inr (h .0, (b .0, (p, b .1)))) (verdict-six first second work p f .0 e)
 
         there : (v : Judged) → choosingVerdict first second work ≡ v
-            → refusalOf (chosenBy v (winnerBy toFirst first second t)) ≡ inField 6 0 f
+            → refusalOf (chosenBy v (winnerBy rule first second t)) ≡ inField 6 0 f
             → BadIn first f ⊎ ((judge (orderChecks first) ≡ fine) × BadIn second f)
-        there fine d e = absurd (no-six (won-by (openingWorth first t) (openingWorth second t)) (ap (λ (s : Refusal). s .number) e))
+        there fine d e = absurd (plain (won-by rule (openingPoint first t) (openingPoint second t)) .0 (ap (λ (s : Refusal). s .number) e))
         there (refused s) d e =
             let is : s ≡ inField 6 (s .place) f = λ i. inField (e i .number) (s .place) (e i .field) in
             either (s .place) (d ∙ ap refused is)
 
-        told : {p : ℕ} → choosingVerdict first second work ≡ refused (inField 6 p f) → refusalOf (chosenOf first second t work) ≡ inField 6 0 f
+        told : {p : ℕ} → choosingVerdict first second work ≡ refused (inField 6 p f) → refusalOf (chosenOf rule first second t work) ≡ inField 6 0 f
         told e = rw e
 
         back : BadIn first f ⊎ ((judge (orderChecks first) ≡ fine) × BadIn second f)
-            → refusalOf (chosenOf first second t work) ≡ inField 6 0 f
-        back (inl b) = told (verdict-six (b .1 .0) f .1 (inl (six-order first (b .1 .0) f .1 (b .0, b .1 .1))))
+            → refusalOf (chosenOf rule first second t work) ≡ inField 6 0 f
+        back (inl b) = told (verdict-six first second work (b .1 .0) f .1 (inl (six-order first (b .1 .0) f .1 (b .0, b .1 .1))))
         back (inr h) =
             let b = h .1 in
-            told (verdict-six (b .1 .0) f .1 (inr (h .0, six-order second (b .1 .0) f .1 (b .0, b .1 .1))))
+            told (verdict-six first second work (b .1 .0) f .1 (inr (h .0, six-order second (b .1 .0) f .1 (b .0, b .1 .1))))
 
     -- With any other number it names no field, and it never names a place.
     pub asked-names : (refusalOf r .number ≢ 6 → refusalOf r .field ≡ 0) × (refusalOf r .place ≡ 0)
     asked-names = rw (asked .answer) (go (choosingVerdict first second work) refl)
       where
-        go : (v : Judged) → choosingVerdict first second work ≡ v → let s = refusalOf (chosenBy v (winnerBy toFirst first second t)) in
+        go : (v : Judged) → choosingVerdict first second work ≡ v → let s = refusalOf (chosenBy v (winnerBy rule first second t)) in
             (s .number ≢ 6 → s .field ≡ 0) × (s .place ≡ 0)
-        go fine d = plain (won-by (openingWorth first t) (openingWorth second t))
-        go (refused s) d = (verdict-field s d, refl)
+        go fine d = let h = plain (won-by rule (openingPoint first t) (openingPoint second t)) .1 in (λ e. h .0, h .1)
+        go (refused s) d = (verdict-field first second work s d, refl)
 
 -- ---- the part
 

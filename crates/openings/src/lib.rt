@@ -1,5 +1,6 @@
-// Choosing between two openings at a time: which of two packed orders keeps more weight by then, and the
-// winner's records. Any bytes, time and work area have an answer. Assumes nothing.
+// Choosing between two openings at a time: which of two packed orders keeps more weight by then, of equal ones which reaches it
+// sooner, and the winner's records; by name also with equal weight always to the first. Any bytes, time and work area have an
+// answer. Assumes nothing.
 use area::AREA;
 use area::clear;
 use judge::Verdict;
@@ -10,10 +11,17 @@ use packed::without_place;
 use reading::Found;
 use weighing::weigh;
 ghost use mathlib.Core.Path.{_≡_};
-ghost use mathlib.Core.Bool.{true};
-ghost use Rattle.weighing.specs.Weighing.{weightIn};
-ghost use Rattle.openings.specs.Choosing.{byWorth, Asked, Handed};
+ghost use Rattle.reading.specs.declared.Found.the-variants.{At};
+ghost use Rattle.weighing.specs.Weighing.{pointIn};
+ghost use Rattle.openings.specs.Choosing.{byPoints, ruleOf, sooner, toFirst, Asked, Handed};
 ghost use Rattle.openings.specs.Comparing.{CanCompare};
+
+// Which of two openings of the same weight wins: the one that reaches it sooner, and the first if both do at once; or always
+// the first.
+pub enum Tie {
+    Sooner,
+    First,
+}
 
 // What the question answers: a refusal, without its place since it does not say of which opening it would be; or which of the
 // two openings wins.
@@ -23,33 +31,53 @@ pub enum Chosen {
     Second,
 }
 
-// Which of two openings wins, by the point that was found for each: the heavier, and of equal ones the first.
-fn winner(first: Found, second: Found) -> Chosen
-    ensures { λ r. ⌜ r ≡ byWorth true (weightIn first) (weightIn second) ⌝ }
+// Whether the first wins, by the times at which both reach the same weight.
+fn to_first(tie: Tie, one: i32, other: i32) -> bool
+    ensures { λ r. ⌜ r ≡ ruleOf tie one other ⌝ }
+{
+    match tie {
+        Tie::Sooner => one <= other,
+        Tie::First => true,
+    }
+}
+
+// Which of two points wins, by the weight and time of each: the heavier, and of the same weight by the tie.
+fn heavier(tie: Tie, weight: usize, time: i32, rival: usize, since: i32) -> Chosen
+    ensures { λ r. ⌜ r ≡ byPoints (ruleOf tie) (pointIn (At weight time)) (pointIn (At rival since)) ⌝ }
+{
+    if rival < weight {
+        return Chosen::First;
+    }
+    if weight < rival {
+        return Chosen::Second;
+    }
+    if to_first(tie, time, since) {
+        return Chosen::First;
+    }
+    Chosen::Second
+}
+
+// Which of two openings wins, by the point that was found for each; one without a point loses to one that has one.
+fn winner(tie: Tie, first: Found, second: Found) -> Chosen
+    ensures { λ r. ⌜ r ≡ byPoints (ruleOf tie) (pointIn first) (pointIn second) ⌝ }
 {
     match first {
         Found::Nothing => match second {
             Found::Nothing => Chosen::Refused(plainly(11)),
             Found::At(_, _) => Chosen::Second,
         },
-        Found::At(weight, _) => match second {
+        Found::At(weight, time) => match second {
             Found::Nothing => Chosen::First,
-            Found::At(other, _) => {
-                if other <= weight {
-                    Chosen::First
-                } else {
-                    Chosen::Second
-                }
-            }
+            Found::At(rival, since) => heavier(tie, weight, time, rival, since),
         },
     }
 }
 
 // The question on two openings that have passed their checks: the room is judged, both are weighed, and
 // the work area is cleared behind.
-fn compare(first: &[u8], second: &[u8], t: i32, work: &mut [i32]) -> Chosen
+fn compare(tie: Tie, first: &[u8], second: &[u8], t: i32, work: &mut [i32]) -> Chosen
     requires { ⌜ CanCompare (now first) (now second) ⌝ }
-    ensures { λ r. ⌜ Asked (now (first .entry)) (now (second .entry)) t (now (work .entry)) r (now (work .exit)) ⌝ }
+    ensures { λ r. ⌜ Asked (ruleOf tie) (now (first .entry)) (now (second .entry)) t (now (work .entry)) r (now (work .exit)) ⌝ }
 {
     if work.len() < AREA {
         return Chosen::Refused(plainly(10));
@@ -57,30 +85,58 @@ fn compare(first: &[u8], second: &[u8], t: i32, work: &mut [i32]) -> Chosen
     let one = weigh(first, t, &mut work[..AREA]);
     let other = weigh(second, t, &mut work[..AREA]);
     clear(work);
-    winner(one, other)
+    winner(tie, one, other)
 }
 
-// The question: which of two openings wins at a time, or the refusal.
-pub fn question(first: &[u8], second: &[u8], t: i32, work: &mut [i32]) -> Chosen
-    ensures { λ r. ⌜ Asked (now (first .entry)) (now (second .entry)) t (now (work .entry)) r (now (work .exit)) ⌝ }
+// The question by a tie: which of two openings wins at a time, or the refusal.
+fn ask(tie: Tie, first: &[u8], second: &[u8], t: i32, work: &mut [i32]) -> Chosen
+    ensures { λ r. ⌜ Asked (ruleOf tie) (now (first .entry)) (now (second .entry)) t (now (work .entry)) r (now (work .exit)) ⌝ }
 {
     match judge_order(first, 0) {
         Verdict::Refused(refusal) => Chosen::Refused(without_place(refusal)),
         Verdict::Fine => match judge_order(second, 0) {
             Verdict::Refused(refusal) => Chosen::Refused(without_place(refusal)),
-            Verdict::Fine => compare(first, second, t, work),
+            Verdict::Fine => compare(tie, first, second, t, work),
         },
     }
 }
 
-// The choice: the records of the opening that wins, without its header, where they stand; the empty part
+// The choice by a tie: the records of the opening that wins, without its header, where they stand; the empty part
 // at the start of the first where it is refused.
-pub fn choose<'a>(first: &'a [u8], second: &'a [u8], t: i32, work: &mut [i32]) -> &'a [u8]
-    ensures { λ r. ⌜ Handed (first .entry) (second .entry) t (now (work .entry)) r (now (work .exit)) ⌝ }
+fn hand<'a>(tie: Tie, first: &'a [u8], second: &'a [u8], t: i32, work: &mut [i32]) -> &'a [u8]
+    ensures { λ r. ⌜ Handed (ruleOf tie) (first .entry) (second .entry) t (now (work .entry)) r (now (work .exit)) ⌝ }
 {
-    match question(first, second, t, work) {
+    match ask(tie, first, second, t, work) {
         Chosen::Refused(_) => &first[..0],
         Chosen::First => &first[4..],
         Chosen::Second => &second[4..],
     }
+}
+
+// The question: of equal weights, the opening that reaches it sooner.
+pub fn question(first: &[u8], second: &[u8], t: i32, work: &mut [i32]) -> Chosen
+    ensures { λ r. ⌜ Asked sooner (now (first .entry)) (now (second .entry)) t (now (work .entry)) r (now (work .exit)) ⌝ }
+{
+    ask(Tie::Sooner, first, second, t, work)
+}
+
+// The question by the night desk's rule: of equal weights, the first opening.
+pub fn question_first(first: &[u8], second: &[u8], t: i32, work: &mut [i32]) -> Chosen
+    ensures { λ r. ⌜ Asked toFirst (now (first .entry)) (now (second .entry)) t (now (work .entry)) r (now (work .exit)) ⌝ }
+{
+    ask(Tie::First, first, second, t, work)
+}
+
+// The choice: of equal weights, the opening that reaches it sooner.
+pub fn choose<'a>(first: &'a [u8], second: &'a [u8], t: i32, work: &mut [i32]) -> &'a [u8]
+    ensures { λ r. ⌜ Handed sooner (first .entry) (second .entry) t (now (work .entry)) r (now (work .exit)) ⌝ }
+{
+    hand(Tie::Sooner, first, second, t, work)
+}
+
+// The choice by the night desk's rule: of equal weights, the first opening.
+pub fn choose_first<'a>(first: &'a [u8], second: &'a [u8], t: i32, work: &mut [i32]) -> &'a [u8]
+    ensures { λ r. ⌜ Handed toFirst (first .entry) (second .entry) t (now (work .entry)) r (now (work .exit)) ⌝ }
+{
+    hand(Tie::First, first, second, t, work)
 }

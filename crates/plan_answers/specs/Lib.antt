@@ -1,2 +1,2 @@
--- The answers on profiles, plans and openings as structs of numbers.
+-- The answers on profiles and plans as structs of numbers.
 pub mod Numbers

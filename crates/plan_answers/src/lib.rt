@@ -1,24 +1,13 @@
-// The answers on profiles, plans and openings as structs with C's layout: the refusal and the values of the rules
-// for each case. Every answer has its struct. Assumes nothing.
+// The answers on profiles and plans as structs with C's layout: the refusal and the values of the rules for each
+// case. Every answer has its struct. Assumes nothing.
 ghost use mathlib.Core.Path.{_≡_};
-ghost use Prim.Native.Nat.{_-_};
-ghost use Rattle.packed.specs.Layout.{headerBytes};
 ghost use Rattle.plan_answers.specs.Numbers.{lookupNumbers, betterNumbers, extendNumbers};
-ghost use Rattle.plan_answers.specs.Numbers.{planFigures, beside, halvesFigures, questionNumbers, chooseNumbers};
+ghost use Rattle.plan_answers.specs.Numbers.{planFigures, beside, halvesFigures};
 use better::Joined;
 use extending::Extended;
 use halves::HalvesPlanned;
-use openings::Chosen;
 use planner::Planned;
 use profiles::Finding;
-
-// The numbers of the openings, as winners.
-const FIRST: u32 = 1;
-
-const SECOND: u32 = 2;
-
-// The bytes of a header.
-const HEADER: usize = 4;
 
 // A lookup: found (1 or 0), and the weight.
 #[repr(C)]
@@ -71,24 +60,6 @@ pub struct HalvesAnswer {
     pub finish: i32,
     pub points: u32,
     pub seconds_lost: u32,
-}
-
-// The question: the winner, 1 or 2 (0 if refused).
-#[repr(C)]
-pub struct QuestionAnswer {
-    pub refusal: u32,
-    pub field: u32,
-    pub winner: u32,
-}
-
-// The choice: the winner, and which of its bytes are the records: from the offset on, so many.
-#[repr(C)]
-pub struct ChooseAnswer {
-    pub refusal: u32,
-    pub field: u32,
-    pub winner: u32,
-    pub offset: usize,
-    pub length: usize,
 }
 
 // The answer of a lookup.
@@ -213,64 +184,5 @@ pub fn halves_answer(planned: HalvesPlanned) -> HalvesAnswer
         HalvesPlanned::Made(figures, seconds) => {
             with_seconds(plan_answer(Planned::Made(figures)), seconds)
         }
-    }
-}
-
-// The answer of the question.
-pub fn question_answer(chosen: Chosen) -> QuestionAnswer
-    ensures { λ r. ⌜ r ≡ questionNumbers chosen ⌝ }
-{
-    match chosen {
-        Chosen::Refused(said) => QuestionAnswer {
-            refusal: said.number,
-            field: said.field,
-            winner: 0,
-        },
-        Chosen::First => QuestionAnswer {
-            refusal: 0,
-            field: 0,
-            winner: FIRST,
-        },
-        Chosen::Second => QuestionAnswer {
-            refusal: 0,
-            field: 0,
-            winner: SECOND,
-        },
-    }
-}
-
-// How many bytes of an opening stand behind its header; a winner has one.
-fn records_length(bytes: usize) -> usize
-    ensures { λ r. ⌜ r ≡ bytes - headerBytes ⌝ }
-{
-    if bytes < HEADER { 0 } else { bytes - HEADER }
-}
-
-// The answer of the choice between openings of so many bytes.
-pub fn choose_answer(chosen: Chosen, first: usize, second: usize) -> ChooseAnswer
-    ensures { λ r. ⌜ r ≡ chooseNumbers chosen first second ⌝ }
-{
-    match chosen {
-        Chosen::Refused(said) => ChooseAnswer {
-            refusal: said.number,
-            field: said.field,
-            winner: 0,
-            offset: 0,
-            length: 0,
-        },
-        Chosen::First => ChooseAnswer {
-            refusal: 0,
-            field: 0,
-            winner: FIRST,
-            offset: HEADER,
-            length: records_length(first),
-        },
-        Chosen::Second => ChooseAnswer {
-            refusal: 0,
-            field: 0,
-            winner: SECOND,
-            offset: HEADER,
-            length: records_length(second),
-        },
     }
 }

@@ -3,17 +3,14 @@
 use mathlib.Core.Path.{sym, ap, _∙_}
 use mathlib.Core.List.{List, [], _∷_}
 use Rattle.order.specs.Job.{Job, Point}
-use Rattle.profile.specs.Profile.{startPoint}
+use Rattle.profile.specs.Profile.{startPoint, lookup}
 use Rattle.profile.specs.Rising.{rising-one}
-use Rattle.profile.specs.Points.{profileOf-rises, profileOf-same}
 use Rattle.profile.specs.Last.{last-heaviest}
-use Rattle.profile.specs.Worth.{lookupWeight, same-worth, lookup-worth}
-use Rattle.plan.specs.PlanProfile.{reached}
 use Rattle.rows.specs.Row.{reach}
 use Rattle.rows.specs.RowLaws.{earliest-says, rows-say}
 use Rattle.rows.specs.Reach.{says-none-past, after-none-past, reach-none-past}
 use Rattle.rows.specs.ReadLaws.{extend-by-rows, point-total-by-rows}
-use Rattle.rows.specs.ByTimeLaws.{weight-worth}
+use Rattle.rows.specs.ByTimeLaws.{heaviest-lookup}
 use Rattle.rows.specs.PlanLaws.{plan-by-rows}
 use Rattle.points.specs.PrefixLaws.{Singles, list-is, points-are}
 use Rattle.points.specs.WalkLaws.{plan-by-lists}
@@ -26,7 +23,7 @@ same-as-third s r =
       planned = λ t. s .planned t ∙ sym (r .planned t);
       total = λ t. s .total t ∙ sym (r .total t);
       extended = λ P rises. s .extended P rises ∙ sym (r .extended P rises);
-      worthAt = λ t u. s .worthAt t u ∙ sym (r .worthAt t u);
+      pointAt = λ t u. s .pointAt t u ∙ sym (r .pointAt t u);
     }
 
 -- Rows give what the rules say.
@@ -38,9 +35,7 @@ rows-rules js =
       extended = λ P rises.
           let light = says-none-past (earliest-says P) .1 (last-heaviest rises) in
           sym (extend-by-rows P js _ (after-none-past js light));
-      worthAt = λ t u.
-          weight-worth (reach js) (rows-say js (startPoint t ∷ [])) (reach-none-past t js) u
-          ∙ sym (same-worth (profileOf-same (reached t js)) u);
+      pointAt = λ t u. heaviest-lookup (reach js) (rows-say js (startPoint t ∷ [])) (reach-none-past t js) u;
     }
 
 -- So do lists, for jobs of one rate each,
@@ -50,9 +45,7 @@ lists-rules js one =
       planned = λ t. plan-by-lists t js one;
       total = λ t. points-are t js one;
       extended = λ P rises. list-is js one rises;
-      worthAt = λ t u.
-          ap (λ (P : List Point). lookupWeight P u) (list-is js one (rising-one (startPoint t)))
-          ∙ lookup-worth (profileOf-rises (reached t js)) u;
+      pointAt = λ t u. ap (λ (P : List Point). lookup P u) (list-is js one (rising-one (startPoint t)));
     }
 
 -- and for these, rows and lists give the same.

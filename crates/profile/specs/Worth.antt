@@ -1,20 +1,21 @@
 -- What a list of points is worth at a time: the greatest weight of a point at or before it. Lists that give the same have
--- the same worth at every time, and back; the lookup in a rising list finds it.
+-- the same worth at every time, and back; the lookup in a rising list finds it, with the first time at which it is reached.
 use Prim.Native.Nat.{ℕ, _≤_, max}
 use mathlib.Core.Path.{_≡_, refl, sym, ap, _∙_, subst}
 use mathlib.Core.Bool.{Bool, true, false, cond}
 use mathlib.Core.List.{List, [], _∷_, _++_, List·Memᴰ, List·Memᴰ·head, List·Memᴰ·tail}
 use mathlib.Core.Logic.{_⊎_, inl, inr, _↔_}
-use mathlib.Core.Option.{Option, none, some, Option·map}
+use mathlib.Core.Option.{Option, none, some, Option·map, Option·some-injective, Option·none-ne-some}
 use native.Mathlib.Omega.{arith}
 use lib.IntN.{ℤ}
 use lib.ListN.{length}
 use lib.Signed.{leZ, _≤ℤ_}
 use Rattle.seconds.specs.Signed.{signed}
-use Rattle.order.specs.Job.{Point}
+use Rattle.order.specs.Job.{Order, Point}
+use Rattle.order.specs.Choice.{outcomes}
 use Rattle.order.specs.Given.{_⊑_, Same}
 use Rattle.order.specs.GivenLaws.{giver, given-own, given-covered}
-use Rattle.profile.specs.Profile.{greater, worth, lookup, orElse, profileOf}
+use Rattle.profile.specs.Profile.{greater, worth, lookup, orElse, profileOf, startPoint, orderProfile}
 use Rattle.profile.specs.Rising.{Rising, rising-none, rising-more, below-member}
 use Rattle.profile.specs.Points.{profileOf-rises, profileOf-same, rising-equal, profileOf-shortest}
 use Rattle.profile.specs.Greatest.{Greatest, nothing, greatest, Under}
@@ -133,6 +134,61 @@ lookup-profileOf ps t = lookup-worth (profileOf-rises ps) t ∙ same-worth (prof
 pub lookup-equal : {ps qs : List Point} → Rising ps → Rising qs → ((t : ℤ) → lookupWeight ps t ≡ lookupWeight qs t) → ps ≡ qs
 lookup-equal {ps} {qs} r s e =
     rising-equal r s (worth-same ps qs (λ t. sym (lookup-worth r t) ∙ e t ∙ lookup-worth s t))
+
+-- The profile of an order rises.
+pub order-rises : (o : Order) → Rising (orderProfile o)
+order-rises o = profileOf-rises (outcomes (o .jobs) (startPoint (o .t0) ∷ []))
+
+-- ---- the point that is found
+
+-- What a lookup finds is a point of the list, by the time.
+pub lookup-by : (ps : List Point) (t : ℤ) {p : Point} → lookup ps t ≡ some p → List·Memᴰ p ps × (p .time ≤ℤ t)
+lookup-by [] t e = absurd (Option·none-ne-some _ e)
+lookup-by (q ∷ ps) t {p} e = go (lookup ps t) refl (leZ (q .time) t) refl (λ f. lookup-by ps t f) e
+  where
+    go : (o : Option Point) → lookup ps t ≡ o → (b : Bool) → leZ (q .time) t ≡ b
+        → (lookup ps t ≡ some p → List·Memᴰ p ps × (p .time ≤ℤ t)) → orElse o (cond b (some q) none) ≡ some p
+        → List·Memᴰ p (q ∷ ps) × (p .time ≤ℤ t)
+    go (some r) d b c further f = let h = further (d ∙ f) in (List·Memᴰ·tail (h .0), h .1)
+    go none d true c further f =
+        let same = Option·some-injective q p f in
+        (List·Memᴰ·head (sym same), omega (signed, ap (λ (x : Point). x .time) same))
+    go none d false c further f = absurd (Option·none-ne-some p f)
+
+-- The heavier of two points of a rising list is the later.
+rising-later : {ps : List Point} {p q : Point} → Rising ps → List·Memᴰ p ps → List·Memᴰ q ps → p .weight ≤ q .weight
+    → p .time ≤ℤ q .time
+rising-later (rising-more b r) (List·Memᴰ·head d) (List·Memᴰ·head e) h = omega (signed, ap (λ (x : Point). x .time) (d ∙ sym e))
+rising-later (rising-more b r) (List·Memᴰ·head d) (List·Memᴰ·tail m) h =
+    let k = below-member b m in omega (signed, ap (λ (x : Point). x .time) d)
+rising-later (rising-more b r) (List·Memᴰ·tail m) (List·Memᴰ·head e) h =
+    let k = below-member b m in absurd (omega (signed, ap (λ (x : Point). x .weight) e))
+rising-later (rising-more b r) (List·Memᴰ·tail m) (List·Memᴰ·tail n) h = rising-later r m n h
+
+-- A list is worth at least a weight at a time.
+abbrev pub Reaches : List Point → ℤ → ℕ → Type 0
+Reaches ps u w = (v : ℕ) × ((worth ps u ≡ some v) × (w ≤ v))
+
+-- A rising list is worth at least the weight of the point found exactly from that point's time on.
+pub reaches-from : {ps : List Point} → Rising ps → (t : ℤ) {p : Point} → lookup ps t ≡ some p
+    → (u : ℤ) → Reaches ps u (p .weight) ↔ p .time ≤ℤ u
+reaches-from {ps} r t {p} e u = (there, λ h. back h (worth ps u) refl (worth-greatest ps u))
+  where
+    member : List·Memᴰ p ps
+    member = lookup-by ps t e .0
+
+    there : Reaches ps u (p .weight) → p .time ≤ℤ u
+    there h = go (worth-is ps u (some (h .0)) .0 (h .1 .0))
+      where
+        go : Greatest (WeightBy ps u) (some (h .0)) → p .time ≤ℤ u
+        go (greatest b f) =
+            let later = rising-later r member (b .member) (omega (arith, b .weighs, h .1 .1)) in
+            omega (signed, b .by)
+
+    back : p .time ≤ℤ u → (o : Option ℕ) → worth ps u ≡ o → Greatest (WeightBy ps u) o → Reaches ps u (p .weight)
+    back h none d (nothing f) = absurd (f (p .weight) (record { point = p; member = member; by = h; weighs = refl }))
+    back h (some v) d (greatest b f) =
+        (v, (d, f (p .weight) (record { point = p; member = member; by = h; weighs = refl })))
 
 -- ---- the shortest profile that gives something at each time
 

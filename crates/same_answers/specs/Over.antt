@@ -3,7 +3,7 @@ use Prim.Native.Nat.{ℕ}
 use mathlib.Core.List.{List}
 use mathlib.Core.Option.{Option, Option·map}
 use lib.IntN.{ℤ}
-use Rattle.order.specs.Job.{Job, Order}
+use Rattle.order.specs.Job.{Job, Order, Point}
 use Rattle.order.specs.Choice.{mask, numberKept, lostWeight, starts}
 use Rattle.plan.specs.Plan.{Ended, Answer}
 use Rattle.points.specs.Ways.{Way}
@@ -15,7 +15,7 @@ use Rattle.halves.specs.Calls.{halvesVerdict, lostIn, withSeconds}
 use Rattle.extending.specs.declared.Extended.{Extended}
 use Rattle.extending.specs.Calls.{profileGiven, extendVerdict, extendedBy, outBy}
 use Rattle.openings.specs.declared.Chosen.{Chosen}
-use Rattle.openings.specs.Choosing.{byWorth, toFirst, choosingVerdict, chosenBy, partOf, placeOf}
+use Rattle.openings.specs.Choosing.{TieRule, byPoints, choosingVerdict, chosenBy, partOf, placeOf}
 
 -- ---- planning, and planning halves
 
@@ -60,18 +60,17 @@ extendOver w ns bytes out work =
     let ps = w .extended (profileGiven ns) (orderOf bytes .jobs) in
     (extendedBy v ps, outBy v ps out)
 
--- ---- the question, and the choice
+-- ---- the question, and the choice, by a tie rule
 
-abbrev pub worthOver : Way → List ℕ → ℤ → Option ℕ
-worthOver w bytes t = w .worthAt (orderOf bytes .t0) (orderOf bytes .jobs) t
+abbrev pub pointOver : Way → List ℕ → ℤ → Option Point
+pointOver w bytes t = w .pointAt (orderOf bytes .t0) (orderOf bytes .jobs) t
 
-abbrev pub questionOver : Way → List ℕ → List ℕ → ℤ → List ℤ → Chosen
-questionOver w first second t work =
-    chosenBy (choosingVerdict first second work)
-    (byWorth (toFirst first second t) (worthOver w first t) (worthOver w second t))
+abbrev pub questionOver : Way → TieRule → List ℕ → List ℕ → ℤ → List ℤ → Chosen
+questionOver w rule first second t work =
+    chosenBy (choosingVerdict first second work) (byPoints rule (pointOver w first t) (pointOver w second t))
 
 -- The part handed back, its bytes and its place.
-abbrev pub choiceOver : Way → List ℕ → List ℕ → ℕ × ℕ → ℕ × ℕ → ℤ → List ℤ → List ℕ × (ℕ × ℕ)
-choiceOver w first second at other t work =
-    let c = questionOver w first second t work in
+abbrev pub choiceOver : Way → TieRule → List ℕ → List ℕ → ℕ × ℕ → ℕ × ℕ → ℤ → List ℤ → List ℕ × (ℕ × ℕ)
+choiceOver w rule first second at other t work =
+    let c = questionOver w rule first second t work in
     (partOf c first second, placeOf c at other)

@@ -26,8 +26,8 @@ use Rattle.extending.specs.Calls.{profileGiven, extendJudged, extendChecks, ext
 use Rattle.extending.specs.CallLaws.{given-read}
 use Rattle.extending.specs.ExtendingLaws.{Accepted, accepted, accepted-order}
 use Rattle.openings.specs.declared.Chosen.{Chosen}
-use Rattle.openings.specs.Choosing.{byWorth, toFirst, choosingChecks, choosingVerdict, chosenBy, partOf, placeOf, chosenOf}
-use Rattle.same_answers.specs.Over.{answerWith, planAnswerOver, planOver, lostOver, halvesOver, extendOver, worthOver, questionOver, choiceOver}
+use Rattle.openings.specs.Choosing.{TieRule, byPoints, choosingChecks, choosingVerdict, chosenBy, partOf, placeOf, chosenOf}
+use Rattle.same_answers.specs.Over.{answerWith, planAnswerOver, planOver, lostOver, halvesOver, extendOver, pointOver, questionOver, choiceOver}
 
 -- Two ways give the same for every accepted order.
 abbrev pub Agree : Way → Way → Type 0
@@ -128,25 +128,23 @@ module _ {a b : Way} (agree : Agree a b) where
       (stages-fine (orderChecks first ++ orderChecks second) (roomChecks area (length work)) .0 e .0) in
       (order-fine first .0 (both .0), order-fine second .0 (both .1))
 
-  pub question-same : (first second : List ℕ) (t : ℤ) (work : List ℤ)
-      → questionOver a first second t work ≡ questionOver b first second t work
-  question-same first second t work =
-      by-verdict chosenBy (choosingVerdict first second work)
-      (byWorth (toFirst first second t) (worthOver a first t) (worthOver a second t))
-      (byWorth (toFirst first second t) (worthOver b first t) (worthOver b second t)) same (λ r. refl)
+  pub question-same : (rule : TieRule) (first second : List ℕ) (t : ℤ) (work : List ℤ)
+      → questionOver a rule first second t work ≡ questionOver b rule first second t work
+  question-same rule first second t work =
+      by-verdict chosenBy (choosingVerdict first second work) (byPoints rule (pointOver a first t) (pointOver a second t))
+      (byPoints rule (pointOver b first t) (pointOver b second t)) same (λ r. refl)
     where
       same : choosingVerdict first second work ≡ fine
-          → byWorth (toFirst first second t) (worthOver a first t) (worthOver a second t)
-          ≡ byWorth (toFirst first second t) (worthOver b first t) (worthOver b second t)
+          → byPoints rule (pointOver a first t) (pointOver a second t) ≡ byPoints rule (pointOver b first t) (pointOver b second t)
       same e =
           let f = choosing-fine first second work e in
-          ap₂ (byWorth (toFirst first second t)) (agree first (f .0) .worthAt (orderOf first .t0) t)
-          (agree second (f .1) .worthAt (orderOf second .t0) t)
+          ap₂ (byPoints rule) (agree first (f .0) .pointAt (orderOf first .t0) t)
+          (agree second (f .1) .pointAt (orderOf second .t0) t)
 
-  pub choice-same : (first second : List ℕ) (at other : ℕ × ℕ) (t : ℤ) (work : List ℤ)
-      → choiceOver a first second at other t work ≡ choiceOver b first second at other t work
-  choice-same first second at other t work =
-      ap (λ (c : Chosen). (partOf c first second, placeOf c at other)) (question-same first second t work)
+  pub choice-same : (rule : TieRule) (first second : List ℕ) (at other : ℕ × ℕ) (t : ℤ) (work : List ℤ)
+      → choiceOver a rule first second at other t work ≡ choiceOver b rule first second at other t work
+  choice-same rule first second at other t work =
+      ap (λ (c : Chosen). (partOf c first second, placeOf c at other)) (question-same rule first second t work)
 
 -- ---- as computed from rows and as computed from lists they are the same function
 
@@ -155,9 +153,10 @@ pub record SameCalls (a b : Way) : Type 0 where
   pub plan : (bytes : List ℕ) (starts work : List ℤ) → planOver a bytes starts work ≡ planOver b bytes starts work
   pub halves : (bytes : List ℕ) (starts work : List ℤ) → halvesOver a bytes starts work ≡ halvesOver b bytes starts work
   pub extend : (ns : List ℤ) (bytes : List ℕ) (out work : List ℤ) → extendOver a ns bytes out work ≡ extendOver b ns bytes out work
-  pub question : (first second : List ℕ) (t : ℤ) (work : List ℤ) → questionOver a first second t work ≡ questionOver b first second t work
-  pub choice : (first second : List ℕ) (at other : ℕ × ℕ) (t : ℤ) (work : List ℤ)
-      → choiceOver a first second at other t work ≡ choiceOver b first second at other t work
+  pub question : (rule : TieRule) (first second : List ℕ) (t : ℤ) (work : List ℤ)
+      → questionOver a rule first second t work ≡ questionOver b rule first second t work
+  pub choice : (rule : TieRule) (first second : List ℕ) (at other : ℕ × ℕ) (t : ℤ) (work : List ℤ)
+      → choiceOver a rule first second at other t work ≡ choiceOver b rule first second at other t work
 
 same-calls : {a b : Way} → Agree a b → SameCalls a b
 same-calls agree =
@@ -188,11 +187,11 @@ pub contracts-extend : (ns : List ℤ) (bytes : List ℕ) (out work : List ℤ)
     → extendOver byRules ns bytes out work ≡ (extendedOf ns bytes out work, outAfter ns bytes out work)
 contracts-extend ns bytes out work = refl
 
-pub contracts-question : (first second : List ℕ) (t : ℤ) (work : List ℤ)
-    → questionOver byRules first second t work ≡ chosenOf first second t work
-contracts-question first second t work = refl
+pub contracts-question : (rule : TieRule) (first second : List ℕ) (t : ℤ) (work : List ℤ)
+    → questionOver byRules rule first second t work ≡ chosenOf rule first second t work
+contracts-question rule first second t work = refl
 
-pub contracts-choice : (first second : List ℕ) (at other : ℕ × ℕ) (t : ℤ) (work : List ℤ)
-    → choiceOver byRules first second at other t work
-    ≡ (partOf (chosenOf first second t work) first second, placeOf (chosenOf first second t work) at other)
-contracts-choice first second at other t work = refl
+pub contracts-choice : (rule : TieRule) (first second : List ℕ) (at other : ℕ × ℕ) (t : ℤ) (work : List ℤ)
+    → choiceOver byRules rule first second at other t work
+    ≡ (partOf (chosenOf rule first second t work) first second, placeOf (chosenOf rule first second t work) at other)
+contracts-choice rule first second at other t work = refl

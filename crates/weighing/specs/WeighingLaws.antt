@@ -1,4 +1,5 @@
--- The laws of weighing an order by its lists: each step can be made, and the weight found is what the order is worth.
+-- The laws of weighing an order by its lists: each step can be made, and the point found is the last of the order's profile by the
+-- time, so that its weight is what the order is worth then.
 use Prim.Native.Nat.{ℕ, _≤_}
 use mathlib.Core.Path.{_≡_, refl, ap, _∙_}
 use mathlib.Core.List.{List, [], _∷_}
@@ -11,10 +12,10 @@ use mir.Val.{toZ, ofZ}
 use mir.Facts.{toZ-ofZ}
 use Rattle.seconds.specs.Ranges.{InTime}
 use Rattle.seconds.specs.RangesLaws.{time-fits, time-free}
-use Rattle.order.specs.Job.{Point}
+use Rattle.order.specs.Job.{Order, Point}
 use Rattle.profile.specs.Profile.{worth, lookup, lastWeight, extend, startPoint, orderProfile}
 use Rattle.profile.specs.Closure.{valid-holds, valid-start}
-use Rattle.profile.specs.Worth.{lookup-worth}
+use Rattle.profile.specs.Worth.{lookup-worth, order-rises}
 use Rattle.packed.specs.Packed.{orderOf, jobsIn}
 use Rattle.packed.specs.Accepted.{OrderFine, order-fine}
 use Rattle.fields.specs.Facts.{HeaderRead}
@@ -26,14 +27,25 @@ use Rattle.codes.specs.HeldLaws.{held-read}
 use Rattle.stepping.specs.declared.Prefix.{Prefix}
 use Rattle.reading.specs.Reading.{found}
 use Rattle.reading.specs.declared.Found.{Found}
+use Rattle.reading.specs.declared.Found.the-variants.{Nothing, At}
 use Rattle.filling.specs.Lists.{CanFillLast, FilledLast}
 use Rattle.filling.specs.Begin.{CanStart}
-use Rattle.weighing.specs.Weighing.{weightIn, CanWeigh}
+use Rattle.weighing.specs.Weighing.{pointIn, weightIn, CanWeigh}
 
--- The weight in the code's answer is the weight of the point that was found.
-found-weight : (o : Option Point) → weightIn (found o) ≡ Option·map (λ (p : Point). p .weight) o
-found-weight none = refl
-found-weight (some p) = refl
+-- The code's answer says the point that was found,
+found-point : (o : Option Point) → pointIn (found o) ≡ o
+found-point none = refl
+found-point (some p) = refl
+
+-- and its weight.
+weight-in : (r : Found) → weightIn r ≡ Option·map (λ (p : Point). p .weight) (pointIn r)
+weight-in Nothing = refl
+weight-in (At w t) = refl
+
+-- The weight of the last point of an order's profile by a time is what the order is worth then.
+pub weight-found : (o : Order) (t : ℤ) (r : Found) → pointIn r ≡ lookup (orderProfile o) t → weightIn r ≡ worth (orderProfile o) t
+weight-found o t r e =
+    weight-in r ∙ ap (Option·map (λ (p : Point). p .weight)) e ∙ lookup-worth (order-rises o) t
 
 module _ {bytes : List ℕ} {work : List ℤ} (f : CanWeigh bytes work) where
   order : OrderFine bytes
@@ -79,11 +91,9 @@ module _ {bytes : List ℕ} {work : List ℤ} (f : CanWeigh bytes work) where
             lists .is
             ∙ ap (λ (ps : List Point). extend ps (jobsIn bytes)) (first-is ∙ ap (λ (t : ℤ). startPoint t ∷ []) (read .t0))
 
-        -- and the weight of its last point by a time is what the order is worth.
+        -- and its last point by a time is found.
         pub weighed : {t by : ℤ} {r : Found} → by ≡ t → r ≡ found (lookup (listAt filled (last .place) (last .count)) by)
-            → weightIn r ≡ worth (orderProfile (orderOf bytes)) t
+            → pointIn r ≡ lookup (orderProfile (orderOf bytes)) t
         weighed {t} same e =
             rw (e, same)
-            (found-weight (lookup (listAt filled (last .place) (last .count)) t)
-            ∙ lookup-worth (lists .list .rises) t
-            ∙ ap (λ (ps : List Point). worth ps t) last-is)
+            (found-point (lookup (listAt filled (last .place) (last .count)) t) ∙ ap (λ (ps : List Point). lookup ps t) last-is)

@@ -1,4 +1,4 @@
-// What an order is worth at a time: the weight of the last point of its profile by then, from the lists of all its jobs.
+// Where an order stands at a time: the last point of its profile by then, from the lists of all its jobs.
 // Assumes nothing.
 use fields::header_at;
 use filling::fill_last;
@@ -6,14 +6,14 @@ use filling::start_at;
 use reading::Found;
 use reading::last_by;
 ghost use mathlib.Core.Path.{_≡_};
-ghost use Rattle.profile.specs.Profile.{worth, orderProfile};
+ghost use Rattle.profile.specs.Profile.{lookup, orderProfile};
 ghost use Rattle.packed.specs.Packed.{orderOf};
-ghost use Rattle.weighing.specs.Weighing.{weightIn, CanWeigh};
+ghost use Rattle.weighing.specs.Weighing.{pointIn, CanWeigh};
 
 // The last point of an order's profile by a time.
 pub fn weigh(bytes: &[u8], t: i32, work: &mut [i32]) -> Found
     requires { ⌜ CanWeigh (now bytes) (now work) ⌝ }
-    ensures { λ r. ⌜ weightIn r ≡ worth (orderProfile (orderOf (now (bytes .entry)))) t ⌝ }
+    ensures { λ r. ⌜ pointIn r ≡ lookup (orderProfile (orderOf (now (bytes .entry)))) t ⌝ }
 {
     let header = header_at(bytes);
     let n = header.count;

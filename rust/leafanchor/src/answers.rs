@@ -112,12 +112,13 @@ answers! {
         /// 1 where the plan is, else 0.
         yes: u32,
     }
-    /// The answer of [`question`](crate::calls::question).
+    /// The answer of [`question`](crate::calls::question) and
+    /// [`question_first`](crate::calls::question_first).
     QuestionAnswer(refusal; field) {
         /// 1 or 2, 0 if refused.
         winner: u32,
     }
-    /// The answer of [`choose`](crate::calls::choose).
+    /// The answer of [`choose`](crate::calls::choose) and [`choose_first`](crate::calls::choose_first).
     ChooseAnswer(refusal; field) {
         /// 1 or 2, 0 if refused.
         winner: u32,

@@ -54,7 +54,15 @@ extern "C" {
         first: *const u8, first_len: usize, second: *const u8, second_len: usize, t: i32,
         work: *mut i32, work_len: usize,
     ) -> QuestionAnswer;
+    fn leafanchor_question_first(
+        first: *const u8, first_len: usize, second: *const u8, second_len: usize, t: i32,
+        work: *mut i32, work_len: usize,
+    ) -> QuestionAnswer;
     fn leafanchor_choose(
+        first: *const u8, first_len: usize, second: *const u8, second_len: usize, t: i32,
+        work: *mut i32, work_len: usize,
+    ) -> ChooseAnswer;
+    fn leafanchor_choose_first(
         first: *const u8, first_len: usize, second: *const u8, second_len: usize, t: i32,
         work: *mut i32, work_len: usize,
     ) -> ChooseAnswer;
@@ -198,38 +206,41 @@ pub fn best(order: &[u8], plan: &[u8], work: &mut [i32]) -> VerdictAnswer {
     }
 }
 
-/// Asks which opening is worth more at time `t`; `work` has room for [`WORK_AREA`](crate::WORK_AREA).
-/// Refusals 1 to 7 and 9 of the first, then of the second, then 10 and 11; the field of 6 is told, and no place.
-pub fn question(first: &[u8], second: &[u8], t: i32, work: &mut [i32]) -> QuestionAnswer {
-    // SAFETY: the openings are only read, and may be one slice; work is lent alone; the lengths are the
-    // slices' own.
-    unsafe {
-        leafanchor_question(
-            first.as_ptr(),
-            first.len(),
-            second.as_ptr(),
-            second.len(),
-            t,
-            work.as_mut_ptr(),
-            work.len(),
-        )
-    }
+/// A call of the library on two openings.
+type OnOpenings<A> = unsafe extern "C" fn(*const u8, usize, *const u8, usize, i32, *mut i32, usize) -> A;
+
+/// Makes such a call, with the slices' own lengths.
+///
+/// # Safety
+/// The call only reads the openings, which may be one slice, and writes no more than `work`, which is lent alone.
+unsafe fn on_openings<A>(call: OnOpenings<A>, first: &[u8], second: &[u8], t: i32, work: &mut [i32]) -> A {
+    call(first.as_ptr(), first.len(), second.as_ptr(), second.len(), t, work.as_mut_ptr(), work.len())
 }
 
-/// The same, and where the winner's records lie in its bytes.
+/// Asks which opening is worth more at time `t`; equal weight goes to the one that reaches it sooner, and only then
+/// to the first (R17). `work` has room for [`WORK_AREA`](crate::WORK_AREA). Refusals 1 to 7 and 9 of the first, then
+/// of the second, then 10 and 11; the field of 6 is told, and no place.
+pub fn question(first: &[u8], second: &[u8], t: i32, work: &mut [i32]) -> QuestionAnswer {
+    // SAFETY: this call of the library does so.
+    unsafe { on_openings(leafanchor_question, first, second, t, work) }
+}
+
+/// The same by the older rule: equal weight always goes to the first.
+pub fn question_first(first: &[u8], second: &[u8], t: i32, work: &mut [i32]) -> QuestionAnswer {
+    // SAFETY: as for `question`.
+    unsafe { on_openings(leafanchor_question_first, first, second, t, work) }
+}
+
+/// Asks as [`question`] does, and tells where the winner's records lie in its bytes (R18).
 pub fn choose(first: &[u8], second: &[u8], t: i32, work: &mut [i32]) -> ChooseAnswer {
     // SAFETY: as for `question`.
-    unsafe {
-        leafanchor_choose(
-            first.as_ptr(),
-            first.len(),
-            second.as_ptr(),
-            second.len(),
-            t,
-            work.as_mut_ptr(),
-            work.len(),
-        )
-    }
+    unsafe { on_openings(leafanchor_choose, first, second, t, work) }
+}
+
+/// Asks as [`question_first`] does, and tells where the winner's records lie in its bytes (R18).
+pub fn choose_first(first: &[u8], second: &[u8], t: i32, work: &mut [i32]) -> ChooseAnswer {
+    // SAFETY: as for `question`.
+    unsafe { on_openings(leafanchor_choose_first, first, second, t, work) }
 }
 
 /// A cleared work area on the heap.

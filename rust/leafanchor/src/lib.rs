@@ -63,7 +63,7 @@ mod work;
 pub use answers::Point;
 pub use field::Field;
 pub use job::Job;
-pub use openings::{choose, question, Opening, Winner};
+pub use openings::{choose, choose_by, question, question_by, Opening, Tie, Winner};
 pub use order::Order;
 pub use packed_plan::PackedPlan;
 pub use plan::{HalvesPlan, KeptPlaces, Plan};
@@ -93,8 +93,8 @@ pub mod calls {
         PackAnswer, PlanAnswer, Point, QuestionAnswer, StepAnswer, UnpackAnswer, VerdictAnswer,
     };
     pub use crate::ffi::{
-        best, better_of, choose, extend, heat_up, legal, lookup, lookup_records, open, pack, plan,
-        plan_halves, question, step, unpack, write_plan,
+        best, better_of, choose, choose_first, extend, heat_up, legal, lookup, lookup_records, open, pack,
+        plan, plan_halves, question, question_first, step, unpack, write_plan,
     };
 }
 

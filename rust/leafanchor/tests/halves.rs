@@ -1,8 +1,8 @@
 //! Planning orders of halves: the optional seconds lost, and refusal 13 on both sides of its edges.
 
 use leafanchor::{
-    calls, choose, question, HalvesPlan, Job, Order, Refusal, WorkArea, HALVES_APART, HIGHEST_HALF,
-    MOST_JOBS, ORDER_BYTES, SECONDS_PER_WEIGHT, WORK_AREA,
+    calls, choose_by, question_by, HalvesPlan, Job, Order, Refusal, Tie, WorkArea, HALVES_APART,
+    HIGHEST_HALF, MOST_JOBS, ORDER_BYTES, SECONDS_PER_WEIGHT, WORK_AREA,
 };
 
 /// The worked order, bus free at -900: checks 4 and 9, each with its optional half.
@@ -121,7 +121,10 @@ fn refusal_13_comes_before_11_and_no_other_call_gives_it() {
     assert_eq!(order.plan(&mut work).map(|plan| plan.lost_weight), Ok(0));
     assert_eq!(order.profile(&mut work).to_string(), "(25, 0), (340, 5)");
     assert!(order.profile(&mut work).extended(order, &mut work).is_ok());
-    assert!(question(order, order, 340, &mut work).is_ok() && choose(order, order, 340, &mut work).is_ok());
+    for tie in [Tie::Sooner, Tie::First] {
+        assert!(question_by(tie, order, order, 340, &mut work).is_ok());
+        assert!(choose_by(tie, order, order, 340, &mut work).is_ok());
+    }
 }
 
 #[test]

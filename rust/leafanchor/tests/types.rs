@@ -1,8 +1,8 @@
 //! What the wrapper's types say of orders and profiles that are refused, of openings, and of themselves.
 
 use leafanchor::{
-    calls, choose, question, Field, Job, Opening, Order, Point, Profile, Reader, Refusal, WorkArea,
-    MOST_JOBS, ORDER_BYTES, WORK_AREA,
+    calls, choose, choose_by, question, question_by, Field, Job, Opening, Order, Point, Profile, Reader,
+    Refusal, Tie, WorkArea, MOST_JOBS, ORDER_BYTES, WORK_AREA,
 };
 
 const P1_PACKED: [u8; 44] = *include_bytes!("../../../examples/p1.order");
@@ -114,19 +114,45 @@ fn a_reader_stays_at_a_refused_job_and_its_iterator_ends_there() {
     assert_eq!(Reader::open(&[]).unwrap_err(), Refusal::OrderTooShort);
 }
 
-#[test]
-fn openings_are_weighed_at_a_time() {
-    let (mut first, mut second) = ([0; ORDER_BYTES], [0; ORDER_BYTES]);
-    let first = Order::pack(0, &[Job::optional(1, 10, 0, 10, 10)], &mut first).unwrap();
-    let second = Order::pack(0, &[Job::optional(1, 10, 0, 5, 10)], &mut second).unwrap();
-    let mut work = WorkArea::new();
-    for (t, opening, order) in [(24, Opening::Second, second), (25, Opening::First, first)] {
-        assert_eq!(question(first, second, t, &mut work), Ok(opening));
-        let winner = choose(first, second, t, &mut work).unwrap();
+/// Holds the question and the choice at a time to the winner by each tie; the first is that of the default.
+fn wins(first: Order<'_>, second: Order<'_>, t: i32, by_tie: [(Tie, Opening); 2]) {
+    let work = &mut WorkArea::new();
+    assert_eq!(question(first, second, t, work), Ok(by_tie[0].1));
+    assert_eq!(choose(first, second, t, work), choose_by(by_tie[0].0, first, second, t, work));
+    for (tie, opening) in by_tie {
+        let order = if opening == Opening::First { first } else { second };
+        assert_eq!(question_by(tie, first, second, t, work), Ok(opening));
+        let winner = choose_by(tie, first, second, t, work).unwrap();
         assert_eq!((winner.opening, winner.order, winner.records), (opening, order, order.records()));
     }
-    assert_eq!(choose(first, second, -1, &mut work), Err(Refusal::NoFeasibleChoice));
-    assert_eq!(question(first, second, -1, &mut work), Err(Refusal::NoFeasibleChoice));
+}
+
+#[test]
+fn openings_are_weighed_at_a_time() {
+    use Opening::{First, Second};
+    let (mut slow, mut quick) = ([0; ORDER_BYTES], [0; ORDER_BYTES]);
+    let slow = Order::pack(0, &[Job::optional(1, 10, 0, 10, 10)], &mut slow).unwrap();
+    let quick = Order::pack(0, &[Job::optional(1, 10, 0, 5, 10)], &mut quick).unwrap();
+    // Up to 19 both have weight 0 from 0 on; then the quick one is heavier; from 25 on both are as heavy again.
+    for (t, sooner, to_first) in
+        [(19, First, First), (20, Second, Second), (24, Second, Second), (25, Second, First)]
+    {
+        wins(slow, quick, t, [(Tie::Sooner, sooner), (Tie::First, to_first)]);
+    }
+    for (one, other) in [(quick, slow), (slow, slow), (quick, quick)] {
+        wins(one, other, 25, [(Tie::Sooner, First), (Tie::First, First)]);
+    }
+}
+
+#[test]
+fn openings_without_a_point_are_refused_by_every_tie() {
+    let (order, mut work) = (Order::try_from(&[0; 4][..]).unwrap(), WorkArea::new());
+    assert_eq!(Tie::default(), Tie::Sooner);
+    for tie in [Tie::Sooner, Tie::First] {
+        assert_eq!(choose_by(tie, order, order, -1, &mut work), Err(Refusal::NoFeasibleChoice));
+        assert_eq!(question_by(tie, order, order, -1, &mut work), Err(Refusal::NoFeasibleChoice));
+        assert_eq!(question_by(tie, order, order, 0, &mut work), Ok(Opening::First));
+    }
 }
 
 #[test]

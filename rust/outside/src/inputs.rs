@@ -79,6 +79,45 @@ fn most_weight(random: &mut Random, n: usize) -> i32 {
     }
 }
 
+/// An order of the same jobs, all of it moved by a second or two or a part of it: at many times both keep the same
+/// weight, one of them sooner or both at once.
+pub fn rival(random: &mut Random, order: &Order) -> Order {
+    let mut rival = order.clone();
+    if random.once_in(6) {
+        (0..1 + random.below(3)).for_each(|_| move_part(random, &mut rival));
+    } else {
+        move_all(random.one_of(&[-2, -1, -1, 1, 1, 2]), &mut rival);
+    }
+    rival
+}
+
+/// A time moved by so many seconds, within its range.
+fn moved(time: i32, seconds: i32) -> i32 {
+    (time + seconds).clamp(-100_000, 100_000)
+}
+
+/// Moves every time of an order, so that its points move with it.
+fn move_all(seconds: i32, order: &mut Order) {
+    order.t0 = moved(order.t0, seconds);
+    for job in &mut order.jobs {
+        job.ready = moved(job.ready, seconds);
+        job.deadline = moved(job.deadline, seconds);
+    }
+}
+
+/// Moves the bus-free time or a job's ready time, changes a length, or exchanges two jobs.
+fn move_part(random: &mut Random, order: &mut Order) {
+    let seconds = random.within(-4, 4);
+    let places = order.jobs.len().max(1);
+    let (place, other) = (random.below(places), random.below(places));
+    match (random.below(4), order.jobs.get_mut(place)) {
+        (0, Some(job)) => job.ready = moved(job.ready, seconds),
+        (1, Some(job)) => job.length = (job.length + seconds).clamp(1, 10_000),
+        (2, Some(_)) => order.jobs.swap(place, other),
+        _ => order.t0 = moved(order.t0, seconds),
+    }
+}
+
 /// An order whose jobs may repeat numbers, weigh too much or have a field out of range.
 fn damaged_order(random: &mut Random) -> Order {
     let mut order = order(random);

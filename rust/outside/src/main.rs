@@ -14,7 +14,7 @@ mod verdicts;
 use calls::Trial;
 use std::process::ExitCode;
 
-/// Rounds of the trial; each makes fifteen calls, and one in LONG a plan of a long order beside them.
+/// Rounds of the trial; each makes 21 calls, and one in LONG a plan of a long order beside them.
 const ROUNDS: usize = 15_000;
 const LONG: usize = 10;
 
@@ -25,7 +25,7 @@ const ROUNDS_OF_LONG_LISTS: usize = 200;
 const ROUNDS_OF_HALVES: usize = 5_000;
 
 /// Rounds with plans to be judged, each of about ten; one in LONG judges as many for a long order beside them.
-const ROUNDS_OF_PLANS: usize = 6_000;
+const ROUNDS_OF_PLANS: usize = 4_200;
 
 fn main() -> ExitCode {
     if std::env::args().nth(1).as_deref() == Some("layout") {
@@ -49,6 +49,7 @@ fn main() -> ExitCode {
             trial.plan_long_order();
         }
         trial.openings();
+        trial.rival_openings();
     }
     for round in 0..ROUNDS_OF_HALVES {
         trial.halves();

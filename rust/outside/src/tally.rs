@@ -1,6 +1,7 @@
 //! Counts of what was called, what was refused and what differed.
 
 use crate::verdicts::Verdicts;
+use std::cmp::Ordering;
 use std::collections::{BTreeMap, BTreeSet};
 use std::fmt::Debug;
 
@@ -55,6 +56,8 @@ pub struct Tally {
     pub rest: RestEdges,
     /// What planning halves turned on.
     pub halves: HalvesEdges,
+    /// Openings that were worth the same.
+    pub ties: Ties,
     /// The fields that refusal 6 named.
     pub fields: Fields,
     /// What the verdicts on plans turned on.
@@ -112,6 +115,36 @@ impl HalvesEdges {
     }
 }
 
+/// Pairs of openings of the same weight where the first has it sooner, at least, and where the second has: there alone
+/// the rules for equal weight differ.
+const MANY_TIES: usize = 2_000;
+
+/// How often two openings were worth the same weight, by how the times at which they reached it compare.
+#[derive(Default)]
+pub struct Ties {
+    counts: BTreeMap<Ordering, usize>,
+}
+
+impl Ties {
+    /// Counts a pair of openings; `None` is one of different worth.
+    pub fn count(&mut self, tied: Option<Ordering>) {
+        if let Some(times) = tied {
+            *self.counts.entry(times).or_default() += 1;
+        }
+    }
+
+    /// Prints the counts; true if each was met, and those with one sooner often.
+    fn report(&self) -> bool {
+        let of = |times| self.counts.get(&times).copied().unwrap_or(0);
+        let (first, at_once, second) = (of(Ordering::Less), of(Ordering::Equal), of(Ordering::Greater));
+        println!(
+            "openings of the same weight: {first} with the first sooner, {at_once} at once, {second} with the second \
+             sooner, where the rules differ"
+        );
+        first >= MANY_TIES && at_once > 0 && second >= MANY_TIES
+    }
+}
+
 /// A job has so many fields; the first so many are within their ranges in all packed bytes.
 const FIELDS: usize = 6;
 const HELD_BY_BYTES: usize = 2;
@@ -157,7 +190,7 @@ impl Fields {
         let as_could = |(&call, counts): (&&str, &[usize; FIELDS])| {
             counts.iter().enumerate().all(|(at, &count)| (count > 0) == could(call, at))
         };
-        self.counts.len() == 11
+        self.counts.len() == 13
             && self.counts.iter().all(as_could)
             && [self.several, self.earlier_behind, self.both_openings].iter().all(|&seen| seen > 0)
     }
@@ -196,7 +229,7 @@ impl Tally {
     }
 
     /// Prints the counts; true if nothing differed, every refusal 1 to 15 was seen over the C boundary, and so
-    /// was every edge of the rest, of halves and of verdicts and every field of refusal 6.
+    /// was every edge of the rest, of halves, of ties and of verdicts and every field of refusal 6.
     pub fn report(&self) -> bool {
         print!("{:>18}", "refusal");
         (0..NUMBERS).for_each(|number| print!("{number:>8}"));
@@ -220,6 +253,7 @@ impl Tally {
         );
         println!("bus free past 100,000: {late_plans} plans, {late_profiles} profiles extended");
         let halves_met = self.halves.report();
+        let ties_met = self.ties.report();
         let verdicts_met = self.verdicts.report();
         let fields_named = self.fields.report();
         let unseen: Vec<usize> = (0..NUMBERS).filter(|&number| of_calls[number] == 0).collect();
@@ -232,6 +266,7 @@ impl Tally {
         self.mismatches == 0
             && unseen.is_empty()
             && halves_met
+            && ties_met
             && verdicts_met
             && fields_named
             && self.most_points > MANY_POINTS

@@ -8,6 +8,7 @@ use Rattle.profile.specs.Profile.{worth, orderProfile}
 use Rattle.packed.specs.Packed.{orderOf}
 use Rattle.fields.specs.Facts.{HeaderRead, header-read}
 use Rattle.weighing.specs.Weighing.{weightIn}
+use Rattle.weighing.specs.WeighingLaws.{weight-found}
 use Rattle.best_plan.specs.CallLaws.{header-there, mask-there, can-sum, can-weigh, most-weighed}
 use Rattle.best_plan.proofs.keeps_most.Statement.{statement}
 use Rattle.best_plan.proofs.keeps_most.Tie as tie
@@ -38,7 +39,9 @@ same-length c = search needs
 weighed : (c : tie.After-weigh) → let s = c .before .before .before .before .before .before .before in
     weightIn (c .weigh .result) ≡ worth (orderProfile (orderOf (now (s .args .order)))) latestFree
 unfolding rest
-weighed c = c .weigh .ensures
+weighed c =
+    let s = c .before .before .before .before .before .before .before in
+    weight-found (orderOf (now (s .args .order))) latestFree (c .weigh .result) (c .weigh .ensures)
 
 returns : tie.Need-returns
 returns c =

@@ -5,8 +5,8 @@ use lib.ListN.{length}
 use denote.Ref.{now}
 use mir.Facts.{toZ-ofZ}
 use borrow.Author.Needs.{needs}
-use Rattle.plan_answers.specs.Numbers.{chooseNumbers}
-use Rattle.plan_answers.specs.declared.ChooseAnswer.{ChooseAnswer}
+use Rattle.opening_answers.specs.Numbers.{chooseNumbers}
+use Rattle.opening_answers.specs.declared.ChooseAnswer.{ChooseAnswer}
 use Rattle.openings.specs.declared.Chosen.{Chosen}
 use Rattle.leafanchor.proofs.leafanchor_choose.Statement.{statement}
 use Rattle.leafanchor.proofs.leafanchor_choose.Tie as tie

@@ -3,7 +3,7 @@
 use mathlib.Core.Path.{ap, _∙_}
 use mir.Facts.{toZ-ofZ}
 use borrow.Author.Needs.{needs}
-use Rattle.plan_answers.specs.Numbers.{questionNumbers}
+use Rattle.opening_answers.specs.Numbers.{questionNumbers}
 use Rattle.leafanchor.proofs.leafanchor_question.Statement.{statement}
 use Rattle.leafanchor.proofs.leafanchor_question.Tie as tie
 

@@ -1,115 +1,17 @@
--- `openings::choose` meets its contract: the part is handed back by the answer of the question.
--- Assumes nothing.
-use Prim.Native.Nat.{_≤_, _<_}
-use mathlib.Core.Path.{_≡_, refl}
-use native.Mathlib.Omega.{arith}
-use lib.Dec.{lit<}
-use lib.ListN.{length}
-use denote.Ref.{now}
+-- `openings::choose` meets its contract: it is `hand` at its tie. Assumes nothing.
 use mir.Facts.{toZ-ofZ}
 use borrow.Author.Needs.{needs}
-use borrow.Rule.Slice.PartAt.{part-to-end}
-use Rattle.openings.specs.Choosing.{Asked, winnerOf}
-use Rattle.openings.specs.declared.Chosen.{Chosen}
-use Rattle.openings.specs.ChoosingLaws.{headers-there, handed}
 use Rattle.openings.proofs.choose.Statement.{statement}
 use Rattle.openings.proofs.choose.Tie as tie
 
-question-requires : tie.Need-question-requires
-question-requires c κs = search needs
-
-enum-told : tie.Need-enum-told
-enum-told c = search needs
-
-slice-aggregate-result : tie.Need-slice-aggregate-result
-slice-aggregate-result c = search needs
-
-enum-told-2 : tie.Need-enum-told-2
-enum-told-2 c = search needs
-
--- The answer of the question.
-asked : (c : tie.After-question) → let s = c .before .before .before .before in
-    Asked (now (s .args .first)) (now (s .args .second)) (s .args .t) (now (s .args .work))
-    (c .question .result) (c .question .last .1 .1 .1 .0)
-asked c = let s = c .before .before .before .before in rw (toZ-ofZ (s .fits .t)) at (c .question .ensures)
-
--- Where there is a winner both openings have a header.
-headers : (c : tie.After-question) {won : Chosen} → c .question .result ≡ won → 0 < winnerOf won
-    → let s = c .before .before .before .before in
-    (4 ≤ length (now (s .args .first))) × (4 ≤ length (now (s .args .second)))
-headers c =
-    let s = c .before .before .before .before in
-    headers-there (s .args .first) (s .args .second) (s .args .t) (now (s .args .work)) (asked c)
-
-sub-result : tie.Need-sub-result
-sub-result c = let h = headers (c .before .before .before) (c .enum-told2 .given .1) (lit< tt) in omega arith
-
-part-result-start : tie.Need-part-result-start
-part-result-start c = let h = headers (c .before .before .before) (c .enum-told2 .given .1) (lit< tt) in omega arith
-
-part-result-end : tie.Need-part-result-end
-part-result-end c = search needs
-
-enum-told-3 : tie.Need-enum-told-3
-enum-told-3 c = search needs
-
-sub-result-2 : tie.Need-sub-result-2
-sub-result-2 c = let h = headers (c .before .before .before) (c .enum-told3 .given .1) (lit< tt) in omega arith
-
-part-result-start-2 : tie.Need-part-result-start-2
-part-result-start-2 c = let h = headers (c .before .before .before) (c .enum-told3 .given .1) (lit< tt) in omega arith
-
-part-result-end-2 : tie.Need-part-result-end-2
-part-result-end-2 c = search needs
+hand-requires : tie.Need-hand-requires
+hand-requires c κs = search needs
 
 same-length : tie.Need-same-length
 same-length c = search needs
 
 returns : tie.Need-returns
-returns c =
-    let q = c .before .before .before .before in
-    let s = q .before .before .before .before in
-    handed (s .args .first) (s .args .second) (s .args .t) (now (s .args .work)) (asked q) (c .before .enum-told .given .1)
-    refl refl
-
-same-length-2 : tie.Need-same-length-2
-same-length-2 c = search needs
-
-returns-2 : tie.Need-returns-2
-returns-2 c =
-    let q = c .before .before .before .before in
-    let s = q .before .before .before .before in
-    handed (s .args .first) (s .args .second) (s .args .t) (now (s .args .work)) (asked q) (c .before .enum-told2 .given .1)
-    (part-to-end (now (s .args .first)) 4) refl
-
-same-length-3 : tie.Need-same-length-3
-same-length-3 c = search needs
-
-returns-3 : tie.Need-returns-3
-returns-3 c =
-    let q = c .before .before .before .before in
-    let s = q .before .before .before .before in
-    handed (s .args .first) (s .args .second) (s .args .t) (now (s .args .work)) (asked q) (c .before .enum-told3 .given .1)
-    (part-to-end (now (s .args .second)) 4) refl
+returns c = rw (toZ-ofZ (c .before .before .before .before .before .fits .t)) at (c .before .hand .ensures)
 
 pub choose-spec : {M : Type 1} → statement M
-choose-spec =
-    tie.close
-    (tie.spec
-    question-requires
-    enum-told
-    slice-aggregate-result
-    enum-told-2
-    sub-result
-    part-result-start
-    part-result-end
-    enum-told-3
-    sub-result-2
-    part-result-start-2
-    part-result-end-2
-    same-length
-    returns
-    same-length-2
-    returns-2
-    same-length-3
-    returns-3)
+choose-spec = tie.close (tie.spec hand-requires same-length returns)

@@ -10,6 +10,7 @@ use denote.Ref.{now}
 use mir.Facts.{toZ-ofZ}
 use borrow.Author.Needs.{needs}
 use Rattle.area.specs.Area.{area}
+use Rattle.openings.specs.Choosing.{ruleOf}
 use Rattle.openings.specs.ChoosingLaws.{no-room, compared}
 use Rattle.openings.proofs.compare.Statement.{statement}
 use Rattle.openings.proofs.compare.Tie as tie
@@ -22,7 +23,7 @@ returns c =
     let t = c .before in
     let s = t .before .before .before in
     rw (c .plainly .ensures)
-    (no-room (now (s .args .first)) (now (s .args .second)) (s .args .t) (now (s .args .work)) (s .pre) (t .if1 .taken))
+    (no-room (ruleOf (s .args .tie)) (now (s .args .first)) (now (s .args .second)) (s .args .t) (now (s .args .work)) (s .pre) (t .if1 .taken))
 
 -- ---- the first opening
 
@@ -101,7 +102,7 @@ returns-2 c =
     let room = v .before .before in
     let s = room .before .before .before in
     let kept = toZ-ofZ (s .fits .t) in
-    compared (now (s .args .first)) (now (s .args .second)) (s .args .t) (now (s .args .work)) (s .pre) (left w) (room .if1 .left)
+    compared (ruleOf (s .args .tie)) (now (s .args .first)) (now (s .args .second)) (s .args .t) (now (s .args .work)) (s .pre) (left w) (room .if1 .left)
     (rw kept at (v .weigh .ensures)) (rw kept at (w .weigh2 .ensures)) (past w) (k .clear .ensures) (c .winner .ensures)
 
 pub compare-spec : {M : Type 1} → statement M

@@ -1,7 +1,9 @@
--- `openings::winner` meets its contract: an opening with no point loses to one that has one, and of two points the heavier wins.
+-- `openings::winner` meets its contract: an opening with no point loses to one that has one, and two points are weighed.
 -- Assumes nothing.
+use mir.Facts.{toZ-ofZ}
+use mir.Syntax.{w32}
+use mir.Val.{SFits}
 use borrow.Author.Needs.{needs}
-use Rattle.openings.specs.ChoosingLaws.{first-wins, second-wins}
 use Rattle.openings.proofs.winner.Statement.{statement}
 use Rattle.openings.proofs.winner.Tie as tie
 
@@ -37,15 +39,16 @@ returns-2 c = search needs
 returns-3 : tie.Need-returns-3
 returns-3 c = search needs
 
+heavier-requires : tie.Need-heavier-requires
+heavier-requires c κs = search needs
+
 returns-4 : tie.Need-returns-4
 returns-4 c =
     let s = c .before .before in
-    first-wins (s .before .before .before .first .given .1) (s .second .given .1) (c .if1 .taken)
-
-returns-5 : tie.Need-returns-5
-returns-5 c =
-    let s = c .before .before in
-    second-wins (s .before .before .before .first .given .1) (s .second .given .1) (c .if1 .left)
+    let f = s .before .before in
+    let time : SFits w32 (f .before .first .given .0 .1 .0) = record { sfits = f .known-told .given .1 .0 .1 } in
+    let since : SFits w32 (s .second .given .0 .1 .0) = record { sfits = c .before .known-told2 .given .1 .0 .1 } in
+    rw (f .before .first .given .1, s .second .given .1) (rw (toZ-ofZ time, toZ-ofZ since) at (c .heavier .ensures))
 
 pub winner-spec : {M : Type 1} → statement M
 winner-spec =
@@ -58,8 +61,8 @@ winner-spec =
     enum-known-first
     enum-told-4
     enum-known-second
+    heavier-requires
     returns
     returns-2
     returns-3
-    returns-4
-    returns-5)
+    returns-4)

@@ -1,13 +1,19 @@
 //! Plans, extensions and openings of orders whose prefixes have many points.
 
 use super::Trial;
+use crate::inputs;
 use crate::reference;
 use trials::{dense_order, packed, wide_order, Order};
 
 impl Trial {
-    /// Plans two such orders, extends a start by each, and chooses between them.
+    /// Plans two such orders, half of the time rivals, extends a start by each, and chooses between them.
     pub fn long_lists(&mut self) {
-        let (one, other) = (self.order_of_long_lists(), self.order_of_long_lists());
+        let one = self.order_of_long_lists();
+        let other = if self.random.once_in(2) {
+            inputs::rival(&mut self.random, &one)
+        } else {
+            self.order_of_long_lists()
+        };
         let (first, second) = (packed(&one), packed(&other));
         for (order, bytes) in [(&one, &first), (&other, &second)] {
             self.plan_bytes(bytes);

@@ -1,14 +1,64 @@
-//! The question and the choice between two openings.
+//! The question and the choice between two openings, by each rule for equal weight.
 
 use super::{unless, Trial};
 use crate::inputs;
 use crate::lent::After;
 use crate::reference::{self, Point, Refused};
 use leafanchor::calls::{self, ChooseAnswer, QuestionAnswer};
-use trials::Order;
+use leafanchor::Tie;
+use std::fmt::Debug;
+use trials::{packed, Order};
+
+/// A call on two openings, and its name.
+type Call<A> = (&'static str, fn(&[u8], &[u8], i32, &mut [i32]) -> A);
+
+/// A rule for equal weight, and its calls.
+struct Rule {
+    tie: Tie,
+    question: Call<QuestionAnswer>,
+    choose: Call<ChooseAnswer>,
+}
+
+const RULES: [Rule; 2] = [
+    Rule { tie: Tie::Sooner, question: ("question", calls::question), choose: ("choose", calls::choose) },
+    Rule {
+        tie: Tie::First,
+        question: ("question_first", calls::question_first),
+        choose: ("choose_first", calls::choose_first),
+    },
+];
+
+/// An opening that is not refused: its profile and its number of jobs.
+struct Opened {
+    profile: Vec<Point>,
+    jobs: usize,
+}
+
+/// Two openings and a time; and the point of each at that time, with its number of jobs, or the refusal of the first,
+/// then of the second.
+#[derive(Debug)]
+pub(super) struct Pair<'a> {
+    pub first: &'a [u8],
+    pub second: &'a [u8],
+    pub t: i32,
+    found: Result<[(Option<Point>, usize); 2], Refused>,
+}
+
+/// The winner and its number of jobs, or a refusal.
+pub(super) type Won = Result<(u32, usize), Refused>;
+
+impl Pair<'_> {
+    /// The winner by a tie, with a work area that is long enough or not.
+    pub fn winner(&self, tie: Tie, rooms: bool) -> Won {
+        let [first, second] = self.found?;
+        unless(rooms, 10)?;
+        let winner = reference::winner(tie, first.0, second.0).ok_or(Refused::new(11))?;
+        Ok((winner, if winner == 1 { first.1 } else { second.1 }))
+    }
+}
 
 impl Trial {
-    /// Asks and chooses between bytes of any kind, at times between two damaged orders or the same bytes twice.
+    /// Weighs bytes of any kind, at times two damaged orders or the same bytes twice.
     pub fn openings(&mut self) {
         let draw = if self.random.once_in(5) { inputs::bytes_of_damaged } else { inputs::bytes };
         let (first, other) = (draw(&mut self.random), draw(&mut self.random));
@@ -16,52 +66,82 @@ impl Trial {
         self.weigh(&first, second);
     }
 
-    /// Asks and chooses between these, at a time near one that matters.
-    pub(super) fn weigh(&mut self, first: &[u8], second: &[u8]) {
-        let t = self.time_for(first, second);
-        let given = calls::question(first, second, t, self.work.lend(&mut self.random));
-        let wanted = match winner(first, second, t, self.work.is_enough()) {
-            Ok((winner, _)) => QuestionAnswer { winner, ..Default::default() },
-            Err(Refused { number, field, .. }) => {
-                QuestionAnswer { refusal: number, field, ..Default::default() }
-            }
-        };
-        let memory = self.work.holds(after(wanted.refusal));
-        self.tally.fields.count("question", given.field);
-        self.tally.compare("question", (given.refusal, given, memory), wanted, &(first, second, t));
+    /// Weighs an order and a rival of it, which are often worth the same.
+    pub fn rival_openings(&mut self) {
+        let order = inputs::order(&mut self.random);
+        let rival = inputs::rival(&mut self.random, &order);
+        self.weigh(&packed(&order), &packed(&rival));
+    }
 
-        let given = calls::choose(first, second, t, self.work.lend(&mut self.random));
-        let won = winner(first, second, t, self.work.is_enough());
-        let wanted = match won {
-            Ok((winner, jobs)) => ChooseAnswer { winner, offset: 4, length: 8 * jobs, ..Default::default() },
-            Err(Refused { number, field, .. }) => {
-                ChooseAnswer { refusal: number, field, ..Default::default() }
-            }
+    /// Asks and chooses between these by each rule, at a time near one that matters.
+    pub(super) fn weigh(&mut self, first: &[u8], second: &[u8]) {
+        let both = [opened(first), opened(second)];
+        self.count_both(&both);
+        let points = both.iter().flatten().flat_map(|opened| &opened.profile);
+        let times: Vec<i32> = points.map(|point| point.0).collect();
+        let t = inputs::time_near(&mut self.random, &times);
+        let at = |opened: Opened| (reference::point_at(&opened.profile, t), opened.jobs);
+        let found = match both {
+            [Ok(one), Ok(two)] => Ok([at(one), at(two)]),
+            [Err(refused), _] | [_, Err(refused)] => Err(refused),
         };
-        let memory = self.work.holds(after(wanted.refusal));
-        self.tally.fields.count("choose", given.field);
-        self.count_both(first, second);
-        self.tally.compare("choose", (given.refusal, given, memory), wanted, &(first, second, t));
-        self.typed_choose(first, second, t, won.map(|(winner, _)| winner));
+        let pair = Pair { first, second, t, found };
+        self.count_tie(&pair);
+        for Rule { tie, question, choose } in &RULES {
+            self.weigh_by(*tie, *question, &pair, asked);
+            self.weigh_by(*tie, *choose, &pair, chosen);
+        }
+        self.typed_openings(&pair);
+    }
+
+    /// Makes one call, whose answer says who won.
+    fn weigh_by<A: PartialEq + Debug>(
+        &mut self,
+        tie: Tie,
+        (name, call): Call<A>,
+        pair: &Pair<'_>,
+        answer: fn(Won) -> A,
+    ) {
+        let given = call(pair.first, pair.second, pair.t, self.work.lend(&mut self.random));
+        let won = pair.winner(tie, self.work.is_enough());
+        let (refusal, field) = won.map_or_else(|refused| (refused.number, refused.field), |_| (0, 0));
+        let memory = self.work.holds(after(refusal));
+        self.tally.fields.count(name, field);
+        self.tally.compare(name, (refusal, given, memory), answer(won), pair);
     }
 
     /// Counts two openings that are both refused with 6, for other fields.
-    fn count_both(&mut self, first: &[u8], second: &[u8]) {
-        if let (Err(one), Err(two)) = (reference::judged(first), reference::judged(second)) {
+    fn count_both(&mut self, both: &[Result<Opened, Refused>; 2]) {
+        if let [Err(one), Err(two)] = both {
             let both = one.number == 6 && two.number == 6 && one.field != two.field;
             self.tally.fields.both_openings += usize::from(both);
         }
     }
 
-    /// A time near the points of one of the openings.
-    fn time_for(&mut self, first: &[u8], second: &[u8]) -> i32 {
-        let mut times = Vec::new();
-        for bytes in [first, second] {
-            if let Ok(order) = reference::judged(bytes) {
-                times.extend(profile_of(&order).iter().map(|point| point.0));
-            }
+    /// Counts two openings that are worth the same, by which of them was so sooner.
+    fn count_tie(&mut self, pair: &Pair<'_>) {
+        if let Ok([first, second]) = pair.found {
+            self.tally.ties.count(reference::tied(first.0, second.0));
         }
-        inputs::time_near(&mut self.random, &times)
+    }
+}
+
+fn opened(bytes: &[u8]) -> Result<Opened, Refused> {
+    let Order { t0, jobs } = reference::judged(bytes)?;
+    Ok(Opened { profile: reference::extended(&[(t0, 0)], &jobs), jobs: jobs.len() })
+}
+
+fn asked(won: Won) -> QuestionAnswer {
+    match won {
+        Ok((winner, _)) => QuestionAnswer { winner, ..Default::default() },
+        Err(Refused { number, field, .. }) => QuestionAnswer { refusal: number, field, ..Default::default() },
+    }
+}
+
+fn chosen(won: Won) -> ChooseAnswer {
+    match won {
+        Ok((winner, jobs)) => ChooseAnswer { winner, offset: 4, length: 8 * jobs, ..Default::default() },
+        Err(Refused { number, field, .. }) => ChooseAnswer { refusal: number, field, ..Default::default() },
     }
 }
 
@@ -69,21 +149,5 @@ fn after(refusal: u32) -> After {
     match refusal {
         0 | 11 => After::Cleared,
         _ => After::Untouched,
-    }
-}
-
-fn profile_of(order: &Order) -> Vec<Point> {
-    reference::extended(&[(order.t0, 0)], &order.jobs)
-}
-
-/// The winner and its number of jobs, or the lowest refusal of the first, then of the second, then 10 and 11.
-fn winner(first: &[u8], second: &[u8], t: i32, rooms: bool) -> Result<(u32, usize), Refused> {
-    let (first, second) = (reference::judged(first)?, reference::judged(second)?);
-    unless(rooms, 10)?;
-    let worth = |order: &Order| reference::lookup(&profile_of(order), t);
-    match (worth(&first), worth(&second)) {
-        (None, None) => Err(Refused::new(11)),
-        (one, two) if one >= two => Ok((1, first.jobs.len())),
-        _ => Ok((2, second.jobs.len())),
     }
 }

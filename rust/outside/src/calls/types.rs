@@ -1,12 +1,16 @@
 //! The wrapper's types against the reference, on inputs that were made for the calls. Their buffers are
 //! always long enough, so an input that a call refused with 10 is passed by.
 
+use super::openings::Pair;
 use super::planning::Wanted;
 use super::{numbers_of, Trial};
 use crate::reference::{self, Refused};
 use crate::tally::Held;
 use leafanchor::calls::{BetterAnswer, ExtendAnswer, LookupAnswer, PlanAnswer};
-use leafanchor::{choose, Field, Job, Opening, Order, Plan, Profile, Refusal, LEFT_OUT, ORDER_BYTES};
+use leafanchor::{
+    choose, choose_by, question, question_by, Field, Job, Opening, Order, Plan, Profile, Refusal, Tie,
+    Winner, LEFT_OUT, ORDER_BYTES,
+};
 use std::fmt::Debug;
 
 impl Trial {
@@ -122,20 +126,39 @@ impl Trial {
         self.compare_types("Order::profile", Ok(given), wanted, &bytes);
     }
 
-    /// The choice between two orders.
-    pub(super) fn typed_choose(&mut self, first: &[u8], second: &[u8], t: i32, wanted: Result<u32, Refused>) {
-        let work = &mut self.typed_work;
-        let given = Order::try_from(first)
-            .and_then(|first| Order::try_from(second).and_then(|second| choose(first, second, t, work)))
-            .map(|winner| {
-                let number = if winner.opening == Opening::First { 1 } else { 2 };
-                (number, winner.order.bytes(), winner.records)
-            });
-        let wanted = wanted.map(|number| {
-            let won = if number == 1 { first } else { second };
-            (number, won, &won[4..])
+    /// The question and the choice between two orders, by each tie and by the one that is not named.
+    pub(super) fn typed_openings(&mut self, pair: &Pair<'_>) {
+        let (first, second) = match (Order::try_from(pair.first), Order::try_from(pair.second)) {
+            (Ok(first), Ok(second)) => (first, second),
+            _ => return, // The orders are judged before they are openings.
+        };
+        let t = pair.t;
+        for tie in [Tie::Sooner, Tie::First] {
+            let asked = question_by(tie, first, second, t, &mut self.typed_work);
+            let chosen = choose_by(tie, first, second, t, &mut self.typed_work);
+            self.compare_openings(["question_by", "choose_by"], asked, chosen, tie, pair);
+        }
+        let asked = question(first, second, t, &mut self.typed_work);
+        let chosen = choose(first, second, t, &mut self.typed_work);
+        self.compare_openings(["question orders", "choose orders"], asked, chosen, Tie::Sooner, pair);
+    }
+
+    fn compare_openings(
+        &mut self,
+        names: [&'static str; 2],
+        asked: Result<Opening, Refusal>,
+        chosen: Result<Winner<'_>, Refusal>,
+        tie: Tie,
+        pair: &Pair<'_>,
+    ) {
+        let won = pair.winner(tie, true).map(|(winner, _)| match winner {
+            1 => (Opening::First, pair.first),
+            _ => (Opening::Second, pair.second),
         });
-        self.compare_types("choose orders", given, wanted, &(first, second, t));
+        self.compare_types(names[0], asked, won.map(|(opening, _)| opening), &(tie, pair));
+        let given = chosen.map(|winner| (winner.opening, winner.order.bytes(), winner.records));
+        let wanted = won.map(|(opening, bytes)| (opening, bytes, &bytes[4..]));
+        self.compare_types(names[1], given, wanted, &(tie, pair));
     }
 
     /// Compares what a type gave with what the reference wants, unless that is refusal 10.

@@ -2,15 +2,17 @@
 
 mod checking;
 mod halves;
+mod openings;
 mod packing;
 mod plans;
 mod profiles;
 
 pub use checking::{is_legal, keeps_critical, sent, spare, weight_of, Condition, Kept};
 pub use halves::{judged_halves, offending, seconds_lost};
+pub use openings::{tied, winner};
 pub use packing::{bad_fields, header, job_of, judged, judged_numbers, reader_job};
 pub use plans::{best_by_all_choices, best_forward, point_total, Best, Keep, MOST_JOBS_OF_ALL_CHOICES};
-pub use profiles::{better_of, extended, is_valid, lookup, Point};
+pub use profiles::{better_of, extended, is_valid, lookup, point_at, Point};
 
 /// The seconds that the contactor rests after every job: the bus is free that long after its finish.
 pub const REST: i32 = 15;

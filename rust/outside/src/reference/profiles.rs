@@ -22,9 +22,14 @@ pub fn is_valid(numbers: &[i32]) -> bool {
         && rises(1).all(|(a, b)| a < b)
 }
 
+/// The last point at or before `t`.
+pub fn point_at(profile: &[Point], t: i32) -> Option<Point> {
+    profile.iter().rev().find(|point| point.0 <= t).copied()
+}
+
 /// The weight of the last point at or before `t`.
 pub fn lookup(profile: &[Point], t: i32) -> Option<i32> {
-    profile.iter().rev().find(|point| point.0 <= t).map(|point| point.1)
+    point_at(profile, t).map(|point| point.1)
 }
 
 /// The shortest profile that gives at each time the greatest weight of the points at or before it: times in

@@ -1,10 +1,10 @@
--- `plan_answers::question_answer` meets its contract: each arm is a case of the answer.
+-- `opening_answers::question_answer` meets its contract: each arm is a case of the answer.
 -- Assumes nothing.
 use mathlib.Core.Path.{sym, ap}
 use borrow.Author.Needs.{needs}
-use Rattle.plan_answers.specs.Numbers.{questionNumbers}
-use Rattle.plan_answers.proofs.question_answer.Statement.{statement}
-use Rattle.plan_answers.proofs.question_answer.Tie as tie
+use Rattle.opening_answers.specs.Numbers.{questionNumbers}
+use Rattle.opening_answers.proofs.question_answer.Statement.{statement}
+use Rattle.opening_answers.proofs.question_answer.Tie as tie
 
 enum-known-chosen : tie.Need-enum-known-chosen
 enum-known-chosen c = search needs

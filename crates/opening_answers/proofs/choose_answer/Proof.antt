@@ -1,14 +1,14 @@
--- `plan_answers::choose_answer` meets its contract: each arm is a case of the answer.
+-- `opening_answers::choose_answer` meets its contract: each arm is a case of the answer.
 -- Assumes nothing.
 use Prim.Native.Nat.{ℕ, _-_}
 use mathlib.Core.Path.{_≡_, sym, ap, _∙_}
 use borrow.Author.Needs.{needs}
 use Rattle.packed.specs.Layout.{headerBytes}
 use Rattle.openings.specs.declared.Chosen.{Chosen}
-use Rattle.plan_answers.specs.Numbers.{chooseNumbers}
-use Rattle.plan_answers.specs.declared.ChooseAnswer.{ChooseAnswer}
-use Rattle.plan_answers.proofs.choose_answer.Statement.{statement}
-use Rattle.plan_answers.proofs.choose_answer.Tie as tie
+use Rattle.opening_answers.specs.Numbers.{chooseNumbers}
+use Rattle.opening_answers.specs.declared.ChooseAnswer.{ChooseAnswer}
+use Rattle.opening_answers.proofs.choose_answer.Statement.{statement}
+use Rattle.opening_answers.proofs.choose_answer.Tie as tie
 
 enum-known-chosen : tie.Need-enum-known-chosen
 enum-known-chosen c = search needs

@@ -1,0 +1,27 @@
+-- `leafanchor::leafanchor_question_first` meets its contract: the numbers of the answer, and what the call wrote.
+-- Assumes nothing.
+use mathlib.Core.Path.{ap, _∙_}
+use mir.Facts.{toZ-ofZ}
+use borrow.Author.Needs.{needs}
+use Rattle.opening_answers.specs.Numbers.{questionNumbers}
+use Rattle.leafanchor.proofs.leafanchor_question_first.Statement.{statement}
+use Rattle.leafanchor.proofs.leafanchor_question_first.Tie as tie
+
+question-first-requires : tie.Need-question-first-requires
+question-first-requires c κs = search needs
+
+question-answer-requires : tie.Need-question-answer-requires
+question-answer-requires c κs = search needs
+
+same-length : tie.Need-same-length
+same-length c = search needs
+
+returns : tie.Need-returns
+returns c =
+    let asked = c .before .before in
+    let said = rw (toZ-ofZ (asked .before .before .before .before .fits .t)) at (asked .question-first .ensures) in
+    (c .question-answer .ensures ∙ ap questionNumbers (said .answer), said .area)
+
+pub leafanchor-question-first-spec : {M : Type 1} → statement M
+leafanchor-question-first-spec =
+    tie.close (tie.spec question-first-requires question-answer-requires same-length returns)

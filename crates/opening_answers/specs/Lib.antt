@@ -1,0 +1,2 @@
+-- The answers on openings as structs of numbers.
+pub mod Numbers

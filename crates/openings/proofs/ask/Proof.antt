@@ -1,0 +1,99 @@
+-- `openings::ask` meets its contract: the first order is judged, then the second, and where both pass they are compared.
+-- Assumes nothing.
+use mathlib.Core.Path.{_≡_, sym, _∙_}
+use denote.Ref.{now}
+use mir.Facts.{toZ-ofZ}
+use borrow.Author.Needs.{needs}
+use Rattle.packed.specs.Judge.{fine, judge}
+use Rattle.packed.specs.Refusals.{orderChecks}
+use Rattle.judge.specs.Told.{told-fine}
+use Rattle.openings.specs.Choosing.{ruleOf}
+use Rattle.openings.specs.ChoosingLaws.{first-refused, second-refused}
+use Rattle.openings.proofs.ask.Statement.{statement}
+use Rattle.openings.proofs.ask.Tie as tie
+
+judge-order-requires : tie.Need-judge-order-requires
+judge-order-requires c κs = search needs
+
+enum-known-refusal : tie.Need-enum-known-refusal
+enum-known-refusal c = search needs
+
+enum-told : tie.Need-enum-told
+enum-told c = search needs
+
+judge-order-requires-2 : tie.Need-judge-order-requires-2
+judge-order-requires-2 c κs = search needs
+
+enum-known-refusal-2 : tie.Need-enum-known-refusal-2
+enum-known-refusal-2 c = search needs
+
+enum-told-2 : tie.Need-enum-told-2
+enum-told-2 c = search needs
+
+-- The first order has passed.
+first-passed : (c : tie.After-enum-told)
+    → judge (orderChecks (now (c .before .before .before .before .before .args .first))) ≡ fine
+first-passed c =
+    let j = c .before .before in
+    let s = j .before .before .before in
+    told-fine (orderChecks (now (s .args .first))) (sym (j .judge-order .ensures) ∙ c .enum-told .given .1)
+
+compare-requires : tie.Need-compare-requires
+compare-requires c κs =
+    let p = c .before in
+    let j = p .before .before in
+    let s = j .before .before .before .before .before .before in
+    record {
+      one = first-passed (j .before);
+      other = told-fine (orderChecks (now (s .args .second))) (sym (j .judge-order2 .ensures) ∙ p .enum-told2 .given .1);
+    }
+
+without-place-requires : tie.Need-without-place-requires
+without-place-requires c κs = search needs
+
+without-place-requires-2 : tie.Need-without-place-requires-2
+without-place-requires-2 c κs = search needs
+
+returns : tie.Need-returns
+returns c =
+    let n = c .before .before in
+    let j = n .before .before in
+    let s = j .before .before .before in
+    rw (c .without-place .ensures)
+    (first-refused (ruleOf (s .args .tie)) (now (s .args .first)) (now (s .args .second)) (s .args .t) (now (s .args .work)) (n .refusal .given .0 .0)
+    (sym (j .judge-order .ensures) ∙ n .refusal .given .1))
+
+returns-2 : tie.Need-returns-2
+returns-2 c =
+    let n = c .before .before in
+    let j = n .before .before in
+    let s = j .before .before .before .before .before .before in
+    rw (c .without-place2 .ensures)
+    (second-refused (ruleOf (s .args .tie)) (now (s .args .first)) (now (s .args .second)) (s .args .t) (now (s .args .work)) (n .refusal2 .given .0 .0)
+    (first-passed (j .before)) (sym (j .judge-order2 .ensures) ∙ n .refusal2 .given .1))
+
+same-length : tie.Need-same-length
+same-length c = search needs
+
+returns-3 : tie.Need-returns-3
+returns-3 c =
+    let s = c .before .before .before .before .before .before .before .before .before .before .before in
+    rw (toZ-ofZ (s .fits .t)) at (c .before .compare .ensures)
+
+pub ask-spec : {M : Type 1} → statement M
+ask-spec =
+    tie.close
+    (tie.spec
+    judge-order-requires
+    enum-known-refusal
+    without-place-requires
+    enum-told
+    judge-order-requires-2
+    enum-known-refusal-2
+    without-place-requires-2
+    enum-told-2
+    compare-requires
+    returns
+    returns-2
+    same-length
+    returns-3)

@@ -1,0 +1,17 @@
+-- `openings::question_first` meets its contract: it is `ask` at its tie. Assumes nothing.
+use mir.Facts.{toZ-ofZ}
+use borrow.Author.Needs.{needs}
+use Rattle.openings.proofs.question_first.Statement.{statement}
+use Rattle.openings.proofs.question_first.Tie as tie
+
+ask-requires : tie.Need-ask-requires
+ask-requires c κs = search needs
+
+same-length : tie.Need-same-length
+same-length c = search needs
+
+returns : tie.Need-returns
+returns c = rw (toZ-ofZ (c .before .before .before .before .before .fits .t)) at (c .before .ask .ensures)
+
+pub question-first-spec : {M : Type 1} → statement M
+question-first-spec = tie.close (tie.spec ask-requires same-length returns)
