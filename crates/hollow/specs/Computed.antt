@@ -24,7 +24,7 @@ use Rattle.area.specs.Area.{area, cleared, clearedTo}
 use Rattle.extending.specs.Calls.{extendJudged, extendChecks, extendVerdict}
 use Rattle.planner.specs.Calls.{planChecks, planVerdict}
 use Rattle.halves.specs.Calls.{planHalvesChecks, halvesVerdict}
-use Rattle.openings.specs.Choosing.{choosingChecks, choosingVerdict}
+use Rattle.choosing.specs.Choosing.{choosingChecks, choosingVerdict}
 use Rattle.checking.specs.Calls.{legalChecks, legalOf}
 use Rattle.checking.specs.declared.Checked.the-variants.{Refused, Answered}
 use Rattle.best_plan.specs.Calls.{bestChecks, bestVerdict, bestOf}

@@ -12,10 +12,10 @@ use lib.IntN.{ℤ}
 use lib.ListN.{length, take, drop}
 use borrow.Rule.Slice.PartAt.{part-to-end}
 use Rattle.packed.specs.Layout.{headerBytes}
-use Rattle.openings.specs.Choosing.{TieRule, sooner, toFirst, Asked, Handed, chosenOf, workAfter, partOf, placeOf}
-use Rattle.openings.specs.ChoosingLaws.{headers-there}
-use Rattle.openings.specs.declared.Chosen.{Chosen}
-use Rattle.openings.specs.declared.Chosen.the-variants.{Refused, First, Second}
+use Rattle.choosing.specs.Choosing.{TieRule, sooner, toFirst, Asked, Handed, chosenOf, workAfter, partOf, placeOf}
+use Rattle.choosing.specs.ChoosingLaws.{headers-there}
+use Rattle.choosing.specs.declared.Chosen.{Chosen}
+use Rattle.choosing.specs.declared.Chosen.the-variants.{Refused, First, Second}
 use Rattle.openings.proofs.Inputs.{Given, workIn}
 use Rattle.openings.proofs.choose.Reads as handing
 use Rattle.openings.proofs.choose_first.Reads as handing-first

@@ -2,9 +2,9 @@
 -- refused answer all but those of the refusal are 0 (R26). Definitions only.
 use Prim.Native.Nat.{ℕ, _-_}
 use Rattle.packed.specs.Layout.{headerBytes}
-use Rattle.openings.specs.Choosing.{refusalOf as choiceRefusal, winnerOf}
-use Rattle.openings.specs.declared.Chosen.{Chosen}
-use Rattle.openings.specs.declared.Chosen.the-variants as chosen
+use Rattle.choosing.specs.Choosing.{refusalOf as choiceRefusal, winnerOf}
+use Rattle.choosing.specs.declared.Chosen.{Chosen}
+use Rattle.choosing.specs.declared.Chosen.the-variants as chosen
 use Rattle.opening_answers.specs.declared.QuestionAnswer.{QuestionAnswer}
 use Rattle.opening_answers.specs.declared.ChooseAnswer.{ChooseAnswer}
 

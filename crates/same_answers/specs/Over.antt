@@ -14,8 +14,8 @@ use Rattle.halves.specs.declared.HalvesPlanned.{HalvesPlanned}
 use Rattle.halves.specs.Calls.{halvesVerdict, lostIn, withSeconds}
 use Rattle.extending.specs.declared.Extended.{Extended}
 use Rattle.extending.specs.Calls.{profileGiven, extendVerdict, extendedBy, outBy}
-use Rattle.openings.specs.declared.Chosen.{Chosen}
-use Rattle.openings.specs.Choosing.{TieRule, byPoints, choosingVerdict, chosenBy, partOf, placeOf}
+use Rattle.choosing.specs.declared.Chosen.{Chosen}
+use Rattle.choosing.specs.Choosing.{TieRule, byPoints, choosingVerdict, chosenBy, partOf, placeOf}
 
 -- ---- planning, and planning halves
 

@@ -20,7 +20,7 @@ use Rattle.packed_plan.specs.Plan.{maskBits, maskBytes, startBits, padBits, sen
 use Rattle.plan_writer.specs.Calls.{planRoom, writeChecks}
 use Rattle.checking.specs.Calls.{legalChecks}
 use Rattle.best_plan.specs.Calls.{bestChecks}
-use Rattle.openings.specs.Choosing.{choosingChecks}
+use Rattle.choosing.specs.Choosing.{choosingChecks}
 
 -- ---- names and figures
 

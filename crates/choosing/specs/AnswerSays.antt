@@ -13,8 +13,8 @@ use Rattle.seconds.specs.Signed.{signed}
 use Rattle.order.specs.Job.{Point}
 use Rattle.packed.specs.declared.Refusal.{Refusal}
 use Rattle.packed.specs.Judge.{plainly, noRefusal, withoutPlace, fine, refused}
-use Rattle.openings.specs.Choosing.{openingPoint, TieRule, byPoints, choosingVerdict, chosenOf, refusalOf, winnerOf}
-use Rattle.openings.specs.declared.Chosen.the-variants.{First, Second}
+use Rattle.choosing.specs.Choosing.{openingPoint, TieRule, byPoints, choosingVerdict, chosenOf, refusalOf, winnerOf}
+use Rattle.choosing.specs.declared.Chosen.the-variants.{First, Second}
 
 -- By the points of the first and the second: the refusal, and the winner.
 pub data WonBy (rule : TieRule) : Option Point → Option Point → Refusal → ℕ → Type 0 where

@@ -18,10 +18,10 @@ use Rattle.packed.specs.Judge.{plainly, noRefusal, withoutPlace, Check, Verdict
 use Rattle.packed.specs.Packed.{orderOf}
 use Rattle.packed.specs.Refusals.{roomChecks, orderChecks}
 use Rattle.area.specs.Area.{area, cleared}
-use Rattle.openings.specs.declared.Chosen.{Chosen}
-use Rattle.openings.specs.declared.Chosen.the-variants.{Refused, First, Second}
-use Rattle.openings.specs.declared.Tie as declared
-use Rattle.openings.specs.declared.Tie.the-variants as tie
+use Rattle.choosing.specs.declared.Chosen.{Chosen}
+use Rattle.choosing.specs.declared.Chosen.the-variants.{Refused, First, Second}
+use Rattle.choosing.specs.declared.Tie as declared
+use Rattle.choosing.specs.declared.Tie.the-variants as tie
 
 -- ---- which of two wins
 

@@ -1,4 +1,4 @@
--- `openings::ask` meets its contract: the first order is judged, then the second, and where both pass they are compared.
+-- `choosing::ask` meets its contract: the first order is judged, then the second, and where both pass they are compared.
 -- Assumes nothing.
 use mathlib.Core.Path.{_≡_, sym, _∙_}
 use denote.Ref.{now}
@@ -7,10 +7,10 @@ use borrow.Author.Needs.{needs}
 use Rattle.packed.specs.Judge.{fine, judge}
 use Rattle.packed.specs.Refusals.{orderChecks}
 use Rattle.judge.specs.Told.{told-fine}
-use Rattle.openings.specs.Choosing.{ruleOf}
-use Rattle.openings.specs.ChoosingLaws.{first-refused, second-refused}
-use Rattle.openings.proofs.ask.Statement.{statement}
-use Rattle.openings.proofs.ask.Tie as tie
+use Rattle.choosing.specs.Choosing.{ruleOf}
+use Rattle.choosing.specs.ChoosingLaws.{first-refused, second-refused}
+use Rattle.choosing.proofs.ask.Statement.{statement}
+use Rattle.choosing.proofs.ask.Tie as tie
 
 judge-order-requires : tie.Need-judge-order-requires
 judge-order-requires c κs = search needs

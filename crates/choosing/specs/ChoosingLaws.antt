@@ -20,11 +20,11 @@ use Rattle.area.specs.Clearing.{cleared-same}
 use Rattle.judge.specs.Verdicts.{verdictOf}
 use Rattle.judge.specs.Told.{refusal-told, stays, told-next}
 use Rattle.judge.specs.declared.Verdict.the-variants.{Refused as Stopped}
-use Rattle.openings.specs.Choosing.{openingPoint, TieRule, byPoints, winnerBy, choosingChecks, choosingVerdict}
-use Rattle.openings.specs.Choosing.{chosenBy, workBy, chosenOf, Asked, partOf, placeOf, Handed, winnerOf}
-use Rattle.openings.specs.Comparing.{CanCompare}
-use Rattle.openings.specs.declared.Chosen.{Chosen}
-use Rattle.openings.specs.declared.Chosen.the-variants.{Refused, First, Second}
+use Rattle.choosing.specs.Choosing.{openingPoint, TieRule, byPoints, winnerBy, choosingChecks, choosingVerdict}
+use Rattle.choosing.specs.Choosing.{chosenBy, workBy, chosenOf, Asked, partOf, placeOf, Handed, winnerOf}
+use Rattle.choosing.specs.Comparing.{CanCompare}
+use Rattle.choosing.specs.declared.Chosen.{Chosen}
+use Rattle.choosing.specs.declared.Chosen.the-variants.{Refused, First, Second}
 
 -- ---- which of two points wins
 

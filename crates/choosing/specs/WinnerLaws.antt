@@ -28,12 +28,12 @@ use Rattle.packed.specs.RefusalPlaces.{BadField, no-field, six-order}
 use Rattle.packed.specs.Accepted.{order-fine}
 use Rattle.area.specs.Area.{area, cleared}
 use Rattle.judge.specs.Told.{stays, told-next, up-to-ten, Holds, holds-behind, named-check, named-order}
-use Rattle.openings.specs.Choosing.{openingPoint, TieRule, byPoints, winnerBy, choosingChecks, choosingVerdict}
-use Rattle.openings.specs.Choosing.{chosenBy, chosenOf, Asked, refusalOf}
-use Rattle.openings.specs.ChoosingLaws.{cleared-past}
-use Rattle.openings.specs.AnswerSays.{won-by, neither-won, plain}
-use Rattle.openings.specs.declared.Chosen.{Chosen}
-use Rattle.openings.specs.declared.Chosen.the-variants.{Refused, First, Second}
+use Rattle.choosing.specs.Choosing.{openingPoint, TieRule, byPoints, winnerBy, choosingChecks, choosingVerdict}
+use Rattle.choosing.specs.Choosing.{chosenBy, chosenOf, Asked, refusalOf}
+use Rattle.choosing.specs.ChoosingLaws.{cleared-past}
+use Rattle.choosing.specs.AnswerSays.{won-by, neither-won, plain}
+use Rattle.choosing.specs.declared.Chosen.{Chosen}
+use Rattle.choosing.specs.declared.Chosen.the-variants.{Refused, First, Second}
 
 -- ---- the winner
 

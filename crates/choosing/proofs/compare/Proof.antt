@@ -1,4 +1,4 @@
--- `openings::compare` meets its contract: the test judges the room, both openings are weighed in the part lent, and `clear`
+-- `choosing::compare` meets its contract: the test judges the room, both openings are weighed in the part lent, and `clear`
 -- clears behind them. Assumes nothing.
 use mathlib.Core.Path.{_≡_, _∙_}
 use mathlib.Core.List.{List, _++_}
@@ -10,10 +10,10 @@ use denote.Ref.{now}
 use mir.Facts.{toZ-ofZ}
 use borrow.Author.Needs.{needs}
 use Rattle.area.specs.Area.{area}
-use Rattle.openings.specs.Choosing.{ruleOf}
-use Rattle.openings.specs.ChoosingLaws.{no-room, compared}
-use Rattle.openings.proofs.compare.Statement.{statement}
-use Rattle.openings.proofs.compare.Tie as tie
+use Rattle.choosing.specs.Choosing.{ruleOf}
+use Rattle.choosing.specs.ChoosingLaws.{no-room, compared}
+use Rattle.choosing.proofs.compare.Statement.{statement}
+use Rattle.choosing.proofs.compare.Tie as tie
 
 plainly-requires : tie.Need-plainly-requires
 plainly-requires c κs = search needs

@@ -13,9 +13,9 @@ use Rattle.packed.specs.Packed.{numbersOf, jobCount, fieldsAt, packedHeader, pa
 use Rattle.packed.specs.declared.Refusal.{Refusal}
 use Rattle.packed.specs.Judge.{inField, plainly}
 use Rattle.packed.specs.Refusals.{fieldsWithin, badField, firstBad, numberAt, firstRepeat, headerChecks, jobChecks, weightChecks}
-use Rattle.openings.specs.Choosing.{sooner, toFirst, winnerBy, choosingChecks, chosenOf}
-use Rattle.openings.specs.declared.Chosen.{Chosen}
-use Rattle.openings.specs.declared.Chosen.the-variants.{Refused, First, Second}
+use Rattle.choosing.specs.Choosing.{sooner, toFirst, winnerBy, choosingChecks, chosenOf}
+use Rattle.choosing.specs.declared.Chosen.{Chosen}
+use Rattle.choosing.specs.declared.Chosen.the-variants.{Refused, First, Second}
 
 -- An opening with the bus free at 0 and one job, ready at 0: its mark, weight, length and deadline.
 abbrev opening : ℕ → ℕ → ℕ → ℕ → List ℕ
