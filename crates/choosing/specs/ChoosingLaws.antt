@@ -1,9 +1,8 @@
 -- The calls stage by stage, as the code goes through their checks: each refusal, and what is left when all are passed.
 use Prim.Native.Nat.{ℕ, _≤_, _<_}
 use mathlib.Core.Path.{_≡_, refl, sym, ap₂, _∙_}
-use mathlib.Core.Bool.{true, false}
 use mathlib.Core.List.{List, _++_}
-use mathlib.Core.Option.{Option, some}
+use mathlib.Core.Option.{Option}
 use native.Mathlib.Omega.{arith}
 use lib.IntN.{ℤ}
 use lib.ListN.{length, drop}
@@ -20,29 +19,12 @@ use Rattle.area.specs.Clearing.{cleared-same}
 use Rattle.judge.specs.Verdicts.{verdictOf}
 use Rattle.judge.specs.Told.{refusal-told, stays, told-next}
 use Rattle.judge.specs.declared.Verdict.the-variants.{Refused as Stopped}
-use Rattle.choosing.specs.Choosing.{openingPoint, TieRule, byPoints, winnerBy, choosingChecks, choosingVerdict}
+use Rattle.ties.specs.Winning.{openingPoint, TieRule, byPoints, winnerBy}
+use Rattle.choosing.specs.Choosing.{choosingChecks, choosingVerdict}
 use Rattle.choosing.specs.Choosing.{chosenBy, workBy, chosenOf, Asked, partOf, placeOf, Handed, winnerOf}
 use Rattle.choosing.specs.Comparing.{CanCompare}
-use Rattle.choosing.specs.declared.Chosen.{Chosen}
-use Rattle.choosing.specs.declared.Chosen.the-variants.{Refused, First, Second}
-
--- ---- which of two points wins
-
-module _ (rule : TieRule) (p q : Point) where
-  -- The first where it is heavier, the second where that is,
-  pub first-wins : q .weight < p .weight → First ≡ byPoints rule (some p) (some q)
-  first-wins h = rw (lt-ltb (q .weight) (p .weight) h)
-
-  pub second-wins : p .weight < q .weight → Second ≡ byPoints rule (some p) (some q)
-  second-wins h = rw (lt-ltb (p .weight) (q .weight) h, le-ltb (q .weight) (p .weight) (omega arith))
-
-  -- and of the same weight the one that the tie rule says.
-  module _ (h : p .weight ≤ q .weight) (k : q .weight ≤ p .weight) where
-    pub even-first : rule (p .time) (q .time) ≡ true → First ≡ byPoints rule (some p) (some q)
-    even-first e = rw (le-ltb (q .weight) (p .weight) h, le-ltb (p .weight) (q .weight) k, e)
-
-    pub even-second : rule (p .time) (q .time) ≡ false → Second ≡ byPoints rule (some p) (some q)
-    even-second e = rw (le-ltb (q .weight) (p .weight) h, le-ltb (p .weight) (q .weight) k, e)
+use Rattle.ties.specs.declared.Chosen.{Chosen}
+use Rattle.ties.specs.declared.Chosen.the-variants.{Refused, First, Second}
 
 -- ---- the checks
 

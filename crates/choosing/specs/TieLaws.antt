@@ -14,12 +14,12 @@ use lib.Signed.{leZ, _<ℤ_}
 use Rattle.seconds.specs.Signed.{signed}
 use Rattle.order.specs.Job.{Point}
 use Rattle.packed.specs.Judge.{Verdict as Judged, fine, refused}
-use Rattle.choosing.specs.Choosing.{openingPoint, TieRule, sooner, toFirst, byPoints, winnerBy}
+use Rattle.ties.specs.Winning.{openingPoint, TieRule, sooner, toFirst, byPoints, winnerBy}
 use Rattle.choosing.specs.Choosing.{choosingVerdict, chosenBy, Asked, winnerOf}
-use Rattle.choosing.specs.ChoosingLaws.{first-wins, second-wins, even-first, even-second}
+use Rattle.ties.specs.WinningLaws.{first-wins, second-wins, even-first, even-second}
 use Rattle.choosing.specs.WinnerLaws.{checks-passed}
-use Rattle.choosing.specs.declared.Chosen.{Chosen}
-use Rattle.choosing.specs.declared.Chosen.the-variants.{Refused, First, Second}
+use Rattle.ties.specs.declared.Chosen.{Chosen}
+use Rattle.ties.specs.declared.Chosen.the-variants.{Refused, First, Second}
 
 -- Both openings have the same weight at the time.
 pub record Even (first second : List ℕ) (t : ℤ) : Type 0 where

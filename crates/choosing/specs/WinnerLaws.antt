@@ -28,12 +28,13 @@ use Rattle.packed.specs.RefusalPlaces.{BadField, no-field, six-order}
 use Rattle.packed.specs.Accepted.{order-fine}
 use Rattle.area.specs.Area.{area, cleared}
 use Rattle.judge.specs.Told.{stays, told-next, up-to-ten, Holds, holds-behind, named-check, named-order}
-use Rattle.choosing.specs.Choosing.{openingPoint, TieRule, byPoints, winnerBy, choosingChecks, choosingVerdict}
+use Rattle.ties.specs.Winning.{openingPoint, TieRule, byPoints, winnerBy}
+use Rattle.choosing.specs.Choosing.{choosingChecks, choosingVerdict}
 use Rattle.choosing.specs.Choosing.{chosenBy, chosenOf, Asked, refusalOf}
 use Rattle.choosing.specs.ChoosingLaws.{cleared-past}
 use Rattle.choosing.specs.AnswerSays.{won-by, neither-won, plain}
-use Rattle.choosing.specs.declared.Chosen.{Chosen}
-use Rattle.choosing.specs.declared.Chosen.the-variants.{Refused, First, Second}
+use Rattle.ties.specs.declared.Chosen.{Chosen}
+use Rattle.ties.specs.declared.Chosen.the-variants.{Refused, First, Second}
 
 -- ---- the winner
 

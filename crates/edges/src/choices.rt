@@ -11,7 +11,7 @@ use case_lines::put_count;
 use case_lines::put_part;
 use case_lines::put_refused_field;
 use case_lines::setting;
-use choosing::Chosen;
+use ties::Chosen;
 
 // The calls on two openings: the question and the choice by the usual rule, and by the rule that gives a tie
 // to the first.

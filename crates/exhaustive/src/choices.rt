@@ -5,12 +5,12 @@ use crate::counts::SECOND_SOONER;
 use crate::counts::expect;
 use by_hand::Reached;
 use careful::front_bytes;
-use choosing::Chosen;
 use comparing::MARK;
 use comparing::count;
 use comparing::leaves;
 use comparing::pack_order;
 use comparing::says;
+use ties::Chosen;
 
 // Which of two openings of the same weight must win: the one that reaches it sooner, of both at once the
 // first; or always the first.

@@ -45,9 +45,10 @@ use Rattle.halves.specs.declared.HalvesPlanned.{HalvesPlanned}
 use Rattle.halves.specs.declared.HalvesPlanned.the-variants as halved
 use Rattle.extending.specs.declared.Extended.{Extended}
 use Rattle.extending.specs.declared.Extended.the-variants as extended
-use Rattle.choosing.specs.Choosing.{TieRule, chosenOf, workAfter, Asked, partOf, placeOf, Handed}
-use Rattle.choosing.specs.declared.Chosen.{Chosen}
-use Rattle.choosing.specs.declared.Chosen.the-variants as chosen
+use Rattle.ties.specs.Winning.{TieRule}
+use Rattle.choosing.specs.Choosing.{chosenOf, workAfter, Asked, partOf, placeOf, Handed}
+use Rattle.ties.specs.declared.Chosen.{Chosen}
+use Rattle.ties.specs.declared.Chosen.the-variants as chosen
 use Rattle.checking.specs.Calls.{legalOf}
 use Rattle.checking.specs.declared.Checked.{Checked}
 use Rattle.checking.specs.declared.Checked.the-variants as checked

@@ -50,7 +50,7 @@ use Rattle.halves.proofs.plan_halves as plan-halves
 use Rattle.halves.proofs.plan_halves.Reads as plan-halves-reads
 use Rattle.extending.proofs.extend as extend
 use Rattle.extending.proofs.extend.Reads as extend-reads
-use Rattle.choosing.specs.declared.Chosen.{Chosen}
+use Rattle.ties.specs.declared.Chosen.{Chosen}
 use Rattle.openings.proofs.question as question
 use Rattle.openings.proofs.question.Reads as question-reads
 use Rattle.openings.proofs.question_first as question-first
@@ -68,7 +68,7 @@ use Rattle.plan_writer.proofs.write_plan as write-plan
 use Rattle.plan_writer.proofs.write_plan.Reads as write-plan-reads
 use Rattle.hollow.specs.Contracts.{planning, extending, joiningProfiles, lookingUp, lookingUpRecords, unpacking, packing}
 use Rattle.hollow.specs.Contracts.{openingReader, stepping, beginning, steppingReader, readingAt, reporting, heatingUp}
-use Rattle.choosing.specs.Choosing.{sooner, toFirst}
+use Rattle.ties.specs.Winning.{sooner, toFirst}
 use Rattle.hollow.specs.Contracts.{planningHalves, asking, choosing, checkingLegal, checkingBest, writingPlan}
 
 pub plan-is : (κs : Lfts 3) (a : Args plan.signature κs) (r : Planned) (x : AtExit plan.ended κs)

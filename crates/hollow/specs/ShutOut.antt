@@ -31,7 +31,8 @@ use Rattle.planner.specs.declared.Planned.{Planned}
 use Rattle.halves.specs.Calls.{halvesNumbers}
 use Rattle.halves.specs.declared.HalvesPlanned.{HalvesPlanned}
 use Rattle.extending.specs.declared.Extended.{Extended}
-use Rattle.choosing.specs.Choosing.{TieRule, winnerOf}
+use Rattle.ties.specs.Winning.{TieRule}
+use Rattle.choosing.specs.Choosing.{winnerOf}
 use Rattle.checking.specs.Calls.{checkedNumbers}
 use Rattle.checking.specs.declared.Checked.{Checked}
 use Rattle.plan_writer.specs.Calls.{bytesFor}

@@ -19,7 +19,8 @@ use Rattle.halves.specs.Calls.{halvesOf, halvesStartsAfter, halvesWorkAfter}
 use Rattle.plan_writer.specs.Calls.{writtenOf, outAfter as planAfter, writeWorkAfter}
 use Rattle.checking.specs.Calls.{legalOf}
 use Rattle.best_plan.specs.Calls.{bestOf, bestWorkAfter}
-use Rattle.choosing.specs.Choosing.{sooner, toFirst, chosenOf, workAfter}
+use Rattle.ties.specs.Winning.{sooner, toFirst}
+use Rattle.choosing.specs.Choosing.{chosenOf, workAfter}
 use Rattle.packed_answers.specs.Numbers.{heatNumbers, unpackNumbers, packNumbers, openNumbers, stepNumbers}
 use Rattle.plan_answers.specs.Numbers.{lookupNumbers, betterNumbers, extendNumbers, planFigures}
 use Rattle.plan_answers.specs.Numbers.{halvesFigures}

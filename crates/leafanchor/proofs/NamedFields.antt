@@ -24,7 +24,8 @@ use Rattle.halves.specs.Answers.{halves-refusal, halves-six}
 use Rattle.plan_writer.specs.Answers.{write-refusal, write-six}
 use Rattle.checking.specs.Answers.{legal-refusal, legal-six}
 use Rattle.best_plan.specs.Answers.{best-refusal, best-six}
-use Rattle.choosing.specs.Choosing.{TieRule, sooner, toFirst, chosenOf, workAfter, Asked, refusalOf as choiceRefusal}
+use Rattle.ties.specs.Winning.{TieRule, sooner, toFirst}
+use Rattle.choosing.specs.Choosing.{chosenOf, workAfter, Asked, refusalOf as choiceRefusal}
 use Rattle.choosing.specs.WinnerLaws.{BadIn, asked-six, asked-names}
 use Rattle.packed_answers.specs.declared.UnpackAnswer.{UnpackAnswer}
 use Rattle.packed_answers.specs.declared.PackAnswer.{PackAnswer}

@@ -12,10 +12,11 @@ use lib.IntN.{ℤ}
 use lib.ListN.{length, take, drop}
 use borrow.Rule.Slice.PartAt.{part-to-end}
 use Rattle.packed.specs.Layout.{headerBytes}
-use Rattle.choosing.specs.Choosing.{TieRule, sooner, toFirst, Asked, Handed, chosenOf, workAfter, partOf, placeOf}
+use Rattle.ties.specs.Winning.{TieRule, sooner, toFirst}
+use Rattle.choosing.specs.Choosing.{Asked, Handed, chosenOf, workAfter, partOf, placeOf}
 use Rattle.choosing.specs.ChoosingLaws.{headers-there}
-use Rattle.choosing.specs.declared.Chosen.{Chosen}
-use Rattle.choosing.specs.declared.Chosen.the-variants.{Refused, First, Second}
+use Rattle.ties.specs.declared.Chosen.{Chosen}
+use Rattle.ties.specs.declared.Chosen.the-variants.{Refused, First, Second}
 use Rattle.openings.proofs.Inputs.{Given, workIn}
 use Rattle.openings.proofs.choose.Reads as handing
 use Rattle.openings.proofs.choose_first.Reads as handing-first

@@ -37,7 +37,8 @@ use Rattle.halves.specs.Calls.{planHalvesChecks, withSeconds, lostSeconds, halv
 use Rattle.plan_writer.specs.Calls.{writeChecks, writtenBy, writtenOf}
 use Rattle.checking.specs.Answers.{legal-never}
 use Rattle.best_plan.specs.Answers.{best-never}
-use Rattle.choosing.specs.Choosing.{openingPoint, TieRule, sooner, toFirst, winnerBy, choosingChecks, chosenBy, chosenOf, refusalOf}
+use Rattle.ties.specs.Winning.{openingPoint, TieRule, sooner, toFirst, winnerBy}
+use Rattle.choosing.specs.Choosing.{choosingChecks, chosenBy, chosenOf, refusalOf}
 use Rattle.choosing.specs.AnswerSays.{won-by, at-most-eleven}
 use Rattle.point_records.specs.Records.{flattened}
 use Rattle.packed_answers.specs.declared.HeatAnswer.{HeatAnswer}

@@ -17,7 +17,8 @@ ghost use Rattle.halves.specs.Calls.{halvesOf, halvesStartsAfter, halvesWorkAft
 ghost use Rattle.plan_writer.specs.Calls.{writtenOf, outAfter as planAfter, writeWorkAfter};
 ghost use Rattle.checking.specs.Calls.{legalOf};
 ghost use Rattle.best_plan.specs.Calls.{bestOf, bestWorkAfter};
-ghost use Rattle.choosing.specs.Choosing.{sooner, toFirst, chosenOf, workAfter};
+ghost use Rattle.ties.specs.Winning.{sooner, toFirst};
+ghost use Rattle.choosing.specs.Choosing.{chosenOf, workAfter};
 ghost use Rattle.packed_answers.specs.Numbers.{heatNumbers, unpackNumbers, packNumbers, openNumbers, stepNumbers};
 ghost use Rattle.plan_answers.specs.Numbers.{lookupNumbers, betterNumbers, extendNumbers, planFigures};
 ghost use Rattle.plan_answers.specs.Numbers.{halvesFigures};

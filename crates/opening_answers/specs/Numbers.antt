@@ -3,8 +3,8 @@
 use Prim.Native.Nat.{ℕ, _-_}
 use Rattle.packed.specs.Layout.{headerBytes}
 use Rattle.choosing.specs.Choosing.{refusalOf as choiceRefusal, winnerOf}
-use Rattle.choosing.specs.declared.Chosen.{Chosen}
-use Rattle.choosing.specs.declared.Chosen.the-variants as chosen
+use Rattle.ties.specs.declared.Chosen.{Chosen}
+use Rattle.ties.specs.declared.Chosen.the-variants as chosen
 use Rattle.opening_answers.specs.declared.QuestionAnswer.{QuestionAnswer}
 use Rattle.opening_answers.specs.declared.ChooseAnswer.{ChooseAnswer}
 

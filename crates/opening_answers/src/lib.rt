@@ -4,7 +4,7 @@ ghost use mathlib.Core.Path.{_≡_};
 ghost use Prim.Native.Nat.{_-_};
 ghost use Rattle.packed.specs.Layout.{headerBytes};
 ghost use Rattle.opening_answers.specs.Numbers.{questionNumbers, chooseNumbers};
-use choosing::Chosen;
+use ties::Chosen;
 
 // The numbers of the openings, as winners.
 const FIRST: u32 = 1;

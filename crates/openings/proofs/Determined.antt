@@ -7,9 +7,10 @@ use contract.Lifetimes.{Lfts}
 use denote.Ref.{RefT, now}
 use lib.IntN.{ℤ}
 use Rattle.seconds.specs.Determined.{Determines, determined, two}
-use Rattle.choosing.specs.Choosing.{TieRule, sooner, toFirst, chosenOf, workAfter, partOf, placeOf}
+use Rattle.ties.specs.Winning.{TieRule, sooner, toFirst}
+use Rattle.choosing.specs.Choosing.{chosenOf, workAfter, partOf, placeOf}
 use Rattle.choosing.specs.ChoosingLaws.{question-choice}
-use Rattle.choosing.specs.declared.Chosen.{Chosen}
+use Rattle.ties.specs.declared.Chosen.{Chosen}
 use Rattle.openings.proofs.Inputs.{Given, workIn}
 use Rattle.openings.proofs.question.Reads as question
 use Rattle.openings.proofs.question_first.Reads as question-first

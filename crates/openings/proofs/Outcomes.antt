@@ -9,10 +9,11 @@ use denote.Ref.{now}
 use Rattle.packed.specs.Judge.{inField, fine, judge}
 use Rattle.packed.specs.Refusals.{orderChecks}
 use Rattle.area.specs.Area.{cleared}
-use Rattle.choosing.specs.Choosing.{TieRule, sooner, toFirst, choosingVerdict, Asked, refusalOf}
+use Rattle.ties.specs.Winning.{TieRule, sooner, toFirst}
+use Rattle.choosing.specs.Choosing.{choosingVerdict, Asked, refusalOf}
 use Rattle.choosing.specs.WinnerLaws.{NeitherInTime, asked-eleven, eleven-clears, BadIn, asked-six, asked-names}
 use Rattle.choosing.specs.TieLaws.{SecondSooner, AtOnce, exchanged, asked-differ, asked-fair}
-use Rattle.choosing.specs.declared.Chosen.{Chosen}
+use Rattle.ties.specs.declared.Chosen.{Chosen}
 use Rattle.openings.proofs.Inputs.{Given, workIn, turned}
 use Rattle.openings.proofs.question.Reads as question
 use Rattle.openings.proofs.question_first.Reads as question-first

@@ -1,9 +1,10 @@
 // The calls on two openings at a time: which of them wins, and the winner's records. Of equal weights the opening wins that reaches
 // it sooner, and by name always the first. Any bytes, time and work area have an answer. Assumes nothing.
-use choosing::Chosen;
-use choosing::Tie;
 use choosing::ask;
-ghost use Rattle.choosing.specs.Choosing.{ruleOf, sooner, toFirst, Asked, Handed};
+use ties::Chosen;
+use ties::Tie;
+ghost use Rattle.ties.specs.Winning.{ruleOf, sooner, toFirst};
+ghost use Rattle.choosing.specs.Choosing.{Asked, Handed};
 
 // The choice by a tie: the records of the opening that wins, without its header, where they stand; the empty part
 // at the start of the first where it is refused.

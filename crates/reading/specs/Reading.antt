@@ -22,6 +22,11 @@ abbrev pub found : Option Point → Found
 found none = Nothing
 found (some p) = At (p .weight) (p .time)
 
+-- And back.
+abbrev pub pointIn : Found → Option Point
+pointIn Nothing = none
+pointIn (At w t) = some (record { time = t; weight = w })
+
 -- The list can be written: there are two numbers for each point.
 pub record CanWrite (work : List ℤ) (place count : ℕ) (out : List ℤ) : Type 0 where
   pub held : Held work place (listAt work place count)

@@ -14,8 +14,9 @@ use Rattle.halves.specs.declared.HalvesPlanned.{HalvesPlanned}
 use Rattle.halves.specs.Calls.{halvesVerdict, lostIn, withSeconds}
 use Rattle.extending.specs.declared.Extended.{Extended}
 use Rattle.extending.specs.Calls.{profileGiven, extendVerdict, extendedBy, outBy}
-use Rattle.choosing.specs.declared.Chosen.{Chosen}
-use Rattle.choosing.specs.Choosing.{TieRule, byPoints, choosingVerdict, chosenBy, partOf, placeOf}
+use Rattle.ties.specs.declared.Chosen.{Chosen}
+use Rattle.ties.specs.Winning.{TieRule, byPoints}
+use Rattle.choosing.specs.Choosing.{choosingVerdict, chosenBy, partOf, placeOf}
 
 -- ---- planning, and planning halves
 

@@ -25,8 +25,9 @@ use Rattle.halves.specs.Calls.{planHalvesChecks, halvesVerdict, lostIn, withSec
 use Rattle.extending.specs.Calls.{profileGiven, extendJudged, extendChecks, extendVerdict, extendedBy, outBy, extendedOf, outAfter}
 use Rattle.extending.specs.CallLaws.{given-read}
 use Rattle.extending.specs.ExtendingLaws.{Accepted, accepted, accepted-order}
-use Rattle.choosing.specs.declared.Chosen.{Chosen}
-use Rattle.choosing.specs.Choosing.{TieRule, byPoints, choosingChecks, choosingVerdict, chosenBy, partOf, placeOf, chosenOf}
+use Rattle.ties.specs.declared.Chosen.{Chosen}
+use Rattle.ties.specs.Winning.{TieRule, byPoints}
+use Rattle.choosing.specs.Choosing.{choosingChecks, choosingVerdict, chosenBy, partOf, placeOf, chosenOf}
 use Rattle.same_answers.specs.Over.{answerWith, planAnswerOver, planOver, lostOver, halvesOver, extendOver, pointOver, questionOver, choiceOver}
 
 -- Two ways give the same for every accepted order.

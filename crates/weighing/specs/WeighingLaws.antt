@@ -25,12 +25,12 @@ use Rattle.codes.specs.Code.{listAt}
 use Rattle.codes.specs.Held.{Held}
 use Rattle.codes.specs.HeldLaws.{held-read}
 use Rattle.stepping.specs.declared.Prefix.{Prefix}
-use Rattle.reading.specs.Reading.{found}
+use Rattle.reading.specs.Reading.{found, pointIn}
 use Rattle.reading.specs.declared.Found.{Found}
 use Rattle.reading.specs.declared.Found.the-variants.{Nothing, At}
 use Rattle.filling.specs.Lists.{CanFillLast, FilledLast}
 use Rattle.filling.specs.Begin.{CanStart}
-use Rattle.weighing.specs.Weighing.{pointIn, weightIn, CanWeigh}
+use Rattle.weighing.specs.Weighing.{weightIn, CanWeigh}
 
 -- The code's answer says the point that was found,
 found-point : (o : Option Point) → pointIn (found o) ≡ o

@@ -8,7 +8,8 @@ use reading::last_by;
 ghost use mathlib.Core.Path.{_≡_};
 ghost use Rattle.profile.specs.Profile.{lookup, orderProfile};
 ghost use Rattle.packed.specs.Packed.{orderOf};
-ghost use Rattle.weighing.specs.Weighing.{pointIn, CanWeigh};
+ghost use Rattle.reading.specs.Reading.{pointIn};
+ghost use Rattle.weighing.specs.Weighing.{CanWeigh};
 
 // The last point of an order's profile by a time.
 pub fn weigh(bytes: &[u8], t: i32, work: &mut [i32]) -> Found

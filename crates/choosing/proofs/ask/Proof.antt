@@ -7,7 +7,7 @@ use borrow.Author.Needs.{needs}
 use Rattle.packed.specs.Judge.{fine, judge}
 use Rattle.packed.specs.Refusals.{orderChecks}
 use Rattle.judge.specs.Told.{told-fine}
-use Rattle.choosing.specs.Choosing.{ruleOf}
+use Rattle.ties.specs.Winning.{ruleOf}
 use Rattle.choosing.specs.ChoosingLaws.{first-refused, second-refused}
 use Rattle.choosing.proofs.ask.Statement.{statement}
 use Rattle.choosing.proofs.ask.Tie as tie

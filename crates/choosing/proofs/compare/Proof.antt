@@ -10,7 +10,7 @@ use denote.Ref.{now}
 use mir.Facts.{toZ-ofZ}
 use borrow.Author.Needs.{needs}
 use Rattle.area.specs.Area.{area}
-use Rattle.choosing.specs.Choosing.{ruleOf}
+use Rattle.ties.specs.Winning.{ruleOf}
 use Rattle.choosing.specs.ChoosingLaws.{no-room, compared}
 use Rattle.choosing.proofs.compare.Statement.{statement}
 use Rattle.choosing.proofs.compare.Tie as tie

@@ -7,7 +7,7 @@ use mir.Facts.{toZ-ofZ}
 use borrow.Author.Needs.{needs}
 use Rattle.opening_answers.specs.Numbers.{chooseNumbers}
 use Rattle.opening_answers.specs.declared.ChooseAnswer.{ChooseAnswer}
-use Rattle.choosing.specs.declared.Chosen.{Chosen}
+use Rattle.ties.specs.declared.Chosen.{Chosen}
 use Rattle.leafanchor.proofs.leafanchor_choose.Statement.{statement}
 use Rattle.leafanchor.proofs.leafanchor_choose.Tie as tie
 

@@ -4,7 +4,7 @@ use Prim.Native.Nat.{ℕ, _-_}
 use mathlib.Core.Path.{_≡_, sym, ap, _∙_}
 use borrow.Author.Needs.{needs}
 use Rattle.packed.specs.Layout.{headerBytes}
-use Rattle.choosing.specs.declared.Chosen.{Chosen}
+use Rattle.ties.specs.declared.Chosen.{Chosen}
 use Rattle.opening_answers.specs.Numbers.{chooseNumbers}
 use Rattle.opening_answers.specs.declared.ChooseAnswer.{ChooseAnswer}
 use Rattle.opening_answers.proofs.choose_answer.Statement.{statement}

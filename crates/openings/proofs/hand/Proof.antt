@@ -9,8 +9,9 @@ use denote.Ref.{now}
 use mir.Facts.{toZ-ofZ}
 use borrow.Author.Needs.{needs}
 use borrow.Rule.Slice.PartAt.{part-to-end}
-use Rattle.choosing.specs.Choosing.{ruleOf, Asked, winnerOf}
-use Rattle.choosing.specs.declared.Chosen.{Chosen}
+use Rattle.ties.specs.Winning.{ruleOf}
+use Rattle.choosing.specs.Choosing.{Asked, winnerOf}
+use Rattle.ties.specs.declared.Chosen.{Chosen}
 use Rattle.choosing.specs.ChoosingLaws.{headers-there, handed}
 use Rattle.openings.proofs.hand.Statement.{statement}
 use Rattle.openings.proofs.hand.Tie as tie

@@ -1,13 +1,13 @@
--- `choosing::heavier` meets its contract: the tests weigh the two points, and `to_first` says who wins of the same weight.
+-- `ties::heavier` meets its contract: the tests weigh the two points, and `to_first` says who wins of the same weight.
 -- Assumes nothing.
 use mathlib.Core.Path.{_≡_, sym, _∙_}
 use mir.Facts.{toZ-ofZ}
 use borrow.Author.Needs.{needs}
 use Rattle.order.specs.Job.{Point}
-use Rattle.choosing.specs.Choosing.{ruleOf}
-use Rattle.choosing.specs.ChoosingLaws.{first-wins, second-wins, even-first, even-second}
-use Rattle.choosing.proofs.heavier.Statement.{statement}
-use Rattle.choosing.proofs.heavier.Tie as tie
+use Rattle.ties.specs.Winning.{ruleOf}
+use Rattle.ties.specs.WinningLaws.{first-wins, second-wins, even-first, even-second}
+use Rattle.ties.proofs.heavier.Statement.{statement}
+use Rattle.ties.proofs.heavier.Tie as tie
 
 -- The two points.
 abbrev one : tie.Start → Point

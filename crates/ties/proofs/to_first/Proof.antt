@@ -1,12 +1,12 @@
--- `choosing::to_first` meets its contract, by the match. Assumes nothing.
+-- `ties::to_first` meets its contract, by the match. Assumes nothing.
 use mathlib.Core.Path.{sym, ap}
 use mathlib.Core.Bool.{Bool}
 use mir.Facts.{toZ-ofZ}
 use borrow.Author.Needs.{needs}
-use Rattle.choosing.specs.Choosing.{ruleOf}
-use Rattle.choosing.specs.declared.Tie.{Tie}
-use Rattle.choosing.proofs.to_first.Statement.{statement}
-use Rattle.choosing.proofs.to_first.Tie as tie
+use Rattle.ties.specs.Winning.{ruleOf}
+use Rattle.ties.specs.declared.Tie.{Tie}
+use Rattle.ties.proofs.to_first.Statement.{statement}
+use Rattle.ties.proofs.to_first.Tie as tie
 
 enum-told : tie.Need-enum-told
 enum-told c = search needs

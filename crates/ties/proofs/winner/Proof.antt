@@ -1,11 +1,11 @@
--- `choosing::winner` meets its contract: an opening with no point loses to one that has one, and two points are weighed.
+-- `ties::winner` meets its contract: an opening with no point loses to one that has one, and two points are weighed.
 -- Assumes nothing.
 use mir.Facts.{toZ-ofZ}
 use mir.Syntax.{w32}
 use mir.Val.{SFits}
 use borrow.Author.Needs.{needs}
-use Rattle.choosing.proofs.winner.Statement.{statement}
-use Rattle.choosing.proofs.winner.Tie as tie
+use Rattle.ties.proofs.winner.Statement.{statement}
+use Rattle.ties.proofs.winner.Tie as tie
 
 enum-told : tie.Need-enum-told
 enum-told c = search needs
