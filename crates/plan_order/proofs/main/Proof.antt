@@ -1,4 +1,4 @@
--- `plan_input::run` meets its contract: what is written is the text for what was read. Assumes nothing.
+-- `plan_order::main` meets its contract: what is written is the text for what was read. Assumes nothing.
 use mathlib.Core.Path.{_≡_}
 use native.Mathlib.Omega.{arith}
 use lib.ListN.{length, take}
@@ -6,8 +6,8 @@ use lib.Seq.{length-take-le}
 use borrow.Author.Needs.{needs}
 use Rattle.report.specs.Report.{reportOf, printed}
 use Rattle.report.specs.Telling.{front-told}
-use Rattle.plan_input.proofs.run.Statement.{statement}
-use Rattle.plan_input.proofs.run.Tie as tie
+use Rattle.plan_order.proofs.main.Statement.{statement}
+use Rattle.plan_order.proofs.main.Tie as tie
 
 slice-aggregate-read : tie.Need-slice-aggregate-read
 slice-aggregate-read c = search needs
@@ -50,8 +50,8 @@ write-requires c κs =
 returns : tie.Need-returns
 returns c = search needs
 
-pub run-spec : {M : Type 1} → statement M
-run-spec =
+pub main-spec : {M : Type 1} → statement M
+main-spec =
     tie.close
     (tie.spec
     slice-aggregate-read
