@@ -67,7 +67,7 @@ extern "C" {
 #define LEAFANCHOR_HIGHEST_HALF 31       /**< the highest number of a critical half */
 #define LEAFANCHOR_HALVES_APART 32       /**< an optional half's number less that of its critical half */
 #define LEAFANCHOR_SECONDS_PER_WEIGHT 60 /**< seconds that an optional half takes for each weight */
-#define LEAFANCHOR_PHRASE_ROOM 64        /**< bytes of the longest text of leafanchor_tell, its end included */
+#define LEAFANCHOR_PHRASE_ROOM 64        /**< bytes that the longest text of leafanchor_tell takes, its end included */
 #define LEAFANCHOR_NO_PLACE ((size_t)-1) /**< tells leafanchor_tell that an answer has no place */
 
 /** Why a call refused (R24); 0 where it did not. */
@@ -91,7 +91,7 @@ enum leafanchor_refusal {
     LEAFANCHOR_PLAN_STRAY_BITS = 15       /**< the packed plan has bits set beyond the order's jobs or at its end */
 };
 
-/** A phrase for a person.
+/** A refusal in words for a person, those of include/phrases.txt.
  * @param refusal the refusal's number, or any other
  * @return the phrase, in memory that stays */
 LEAFANCHOR_MUST_USE
@@ -100,20 +100,20 @@ static inline const char *leafanchor_phrase(uint32_t refusal)
     switch (refusal) {
     case LEAFANCHOR_NONE: return "not refused";
     case LEAFANCHOR_ORDER_TOO_SHORT: return "the packed order is under 4 bytes";
-    case LEAFANCHOR_SPARE_BITS: return "the spare bits are not zero";
-    case LEAFANCHOR_TOO_MANY_JOBS: return "more than 48 jobs";
+    case LEAFANCHOR_SPARE_BITS: return "the header's spare bits are not zero";
+    case LEAFANCHOR_TOO_MANY_JOBS: return "there are more than 48 jobs";
     case LEAFANCHOR_WRONG_LENGTH: return "the length does not fit the number of jobs";
     case LEAFANCHOR_BUS_FREE_OUT_OF_RANGE: return "the bus-free time is out of range";
-    case LEAFANCHOR_JOB_OUT_OF_RANGE: return "a job field is out of range";
-    case LEAFANCHOR_NUMBER_REPEATED: return "a job number is repeated";
-    case LEAFANCHOR_PROFILE_NOT_VALID: return "a profile is not valid";
+    case LEAFANCHOR_JOB_OUT_OF_RANGE: return "a job's field is out of range";
+    case LEAFANCHOR_NUMBER_REPEATED: return "a job's number stood earlier";
+    case LEAFANCHOR_PROFILE_NOT_VALID: return "a given profile is not valid";
     case LEAFANCHOR_TOO_MUCH_WEIGHT: return "the weights sum to more than 300";
     case LEAFANCHOR_BUFFER_TOO_SHORT: return "a buffer is too short";
-    case LEAFANCHOR_NO_FEASIBLE_CHOICE: return "no choice is feasible";
+    case LEAFANCHOR_NO_FEASIBLE_CHOICE: return "no choice of jobs keeps every critical job in time";
     case LEAFANCHOR_CELL_TOO_COLD: return "the cell is below -30 degrees";
     case LEAFANCHOR_NOT_OF_HALVES: return "the order is not of halves";
     case LEAFANCHOR_PLAN_WRONG_LENGTH: return "the length does not fit the packed plan's mask";
-    case LEAFANCHOR_PLAN_STRAY_BITS: return "the packed plan has stray bits set";
+    case LEAFANCHOR_PLAN_STRAY_BITS: return "the packed plan has bits set that must be zero";
     default: return "no such refusal";
     }
 }
@@ -148,6 +148,20 @@ static inline const char *leafanchor_field_name(uint32_t field)
     }
 }
 
+/** What leafanchor_tell says behind a job's place; for refusal 6 the field's name comes in between.
+ * @param refusal the refusal's number, or any other
+ * @return the words, none for a refusal that has no place; in memory that stays */
+LEAFANCHOR_MUST_USE
+static inline const char *leafanchor_words_behind_place(uint32_t refusal)
+{
+    switch (refusal) {
+    case LEAFANCHOR_JOB_OUT_OF_RANGE: return " out of range";
+    case LEAFANCHOR_NUMBER_REPEATED: return "its number stood earlier";
+    case LEAFANCHOR_NOT_OF_HALVES: return "it does not fit an order of halves";
+    default: return "";
+    }
+}
+
 /** Puts text behind the text that ends at a place; what has no room beside an end is left off.
  * @param text what is put
  * @param out the bytes written
@@ -162,36 +176,54 @@ static inline size_t leafanchor_put_text(const char *text, char *out, size_t roo
     return at;
 }
 
+/** Puts "job at place 2: ", with the place given, behind the text that ends at a place, as leafanchor_put_text does.
+ * @param place the job's place
+ * @param out the bytes written
+ * @param room how many they are
+ * @param at where the text so far ends
+ * @return where it ends now */
+static inline size_t leafanchor_put_place(size_t place, char *out, size_t room, size_t at)
+{
+    char digits[24];
+    size_t first = sizeof digits;
+    digits[--first] = '\0';
+    do {
+        digits[--first] = (char)('0' + place % 10);
+        place /= 10;
+    } while (place != 0);
+    at = leafanchor_put_text("job at place ", out, room, at);
+    at = leafanchor_put_text(&digits[first], out, room, at);
+    return leafanchor_put_text(": ", out, room, at);
+}
+
 /** A refusal in words for a person, with the place and the field that it names: "job at place 2: length out of range".
+ * Without the place that it needs, or for 6 the field, it is told as leafanchor_phrase does; 6 with a field alone is
+ * "length out of range".
  * @param refusal the refusal's number, or any other
  * @param place its place; LEAFANCHOR_NO_PLACE for a question or a choice, whose answers have none
  * @param field its field; 0 where the answer has none
  * @param out written: the text and an end, cut where it is too short
- * @param room bytes of out: 1 at least, LEAFANCHOR_PHRASE_ROOM for every text
+ * @param room bytes of out: 1 at least. LEAFANCHOR_PHRASE_ROOM is enough for every answer of the library; with a place
+ * of more than 14 digits, which no answer has, the text may then be cut
  * @return out */
 LEAFANCHOR_MUST_USE
 static inline const char *leafanchor_tell(uint32_t refusal, size_t place, uint32_t field, char *out, size_t room)
 {
-    char digits[24];
-    size_t first = sizeof digits;
+    const char *behind = leafanchor_words_behind_place(refusal);
+    const int of_field = refusal == LEAFANCHOR_JOB_OUT_OF_RANGE;
+    const int named = of_field ? field >= LEAFANCHOR_FIELD_NUMBER && field <= LEAFANCHOR_FIELD_DEADLINE
+                               : place != LEAFANCHOR_NO_PLACE;
     size_t at = 0;
-    const int about_a_job = refusal == LEAFANCHOR_JOB_OUT_OF_RANGE || refusal == LEAFANCHOR_NUMBER_REPEATED ||
-                            refusal == LEAFANCHOR_NOT_OF_HALVES;
-    if (about_a_job && place != LEAFANCHOR_NO_PLACE) {
-        digits[--first] = '\0';
-        do {
-            digits[--first] = (char)('0' + place % 10);
-            place /= 10;
-        } while (place != 0);
-        at = leafanchor_put_text("job at place ", out, room, at);
-        at = leafanchor_put_text(&digits[first], out, room, at);
-        at = leafanchor_put_text(": ", out, room, at);
-    }
-    if (refusal == LEAFANCHOR_JOB_OUT_OF_RANGE) {
-        at = leafanchor_put_text(leafanchor_field_name(field), out, room, at);
-        at = leafanchor_put_text(" out of range", out, room, at);
-    } else {
+    if (*behind == '\0' || !named) {
         at = leafanchor_put_text(leafanchor_phrase(refusal), out, room, at);
+    } else {
+        if (place != LEAFANCHOR_NO_PLACE) {
+            at = leafanchor_put_place(place, out, room, at);
+        }
+        if (of_field) {
+            at = leafanchor_put_text(leafanchor_field_name(field), out, room, at);
+        }
+        at = leafanchor_put_text(behind, out, room, at);
     }
     out[at] = '\0';
     return out;

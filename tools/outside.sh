@@ -104,12 +104,14 @@ hold_c() {
     "$cxx" -std=c++17 $warnings -fsyntax-only -x c++ "$out/alone.c"
     compile_both layout tools/layout.c
     compile_both every_call tools/every_call.c
+    compile_both phrases tools/phrases.c
     compile_both plan_p1 examples/plan_p1.c
     compile_both plan_halves examples/plan_halves.c
     compile_both check_plan examples/check_plan.c
     compile_both choose_opening examples/choose_opening.c
     for made in c11 cxx17; do
         $emulator "$out/every_call.$made"
+        $emulator "$out/phrases.$made" <include/phrases.txt
         $emulator "$out/layout.$made" >"$out/layout.$made.txt"
     done
 }
