@@ -1,29 +1,57 @@
 /** @file
  * The C header of Leafanchor, the planner of an air-taxi stand's one service bus. It declares every call of
- * libleafanchor.a, every answer and every size. Times are whole signed seconds. The rules, R1 and on, are in
- * docs/RULES.md.
+ * libleafanchor.a, every answer and every size. C99 is enough, and C++98. The rules, R1 and on, are in docs/RULES.md.
  *
- * A job's finish is its start plus its length. The contactor rests 15 seconds after every job: the bus is free 15
- * seconds after the finish, and the next job kept starts then at the earliest. A deadline binds the finish alone.
+ * Words. Times are whole signed seconds. A job has six fields (leafanchor_job); a critical one is always kept, any
+ * other has a weight and may be left out. Its finish is its start plus its length; the deadline binds the finish
+ * alone. After every job the contactor rests 15 seconds before the bus is free: the next job kept starts then at the
+ * earliest. An order is t0, the time at which the bus is free, and up to 48 jobs in the dispatcher's sequence;
+ * packed, it is 4 bytes and 8 a job (R21). A job's place in its order counts from 0; a reader goes from place to
+ * place over the packed bytes. A choice says which jobs are kept; it is feasible if all critical ones are and every
+ * deadline is met. A plan is a choice and the start of each job kept. A point is a bus-free time and the weight that
+ * can be kept by then; a profile is a list of points, both figures rising (R11). An opening is an order that the
+ * hangar may pick for the front of a morning; the tail is the order behind it.
  *
- * What the caller owes, and no call checks: a pointer is never null, also where its length is 0; it points to
- * as many elements as the length beside it says; a buffer that a call writes overlaps no other buffer of that
- * call. Beyond that a call takes any numbers and any bytes and ends with an answer.
+ * Machines. The library is for x86-64, where it is called by the System V convention, and for aarch64; where pointers
+ * or size_t do not have 64 bits, or a number's greater byte comes first, this header stops with one sentence. Of the
+ * C library it needs memcpy, memmove and memset at most.
  *
- * Lengths count elements: bytes of an order or a plan, numbers of a list, records of a list of points. A buffer may be
- * longer than a call needs; what lies past the part needed stays as it was. No call allocates or keeps a pointer.
+ * What the caller owes, and no call checks: a pointer is never null, also where its length is 0; it points to as many
+ * elements as the length beside it says; it is aligned as C aligns its type, which is to 4 bytes for int32_t,
+ * leafanchor_job and leafanchor_point, to 8 for leafanchor_profile, to 1 for bytes; a buffer that a call writes
+ * overlaps no other buffer of that call, but for profiles where a call says so. Beyond that a call takes any numbers
+ * and any bytes and ends with an answer.
  *
- * Of several refusals the lowest number is given, but for 13, 14 and 15, which come after 9 and before 10; those of a
- * second opening, 1 to 9, come after all of the first's (R25). In a refused answer every figure is 0 but the refusal,
- * the place for 6, 7 and 13, the field for 6, and where a reader stands (R26).
+ * Lengths count elements: bytes of an order or a plan, numbers of a list, records of a list of points. A buffer may
+ * be longer than a call needs; what lies past the part needed stays as it was.
  *
- * The work area's first LEAFANCHOR_WORK_AREA numbers are 0 after every call that has one and passes refusal
- * 10, refused with 11 or not (R29). */
+ * Every call is reentrant: it keeps nothing from one call to the next, allocates nothing, waits for nothing and
+ * shares no data with another. It may be made from any thread and from an interrupt handler, as long as each has a
+ * work area and output buffers of its own; a handler must have saved the vector registers, since calls use them. A
+ * call takes LEAFANCHOR_STACK bytes of stack at most, as measured (docs/SPEED.md).
+ *
+ * A refused call says why by a number (leafanchor_refusal). Of several the lowest is given, but for 13, 14 and 15,
+ * which come after 9 and before 10; those of a second opening, 1 to 9, come after all of the first's (R25). In a
+ * refused answer every figure is 0 but the refusal, the place for 6, 7 and 13, the field for 6, and where a reader
+ * stands (R26).
+ *
+ * The work area is lent to the calls that plan. It may hold anything before; its first LEAFANCHOR_WORK_AREA numbers
+ * are 0 after every call that has one and passes refusal 10, refused with 11 or not (R29). */
 #ifndef LEAFANCHOR_H
 #define LEAFANCHOR_H
 
 #include <stddef.h>
 #include <stdint.h>
+
+/** Whether there is a library for such a machine. C++98 may have no SIZE_MAX; the compiler's own figure then tells. */
+#if SIZE_MAX != UINT64_MAX || UINTPTR_MAX != UINT64_MAX || \
+    (defined(__SIZEOF_POINTER__) && __SIZEOF_POINTER__ != 8) || \
+    (defined(__BYTE_ORDER__) && __BYTE_ORDER__ != __ORDER_LITTLE_ENDIAN__)
+#define LEAFANCHOR_FITS 0
+#error "Leafanchor's library is for little-endian machines with 64-bit pointers and size_t: x86-64 and aarch64."
+#else
+#define LEAFANCHOR_FITS 1
+#endif
 
 #ifdef __cplusplus
 extern "C" {
@@ -44,6 +72,13 @@ extern "C" {
 #define LEAFANCHOR_QUOTED(value) LEAFANCHOR_QUOTED_AS_IS(value)
 /** A word as text. */
 #define LEAFANCHOR_QUOTED_AS_IS(word) #word
+
+/** Before a function that takes much stack, where the compiler has a mark that keeps it out of its callers' frames. */
+#if defined(__GNUC__)
+#define LEAFANCHOR_APART static __attribute__((noinline, unused))
+#else
+#define LEAFANCHOR_APART static inline
+#endif
 
 /** Before a call whose answer must be used, where the compiler has a mark for that. */
 #if (defined(__cplusplus) && __cplusplus >= 201703L) || (defined(__STDC_VERSION__) && __STDC_VERSION__ >= 202311L)
@@ -67,6 +102,7 @@ extern "C" {
 #define LEAFANCHOR_HIGHEST_HALF 31       /**< the highest number of a critical half */
 #define LEAFANCHOR_HALVES_APART 32       /**< an optional half's number less that of its critical half */
 #define LEAFANCHOR_SECONDS_PER_WEIGHT 60 /**< seconds that an optional half takes for each weight */
+#define LEAFANCHOR_STACK 8192            /**< bytes of stack that a call takes at most, those of this header too */
 #define LEAFANCHOR_PHRASE_ROOM 64        /**< bytes that the longest text of leafanchor_tell takes, its end included */
 #define LEAFANCHOR_NO_PLACE ((size_t)-1) /**< tells leafanchor_tell that an answer has no place */
 
@@ -81,8 +117,10 @@ enum leafanchor_refusal {
     LEAFANCHOR_JOB_OUT_OF_RANGE = 6,      /**< a job's field is out of range; the place is the first such job's,
                                            * the field its first such one */
     LEAFANCHOR_NUMBER_REPEATED = 7,       /**< a job number came earlier; the place is the first such job's */
-    LEAFANCHOR_PROFILE_NOT_VALID = 8,     /**< a given profile is not valid */
-    LEAFANCHOR_TOO_MUCH_WEIGHT = 9,       /**< the weights sum to more than 300 */
+    LEAFANCHOR_PROFILE_NOT_VALID = 8,     /**< a given profile is not valid (R11): too long, an odd length, not rising,
+                                           * or a figure out of range */
+    LEAFANCHOR_TOO_MUCH_WEIGHT = 9,       /**< the weights sum to more than 300 (extending: with the last weight of the
+                                           * profile) */
     LEAFANCHOR_BUFFER_TOO_SHORT = 10,     /**< a buffer is too short */
     LEAFANCHOR_NO_FEASIBLE_CHOICE = 11,   /**< no choice is feasible (choosing: neither has a point by t) */
     LEAFANCHOR_CELL_TOO_COLD = 12,        /**< the cell is below -30 degrees */
@@ -282,8 +320,8 @@ typedef struct leafanchor_point {
 /** What a profile gives at a time. */
 typedef struct leafanchor_lookup_answer {
     uint32_t refusal; /**< 8 or 0 */
-    uint32_t found;   /**< 1 or 0 */
-    uint32_t weight;  /**< 0 where not found */
+    uint32_t found;   /**< 1 where a point is at or before the time, else 0 */
+    uint32_t weight;  /**< of the last such point; 0 where none is found */
 } leafanchor_lookup_answer;
 
 /** What better-of gives beside the profile. */
@@ -305,13 +343,13 @@ typedef struct leafanchor_plan_answer {
     uint32_t refusal;     /**< 1 to 7, 9 to 11 or 0 */
     size_t place;         /**< of the refused job, for 6 and 7 */
     uint32_t field;       /**< of that job, for 6 */
-    uint64_t mask;        /**< the jobs kept, the highest bit for place 0 */
+    uint64_t mask;        /**< a one for each job kept, the highest bit for place 0 */
     uint32_t kept;        /**< how many are kept */
     uint32_t kept_weight; /**< of the jobs kept */
     uint32_t lost_weight; /**< of the jobs left out */
     int32_t finish;       /**< when the bus is free after the plan: 15 seconds after the last kept job's finish, t0
                            * where none is kept */
-    uint32_t points;      /**< in the profiles of the order's prefixes, together */
+    uint32_t points;      /**< in the profiles of the order's first 1, 2, ... jobs, added (R9) */
 } leafanchor_plan_answer;
 
 /** What planning halves gives beside the starts: the figures of planning, and the optional seconds lost. */
@@ -319,12 +357,12 @@ typedef struct leafanchor_halves_answer {
     uint32_t refusal;      /**< 1 to 7, 9 to 11, 13 or 0 */
     size_t place;          /**< of the refused job, for 6, 7 and 13 */
     uint32_t field;        /**< of that job, for 6 */
-    uint64_t mask;         /**< the jobs kept, the highest bit for place 0 */
+    uint64_t mask;         /**< a one for each job kept, the highest bit for place 0 */
     uint32_t kept;         /**< how many are kept */
     uint32_t kept_weight;  /**< of the jobs kept */
     uint32_t lost_weight;  /**< of the jobs left out */
     int32_t finish;        /**< when the bus is free after the plan, as in leafanchor_plan_answer */
-    uint32_t points;       /**< in the profiles of the order's prefixes, together */
+    uint32_t points;       /**< as in leafanchor_plan_answer */
     uint32_t seconds_lost; /**< the lengths of the non-critical jobs left out, added */
 } leafanchor_halves_answer;
 
@@ -343,7 +381,7 @@ typedef struct leafanchor_question_answer {
     uint32_t winner;  /**< 1 or 2; 0 if refused */
 } leafanchor_question_answer;
 
-/** Which opening is worth more, and where its records lie: its bytes offset .. offset + length. */
+/** Which opening is worth more, and where its records, 8 bytes a job, lie: its bytes offset .. offset + length. */
 typedef struct leafanchor_choose_answer {
     uint32_t refusal; /**< 1 to 7, 9 to 11 or 0 */
     uint32_t field;   /**< of the refused job, for 6 */
@@ -424,11 +462,11 @@ LEAFANCHOR_MUST_USE
 leafanchor_better_answer leafanchor_better_of(const int32_t *p, size_t p_len, const int32_t *q, size_t q_len,
                                               int32_t *out, size_t out_len);
 
-/** Extends a profile by an order (R12); (t0, 0) extended by an order is that order's profile (R13). Refusals 1 to
- * 10 write nothing.
+/** Extends a profile by an order (R12): what can be kept by when if the order comes behind; (t0, 0) extended by an
+ * order is that order's profile (R13). Refusals 1 to 10 write nothing.
  * @param profile alternating times and weights
  * @param profile_len how many numbers: twice the points
- * @param order the packed order
+ * @param order the packed order; its t0 is checked and has no other effect
  * @param order_len its bytes
  * @param out written: the profile, two numbers a point
  * @param out_len room for LEAFANCHOR_PROFILE_ROOM numbers
@@ -615,11 +653,32 @@ static inline leafanchor_job leafanchor_job_of_step(leafanchor_step_answer step)
     return job;
 }
 
-/** leafanchor_extend over profiles. Refused, out is the profile of no points.
+/** leafanchor_profile_extended in place: from a copy of the profile, whose 2,416 bytes of stack are taken only then.
+ * @param profile extended, or refused as it was
+ * @param order the packed order
+ * @param order_len its bytes
+ * @param work the work area
+ * @param work_len room for LEAFANCHOR_WORK_AREA numbers
+ * @return the refusal, its place and its field, and the points of the profile extended */
+LEAFANCHOR_MUST_USE
+LEAFANCHOR_APART leafanchor_extend_answer leafanchor_profile_extend_in_place(leafanchor_profile *profile,
+                                                                             const uint8_t *order, size_t order_len,
+                                                                             int32_t *work, size_t work_len)
+{
+    const leafanchor_profile before = *profile;
+    leafanchor_extend_answer answer = leafanchor_extend(before.numbers, before.numbers_len, order, order_len,
+                                                        profile->numbers, LEAFANCHOR_PROFILE_ROOM, work, work_len);
+    if (answer.refusal == LEAFANCHOR_NONE) {
+        profile->numbers_len = 2 * answer.points;
+    }
+    return answer;
+}
+
+/** leafanchor_extend over profiles. Refused, out is the profile of no points, or as it was where it is profile itself.
  * @param profile the profile
  * @param order the packed order
  * @param order_len its bytes
- * @param out written: the profile extended by the order; another one than profile
+ * @param out written: the profile extended by the order; it may be profile itself
  * @param work the work area
  * @param work_len room for LEAFANCHOR_WORK_AREA numbers
  * @return the refusal, its place and its field, and the points of out */
@@ -629,8 +688,12 @@ static inline leafanchor_extend_answer leafanchor_profile_extended(const leafanc
                                                                    leafanchor_profile *out, int32_t *work,
                                                                    size_t work_len)
 {
-    leafanchor_extend_answer answer = leafanchor_extend(profile->numbers, profile->numbers_len, order, order_len,
-                                                        out->numbers, LEAFANCHOR_PROFILE_ROOM, work, work_len);
+    leafanchor_extend_answer answer;
+    if (profile == out) {
+        return leafanchor_profile_extend_in_place(out, order, order_len, work, work_len);
+    }
+    answer = leafanchor_extend(profile->numbers, profile->numbers_len, order, order_len, out->numbers,
+                               LEAFANCHOR_PROFILE_ROOM, work, work_len);
     out->numbers_len = 2 * answer.points;
     return answer;
 }
@@ -660,18 +723,44 @@ static inline leafanchor_extend_answer leafanchor_profile_of_order(const uint8_t
     return answer;
 }
 
-/** leafanchor_better_of over profiles. Refused, out is the profile of no points.
+/** leafanchor_profile_better where out is p, q or both: from a copy of it, whose 2,416 bytes of stack are taken only
+ * then.
  * @param p a profile
  * @param q a profile
- * @param out written: the better of both; another one than they
+ * @param out the better of both, or refused as it was
+ * @return the refusal, and the points of the better of both */
+LEAFANCHOR_MUST_USE
+LEAFANCHOR_APART leafanchor_better_answer leafanchor_profile_better_in_place(const leafanchor_profile *p,
+                                                                             const leafanchor_profile *q,
+                                                                             leafanchor_profile *out)
+{
+    const leafanchor_profile before = *out;
+    const leafanchor_profile *first = p == out ? &before : p, *second = q == out ? &before : q;
+    leafanchor_better_answer answer = leafanchor_better_of(first->numbers, first->numbers_len, second->numbers,
+                                                           second->numbers_len, out->numbers, LEAFANCHOR_PROFILE_ROOM);
+    if (answer.refusal == LEAFANCHOR_NONE) {
+        out->numbers_len = 2 * answer.points;
+    }
+    return answer;
+}
+
+/** leafanchor_better_of over profiles. Refused, out is the profile of no points, or as it was where it is p or q
+ * itself.
+ * @param p a profile
+ * @param q a profile, p itself too
+ * @param out written: the better of both; it may be p or q itself, so that one profile gathers many
  * @return the refusal, and the points of out */
 LEAFANCHOR_MUST_USE
 static inline leafanchor_better_answer leafanchor_profile_better(const leafanchor_profile *p,
                                                                  const leafanchor_profile *q,
                                                                  leafanchor_profile *out)
 {
-    leafanchor_better_answer answer = leafanchor_better_of(p->numbers, p->numbers_len, q->numbers, q->numbers_len,
-                                                           out->numbers, LEAFANCHOR_PROFILE_ROOM);
+    leafanchor_better_answer answer;
+    if (p == out || q == out) {
+        return leafanchor_profile_better_in_place(p, q, out);
+    }
+    answer = leafanchor_better_of(p->numbers, p->numbers_len, q->numbers, q->numbers_len, out->numbers,
+                                  LEAFANCHOR_PROFILE_ROOM);
     out->numbers_len = 2 * answer.points;
     return answer;
 }
@@ -731,11 +820,15 @@ static inline leafanchor_lookup_answer leafanchor_profile_lookup(const leafancho
     OFFSET(choose_answer, refusal, 0) OFFSET(choose_answer, field, 4) OFFSET(choose_answer, winner, 8)        \
     OFFSET(choose_answer, offset, 16) OFFSET(choose_answer, length, 24)
 
-/** A fact that the compiler checks, where it can. */
-#if defined(__cplusplus) && __cplusplus >= 201103L
+/** A fact that the compiler checks, where it can; where there is no library the one sentence above is enough. */
+#if !LEAFANCHOR_FITS
+#define LEAFANCHOR_HOLDS(fact, words)
+#elif defined(__cplusplus) && __cplusplus >= 201103L
 #define LEAFANCHOR_HOLDS(fact, words) static_assert(fact, words);
 #elif defined(__STDC_VERSION__) && __STDC_VERSION__ >= 201112L
 #define LEAFANCHOR_HOLDS(fact, words) _Static_assert(fact, words);
+#elif defined(__GNUC__) && !defined(__cplusplus)
+#define LEAFANCHOR_HOLDS(fact, words) __extension__ _Static_assert(fact, words);
 #else
 #define LEAFANCHOR_HOLDS(fact, words)
 #endif

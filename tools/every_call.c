@@ -1,7 +1,7 @@
 /* Calls every function of the header, on the worked figures P1 to P11, at the edges of the rest, on orders of halves,
  * on plans of P1, on openings of the same weight and on each field out of range, and says which answer differs. That
  * the header declares what the library defines, and that its own calls over jobs and profiles give what the plain ones
- * give, is seen here from C. Compiles as C11 and as C++17. */
+ * give, into another profile and in place, is seen here from C. Compiles as C99, as C11 and as C++17. */
 #include "leafanchor.h"
 
 #include <stdio.h>
@@ -154,6 +154,65 @@ static void held_profiles(void)
     CHECK(answer.field == LEAFANCHOR_FIELD_WEIGHT);
     answer = leafanchor_profile_of_order(order, 44, &whole, work, LEAFANCHOR_WORK_AREA - 1);
     CHECK(answer.refusal == LEAFANCHOR_BUFFER_TOO_SHORT && whole.numbers_len == 0);
+}
+
+/* Whether an answer of better-of and its profile are those wanted; refused, the profile is what it was before. */
+static int is_better(leafanchor_better_answer got, const leafanchor_profile *into, leafanchor_better_answer wanted,
+                     const leafanchor_profile *apart, const leafanchor_profile *before)
+{
+    return got.refusal == wanted.refusal && got.points == wanted.points &&
+           (got.refusal != 0 ? memcmp(into, before, sizeof *into) == 0 : is(into, apart->numbers, apart->numbers_len));
+}
+
+/* The better of two profiles into the one, into the other and, of a profile and itself, into that: as into a third. */
+static void better_in_place(const leafanchor_profile *p, const leafanchor_profile *q)
+{
+    static leafanchor_profile apart, into;
+    leafanchor_better_answer wanted = leafanchor_profile_better(p, q, &apart);
+    into = *p;
+    CHECK(is_better(leafanchor_profile_better(&into, q, &into), &into, wanted, &apart, p));
+    into = *q;
+    CHECK(is_better(leafanchor_profile_better(p, &into, &into), &into, wanted, &apart, q));
+    wanted = leafanchor_profile_better(p, p, &apart);
+    into = *p;
+    CHECK(is_better(leafanchor_profile_better(&into, &into, &into), &into, wanted, &apart, p));
+}
+
+/* A profile extended by an order into itself: as into another. */
+static void extended_in_place(const leafanchor_profile *p, const uint8_t *by, size_t by_len, size_t work_len)
+{
+    static leafanchor_profile apart, into;
+    leafanchor_extend_answer wanted = leafanchor_profile_extended(p, by, by_len, &apart, work, work_len);
+    into = *p;
+    leafanchor_extend_answer got = leafanchor_profile_extended(&into, by, by_len, &into, work, work_len);
+    CHECK(got.refusal == wanted.refusal && got.place == wanted.place && got.field == wanted.field);
+    CHECK(got.points == wanted.points);
+    CHECK(got.refusal != 0 ? memcmp(&into, p, sizeof into) == 0 : is(&into, apart.numbers, apart.numbers_len));
+}
+
+/* Profiles of all kinds, the longest, none and refused ones among them, each with each and extended by the order of P1
+ * and of no jobs, a refused one, and with a work area that is too short. */
+static void profiles_in_place(void)
+{
+    static leafanchor_profile all[] = {
+        {0, {0}}, {4, {0, 0, 20, 7}}, {2, {5, 7}}, {2, {-600, 0}}, {6, {-600, 1, -90, 21, 210, 30}}, {3, {0, 0, 5}},
+        {4, {0, 7, 5, 7}}, {LEAFANCHOR_PROFILE_ROOM, {0}}, {LEAFANCHOR_PROFILE_ROOM, {0}}};
+    static const uint8_t empty[] = {0, 0, 0, 0};
+    const size_t count = sizeof all / sizeof all[0];
+    for (int32_t point = 0; point < LEAFANCHOR_PROFILE_ROOM / 2; point++) {
+        all[count - 1].numbers[2 * point] = 3 * point;
+        all[count - 2].numbers[2 * point] = 3 * point + point % 3;
+        all[count - 1].numbers[2 * point + 1] = all[count - 2].numbers[2 * point + 1] = point;
+    }
+    for (size_t i = 0; i < count; i++) {
+        for (size_t k = 0; k < count; k++) {
+            better_in_place(&all[i], &all[k]);
+        }
+        extended_in_place(&all[i], order, 44, LEAFANCHOR_WORK_AREA);
+        extended_in_place(&all[i], order, 43, LEAFANCHOR_WORK_AREA);
+        extended_in_place(&all[i], order, 44, LEAFANCHOR_WORK_AREA - 1);
+        extended_in_place(&all[i], empty, 4, LEAFANCHOR_WORK_AREA);
+    }
 }
 
 /* The rest: a job starts 15 seconds after the finish of the one before it and meets its deadline, which a second
@@ -489,6 +548,7 @@ int main(void)
     plans();
     profiles();
     held_profiles();
+    profiles_in_place();
     rest();
     latest();
     plans_of_halves();

@@ -9,6 +9,7 @@ set -eu
 cd "$(dirname "$0")/.."
 
 here=$(uname -m)
+standards='c99 c11 c17 c2x c++98 c++11 c++17 c++20'
 warnings='-O2 -Wall -Wextra -Wpedantic -Wconversion -Werror -Iinclude'
 
 say() { printf 'outside: %s\n' "$*"; }
@@ -95,13 +96,59 @@ for_cargo() {
     [ -z "$emulator" ] || export "CARGO_TARGET_${name}_RUNNER=$emulator"
 }
 
+# alone STANDARD COMPILER WORDS: the header by itself, in this standard.
+alone() {
+    in=-std=$1
+    case $1 in c++*) language=c++ ;; *) language=c ;; esac
+    shift
+    "$@" "$in" -fsyntax-only -Iinclude -x "$language" "$out/alone.c"
+}
+
+# other_machine COMPILER WORDS: for a machine that has no library the header gives one sentence and no other error.
+other_machine() {
+    for standard in $standards; do
+        alone "$standard" "$@" -ffreestanding >"$out/other.txt" 2>&1 && die "the header can be used with $*"
+        case $(grep 'error:' "$out/other.txt" | tr '\n' '|') in
+        *\|?*) die "the header says more than one sentence in $standard with $*: $out/other.txt" ;;
+        *"Leafanchor's library is for"*) ;;
+        *) die "the header's sentence is missing in $standard with $*: $out/other.txt" ;;
+        esac
+    done
+}
+
+# The header in every standard, and for machines of 32 bits or with the greater byte first: by the machine's own
+# compiler, and natively by the kit's, which knows more machines and takes the other's plain headers.
+hold_header() {
+    say "the header in every standard, and where there is no library for it"
+    printf '#include "leafanchor.h"\n' >"$out/alone.c"
+    for standard in $standards; do
+        # shellcheck disable=SC2086
+        alone "$standard" "$cc" $warnings
+    done
+    # shellcheck disable=SC2086
+    "$cc" -std=c99 $warnings -fsyntax-only tools/every_call.c
+    case $machine in
+    x86_64) other_machine "$cc" -m32 ;;
+    aarch64) other_machine "$cc" -mbig-endian ;;
+    esac
+    [ -z "$emulator" ] || return 0
+    clang=$(dirname "$(dirname "$(rt doc)")")/on/$here/toolchain/bin/clang
+    for target in thumbv7em-none-eabi riscv32 wasm32 x86_64-linux-gnux32 powerpc64; do
+        other_machine "$clang" "--target=$target" -nostdinc -isystem "$("$cc" -print-file-name=include)"
+    done
+}
+
+# What the header says of the library: it has no data that could be written, and needs three functions at most.
+hold_library() {
+    "${cc%gcc}nm" "$library" >"$out/names.txt"
+    other=$(awk 'NF > 1 && ($(NF - 1) ~ /[BbCDdGgSs]/ ||
+        $(NF - 1) == "U" && $NF !~ /^(memcpy|memmove|memset|leafanchor_module_[a-z_]+)$/)' "$out/names.txt")
+    [ -z "$other" ] || die "the library has data or needs more than the header says: $other"
+}
+
 hold_c() {
     say "the header, from C and C++"
-    printf '#include "leafanchor.h"\n' >"$out/alone.c"
-    # shellcheck disable=SC2086
-    "$cc" -std=c11 $warnings -fsyntax-only "$out/alone.c"
-    # shellcheck disable=SC2086
-    "$cxx" -std=c++17 $warnings -fsyntax-only -x c++ "$out/alone.c"
+    hold_library
     compile_both layout tools/layout.c
     compile_both every_call tools/every_call.c
     compile_both phrases tools/phrases.c
@@ -218,6 +265,7 @@ for machine in "$@"; do
     [ -f "$library" ] || die "$library is missing: tools/native.sh makes it"
     say "the library for $machine${emulator:+, under $emulator}: ${library#"$PWD"/}"
     for_cargo
+    hold_header
     hold_c
     hold_wrapper
     [ -n "$emulator" ] || hold_build_script

@@ -1,6 +1,6 @@
 /* Measures the greatest stack use of every call: each runs on a painted stack of its own, and the lowest
  * byte that lost its paint tells how deep it went, less the depth of a call that does nothing. Ends with a
- * failure above LIMIT bytes. A part of a frame that no run writes is not seen; the inputs are long, short
+ * failure above LEAFANCHOR_STACK bytes. A part of a frame that no run writes is not seen; the inputs are long, short
  * and refused ones. To be linked with all names bound at the start, or the first call of a C function
  * would count the loader's stack. */
 #define _GNU_SOURCE
@@ -11,7 +11,6 @@
 #include <string.h>
 #include <ucontext.h>
 
-#define LIMIT 8192
 #define STACK (1 << 18)
 #define PAINT 0xA5
 #define INPUTS 5
@@ -29,7 +28,8 @@ static uint8_t packed[LEAFANCHOR_ORDER_BYTES];
 static uint8_t plans[INPUTS][LEAFANCHOR_PLAN_BYTES];
 static size_t plan_bytes[INPUTS];
 static leafanchor_job job_list[LEAFANCHOR_MOST_JOBS];
-static leafanchor_profile held[3];
+static const leafanchor_profile bus_free = {2, {0, 0}};
+static leafanchor_profile long_profile, long_other, made;
 
 /* One call on one of the inputs; it gives the refusal. */
 typedef uint32_t call(size_t input);
@@ -103,14 +103,27 @@ static uint32_t pack_jobs(size_t i)
 }
 static uint32_t profile_of_order(size_t i)
 {
-    return leafanchor_profile_of_order(orders[i], bytes[i], &held[0], work, LEAFANCHOR_WORK_AREA).refusal;
+    return leafanchor_profile_of_order(orders[i], bytes[i], &made, work, LEAFANCHOR_WORK_AREA).refusal;
 }
 static uint32_t profile_extended(size_t i)
 {
-    return leafanchor_profile_extended(&held[0], orders[i], bytes[i], &held[1], work, LEAFANCHOR_WORK_AREA).refusal;
+    return leafanchor_profile_extended(&bus_free, orders[i], bytes[i], &made, work, LEAFANCHOR_WORK_AREA).refusal;
 }
-static uint32_t profile_better(size_t i) { return leafanchor_profile_better(&held[0], &held[i % 2], &held[2]).refusal; }
-static uint32_t profile_lookup(size_t i) { return leafanchor_profile_lookup(&held[i % 3], 500).refusal; }
+static uint32_t extended_in_place(size_t i)
+{
+    made = bus_free;
+    return leafanchor_profile_extended(&made, orders[i], bytes[i], &made, work, LEAFANCHOR_WORK_AREA).refusal;
+}
+static uint32_t profile_better(size_t i)
+{
+    return leafanchor_profile_better(&long_profile, i % 2 == 0 ? &long_other : &bus_free, &made).refusal;
+}
+static uint32_t better_in_place(size_t i)
+{
+    made = long_profile;
+    return leafanchor_profile_better(&made, i % 2 == 0 ? &long_other : &made, &made).refusal;
+}
+static uint32_t profile_lookup(size_t i) { return leafanchor_profile_lookup(&long_profile, 500 * (int32_t)i).refusal; }
 
 static const struct { const char *name; call *run; } calls[] = {
     {"heat_up", heat_up}, {"unpack", unpack}, {"pack", pack}, {"open", open}, {"step", step}, {"lookup", lookup},
@@ -118,7 +131,9 @@ static const struct { const char *name; call *run; } calls[] = {
     {"plan_halves", plan_halves}, {"write_plan", write_plan}, {"legal", legal}, {"best", best},
     {"question", question}, {"question_first", question_first}, {"choose", choose}, {"choose_first", choose_first},
     {"unpack_jobs", unpack_jobs}, {"pack_jobs", pack_jobs}, {"profile_of_order", profile_of_order},
-    {"profile_extended", profile_extended}, {"profile_better", profile_better}, {"profile_lookup", profile_lookup}};
+    {"profile_extended", profile_extended}, {"profile_extended in place", extended_in_place},
+    {"profile_better", profile_better}, {"profile_better in place", better_in_place},
+    {"profile_lookup", profile_lookup}};
 
 /* Ends the program where the system refuses something. */
 static void must(int result, const char *what)
@@ -193,6 +208,9 @@ static void make_inputs(void)
         profile[2 * point + 1] = other[2 * point + 1] = points[point].weight = point;
         other[2 * point] += point % 3;
     }
+    long_profile.numbers_len = long_other.numbers_len = LEAFANCHOR_PROFILE_ROOM;
+    memcpy(long_profile.numbers, profile, sizeof profile);
+    memcpy(long_other.numbers, other, sizeof other);
 }
 
 int main(void)
@@ -206,8 +224,8 @@ int main(void)
         size_t used = deepest(calls[i].run);
         used = used > empty ? used - empty : 0;
         printf("stack of %s: %zu bytes\n", calls[i].name, used);
-        failed |= used > LIMIT;
+        failed |= used > LEAFANCHOR_STACK;
     }
-    puts(failed ? "stack: above the limit" : "stack: every call within 8192 bytes");
+    printf(failed ? "stack: above %d bytes\n" : "stack: every call within %d bytes\n", LEAFANCHOR_STACK);
     return failed;
 }
