@@ -35,8 +35,9 @@
  * refused answer every figure is 0 but the refusal, the place for 6, 7 and 13, the field for 6, and where a reader
  * stands (R26).
  *
- * The work area is lent to the calls that plan. It may hold anything before; its first LEAFANCHOR_WORK_AREA numbers
- * are 0 after every call that has one and passes refusal 10, refused with 11 or not (R29). */
+ * The work area is room that a call is lent for its search. It may hold anything before; its first
+ * LEAFANCHOR_WORK_AREA numbers are 0 after every call that has one and passes refusal 10, refused with 11 or not
+ * (R29). */
 #ifndef LEAFANCHOR_H
 #define LEAFANCHOR_H
 
@@ -433,7 +434,8 @@ leafanchor_open_answer leafanchor_open(const uint8_t *order, size_t order_len);
 LEAFANCHOR_MUST_USE
 leafanchor_step_answer leafanchor_step(const uint8_t *order, size_t order_len, size_t place);
 
-/** Looks a profile up: the weight of its last point at or before t (R15). Refusal 8 gives not found, weight 0.
+/** Looks a profile up: the weight of its last point at or before t (R15). Refusal 8 gives not found, weight 0. The
+ * point's own time stands in the profile; it is the t0 of what comes behind (examples/plan_tail.c).
  * @param profile alternating times and weights
  * @param profile_len how many numbers: twice the points
  * @param t any time

@@ -215,6 +215,27 @@ static void profiles_in_place(void)
     }
 }
 
+/* The order of P1 as a tail: planned from a point's time it keeps what that point, extended by it, says at its last
+ * point, and the bus is free then; where nothing is feasible, there is no point. */
+static void tails(void)
+{
+    static leafanchor_profile point;
+    static uint8_t tail[LEAFANCHOR_ORDER_BYTES];
+    for (int32_t t0 = -700; t0 <= -400; t0 += 5) {
+        size_t bytes = leafanchor_pack(t0, p1, 30, tail, LEAFANCHOR_ORDER_BYTES).bytes;
+        leafanchor_plan_answer plan =
+            leafanchor_plan(tail, bytes, starts, LEAFANCHOR_STARTS, work, LEAFANCHOR_WORK_AREA);
+        point.numbers_len = 2;
+        point.numbers[0] = t0;
+        point.numbers[1] = 7;
+        CHECK(leafanchor_profile_extended(&point, tail, bytes, &point, work, LEAFANCHOR_WORK_AREA).refusal == 0);
+        size_t end = point.numbers_len;
+        CHECK(plan.refusal == (end == 0 ? LEAFANCHOR_NO_FEASIBLE_CHOICE : LEAFANCHOR_NONE));
+        CHECK(end == 0 || (point.numbers[end - 2] == plan.finish &&
+                           point.numbers[end - 1] == 7 + (int32_t)plan.kept_weight));
+    }
+}
+
 /* The rest: a job starts 15 seconds after the finish of the one before it and meets its deadline, which a second
  * less does not. */
 static void rest(void)
@@ -549,6 +570,7 @@ int main(void)
     profiles();
     held_profiles();
     profiles_in_place();
+    tails();
     rest();
     latest();
     plans_of_halves();

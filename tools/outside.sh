@@ -156,6 +156,7 @@ hold_c() {
     compile_both plan_halves examples/plan_halves.c
     compile_both check_plan examples/check_plan.c
     compile_both choose_opening examples/choose_opening.c
+    compile_both plan_tail examples/plan_tail.c
     for made in c11 cxx17; do
         $emulator "$out/every_call.$made"
         $emulator "$out/phrases.$made" <include/phrases.txt
@@ -218,7 +219,6 @@ hold_p1() {
 
 # prints PROGRAM EXPECTED: the program as C and as C++ prints these lines of examples.
 prints() {
-    shown "examples/$2"
     for made in c11 cxx17; do
         $emulator "$out/$1.$made" >"$out/$1.txt"
         cmp "$out/$1.txt" "examples/$2" || die "$1.$made does not print examples/$2"
@@ -226,10 +226,14 @@ prints() {
 }
 
 hold_worked() {
-    say "the worked order of halves, the plans checked and the openings, from C and C++"
+    say "the worked order of halves, the plans checked, the openings and the tail, from C and C++"
     prints plan_halves halves.expected
     prints check_plan check_plan.expected
     prints choose_opening choose_opening.expected
+    prints plan_tail plan_tail.expected
+    for lines in halves check_plan choose_opening; do
+        shown "examples/$lines.expected"
+    done
 }
 
 hold_calls() {
