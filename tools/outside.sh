@@ -199,19 +199,19 @@ hold_build_script() {
     stops none "must be a whole path"
 }
 
-# shown FILE: the README shows every line of an example's output.
+# shown FILE DOCUMENT: the document shows every line of an example's output.
 shown() {
-    [ "$(grep -cxFf "$1" README.md)" = "$(grep -c '' "$1")" ] || die "README.md does not show $1"
+    [ "$(grep -cxFf "$1" "$2")" = "$(grep -c '' "$1")" ] || die "$2 does not show $1"
 }
 
 hold_p1() {
     say "P1 from C, C++ and Rust"
-    shown examples/p1.expected
+    shown examples/p1.expected README.md
     for program in "$out/plan_p1.c11" "$out/plan_p1.cxx17" "$built/examples/plan_p1"; do
         $emulator "$program" <examples/p1.order >"$out/p1.txt"
         cmp "$out/p1.txt" examples/p1.expected || die "$program prints another plan than examples/p1.expected"
     done
-    shown examples/refused.expected
+    shown examples/refused.expected README.md
     for made in c11 cxx17; do
         $emulator "$out/plan_p1.$made" <examples/refused.order >"$out/refused.txt" && die "plan_p1.$made plans examples/refused.order"
         cmp "$out/refused.txt" examples/refused.expected || die "plan_p1.$made does not print examples/refused.expected"
@@ -232,8 +232,8 @@ hold_worked() {
     prints check_plan check_plan.expected
     prints choose_opening choose_opening.expected
     prints plan_tail plan_tail.expected
-    for lines in halves check_plan choose_opening; do
-        shown "examples/$lines.expected"
+    for lines in halves check_plan choose_opening plan_tail; do
+        shown "examples/$lines.expected" docs/EXAMPLES.md
     done
 }
 
