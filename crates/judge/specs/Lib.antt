@@ -1,6 +1,4 @@
 -- The checks of an order: the answer of each call, and what the code's loops say on the way.
 pub mod Verdicts
-pub mod Repeats
-pub mod RepeatLaws
 pub mod Gathering
 pub mod Told

@@ -25,8 +25,8 @@ use Rattle.packed.specs.Steps.{header-judge, jobs-judge}
 use Rattle.fields.specs.Facts.{HeaderRead}
 use Rattle.fields.specs.declared.Header.{Header}
 use Rattle.judge.specs.Verdicts.{verdictOf, AllGiven, Found, foundIn, sumJudged}
-use Rattle.judge.specs.Repeats.{firstAgain}
-use Rattle.judge.specs.RepeatLaws.{repeat-again}
+use Rattle.repeats.specs.Repeats.{firstAgain}
+use Rattle.repeats.specs.RepeatLaws.{repeat-again}
 use Rattle.judge.specs.declared.Gathered.{Gathered}
 use Rattle.judge.specs.declared.Verdict.the-variants.{Fine, Refused}
 

@@ -14,7 +14,7 @@ use Rattle.packed.specs.Packed.{jobCount, fieldsAt, jobsOf}
 use Rattle.packed.specs.Refusals.{fieldsWithin, badField, numberAt, firstBad}
 use Rattle.fields.specs.Fields.{fieldsOf}
 use Rattle.fields.specs.declared.Job.{Job}
-use Rattle.judge.specs.Repeats.{firstAgain}
+use Rattle.repeats.specs.Repeats.{firstAgain}
 use Rattle.judge.specs.declared.Gathered.{Gathered}
 use Rattle.judge.specs.declared.Verdict.{Verdict}
 use Rattle.judge.specs.declared.Verdict.the-variants.{Fine, Refused}

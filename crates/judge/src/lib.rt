@@ -1,14 +1,12 @@
 // The refusals of an order, in packed bytes and in numbers: checks 1 to 7 and 9 of R24, the lowest that
 // applies (R25). Assumes nothing.
 ghost use mathlib.Core.Path.{_≡_};
-ghost use mathlib.Core.Bool.{true};
 ghost use mathlib.Core.List.{_++_};
 ghost use Prim.Native.Nat.{_/_, _≤_};
 ghost use lib.ListN.{length};
 ghost use Rattle.packed.specs.Packed.{numbersOf};
 ghost use Rattle.packed.specs.Judge.{fine, judge, orElse};
 ghost use Rattle.packed.specs.Refusals.{headerChecks, listChecks, jobChecks, weightChecks, numberChecks};
-ghost use Rattle.judge.specs.Repeats.{firstAgain};
 ghost use Rattle.judge.specs.Verdicts.{verdictOf, AllGiven, CanTakeIn, takenIn, notedIn, CanGather, Found};
 ghost use Rattle.judge.specs.Verdicts.{foundIn, sumJudged};
 use fields::Job;
@@ -16,6 +14,7 @@ use packed::Refusal;
 use packed::at_place;
 use packed::in_field;
 use packed::plainly;
+use repeats::repeat_in;
 
 // Not refused; or refused, with what R24 says.
 pub enum Verdict {
@@ -38,53 +37,6 @@ struct Gathered {
 const MOST_JOBS: usize = 48;
 
 const MOST_WEIGHT: u64 = 300;
-
-// Whether it was seen that all numbers differ, by a mark for each number that was met.
-fn all_differ(numbers: &[u8]) -> bool
-    ensures { λ r. ⌜ (r ≡ true → firstAgain (now (numbers .entry)) ≡ length (now (numbers .entry))) ⌝ }
-{
-    let mut met = [0u8; 256];
-    let mut k = 0;
-    while k < numbers.len() {
-        let number = numbers[k] as usize;
-        if met[number] == 1 {
-            return false;
-        }
-        met[number] = 1;
-        k += 1;
-    }
-    true
-}
-
-// The first place whose number stood earlier in the list; its length if there is none.
-fn first_repeat(numbers: &[u8]) -> usize
-    ensures { λ r. ⌜ r ≡ firstAgain (now (numbers .entry)) ⌝ }
-{
-    let mut found = numbers.len();
-    let mut later = 0;
-    'pairs: while later < numbers.len() {
-        let mut earlier = 0;
-        while earlier < later {
-            if numbers[earlier] == numbers[later] {
-                found = later;
-                break 'pairs;
-            }
-            earlier += 1;
-        }
-        later += 1;
-    }
-    found
-}
-
-// The same, without a search over pairs where all numbers differ, as in every order that is accepted.
-fn repeat_in(numbers: &[u8]) -> usize
-    ensures { λ r. ⌜ r ≡ firstAgain (now (numbers .entry)) ⌝ }
-{
-    if all_differ(numbers) {
-        return numbers.len();
-    }
-    first_repeat(numbers)
-}
 
 // Checks 1 to 5 on bytes.
 pub fn judge_header(bytes: &[u8]) -> Verdict

@@ -6,7 +6,7 @@ use lib.ListN.{take}
 use lib.Seq.{length-take-le}
 use borrow.Author.Needs.{needs}
 use borrow.Author.Tests.{lt-ltb, le-ltb}
-use Rattle.judge.specs.Repeats.{firstAgain}
+use Rattle.repeats.specs.Repeats.{firstAgain}
 use Rattle.judge.proofs.judge_found.Statement.{statement}
 use Rattle.judge.proofs.judge_found.Tie as tie
 

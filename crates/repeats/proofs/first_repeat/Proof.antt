@@ -1,4 +1,4 @@
--- `judge::first_repeat` meets its contract. The outer loop's invariant: nothing is found yet, and the search is the search from
+-- `repeats::first_repeat` meets its contract. The outer loop's invariant: nothing is found yet, and the search is the search from
 -- here on; the inner loop's says the same of the search among the earlier places.
 -- Assumes nothing.
 use mathlib.Core.Path.{_≡_, refl, sym, _∙_}
@@ -8,10 +8,10 @@ use denote.Ref.{now}
 use lib.ListN.{length}
 use Rattle.packed.specs.Places.{first}
 use Rattle.packed.specs.PlacesLaws.{first-end}
-use Rattle.judge.specs.Repeats.{alike, stoodEarlier, firstAgain}
-use Rattle.judge.specs.RepeatLaws.{again-from-0, alike-on, again-here, again-on}
-use Rattle.judge.proofs.first_repeat.Statement.{statement}
-use Rattle.judge.proofs.first_repeat.Tie as tie
+use Rattle.repeats.specs.Repeats.{alike, stoodEarlier, firstAgain}
+use Rattle.repeats.specs.RepeatLaws.{again-from-0, alike-on, again-here, again-on}
+use Rattle.repeats.proofs.first_repeat.Statement.{statement}
+use Rattle.repeats.proofs.first_repeat.Tie as tie
 
 abbrev Inv-loop : tie.InvT-loop
 Inv-loop numbers found₀ later earlier₀ found earlier =

@@ -1,9 +1,9 @@
--- `judge::repeat_in` meets its contract: where all numbers differ the answer is known, else it is searched for.
+-- `repeats::repeat_in` meets its contract: where all numbers differ the answer is known, else it is searched for.
 -- Assumes nothing.
 use mathlib.Core.Path.{sym}
 use borrow.Author.Needs.{needs}
-use Rattle.judge.proofs.repeat_in.Statement.{statement}
-use Rattle.judge.proofs.repeat_in.Tie as tie
+use Rattle.repeats.proofs.repeat_in.Statement.{statement}
+use Rattle.repeats.proofs.repeat_in.Tie as tie
 
 all-differ-requires : tie.Need-all-differ-requires
 all-differ-requires c κs = search needs

@@ -1,4 +1,4 @@
--- `judge::all_differ` meets its contract. The invariant: what was met has a mark, and the search is the search from here on.
+-- `repeats::all_differ` meets its contract. The invariant: what was met has a mark, and the search is the search from here on.
 -- Assumes nothing.
 use mathlib.Core.Path.{_≡_, refl, sym, _∙_}
 use mathlib.Core.Bool.{true≢false}
@@ -8,10 +8,10 @@ use denote.Ref.{now}
 use lib.ListN.{length, getD, length-set}
 use Rattle.packed.specs.Places.{first}
 use Rattle.packed.specs.PlacesLaws.{first-end}
-use Rattle.judge.specs.Repeats.{stoodEarlier, firstAgain}
-use Rattle.judge.specs.RepeatLaws.{again-from-0, Marked, marked-more, unmarked-on}
-use Rattle.judge.proofs.all_differ.Statement.{statement}
-use Rattle.judge.proofs.all_differ.Tie as tie
+use Rattle.repeats.specs.Repeats.{stoodEarlier, firstAgain}
+use Rattle.repeats.specs.RepeatLaws.{again-from-0, Marked, marked-more, unmarked-on}
+use Rattle.repeats.proofs.all_differ.Statement.{statement}
+use Rattle.repeats.proofs.all_differ.Tie as tie
 
 abbrev Inv-loop : tie.InvT-loop
 Inv-loop numbers met₀ k₀ met k =

@@ -17,7 +17,7 @@ use Rattle.packed.specs.PlacesLaws.{IsFirst, first-is, first-unique, first-on, 
 use Rattle.packed.specs.Packed.{jobCount}
 use Rattle.packed.specs.Refusals.{numberAt, same, sameAt, repeatedAt, firstRepeat}
 use Rattle.packed.specs.RefusalLaws.{same-yes, same-no}
-use Rattle.judge.specs.Repeats.{alike, stoodEarlier, firstAgain}
+use Rattle.repeats.specs.Repeats.{alike, stoodEarlier, firstAgain}
 
 -- ---- the steps
 
