@@ -250,6 +250,28 @@ part-on bs at i h =
     let e : i + 1 ≡ suc i = omega arith in
     rw (e, take-suc (drop at bs) i 0 (rw length-drop (omega arith)), numberOf-snoc, getD-drop)
 
+-- ---- P1's header and first record, both ways
+
+-- Five jobs, the bus free at -600.
+pub p1-header : decode headerLayout (numberOf (0x17 ∷ 0xFD ∷ 0xA8 ∷ 0x00 ∷ [])) ≡ pos 5 ∷ negsuc 599 ∷ pos 0 ∷ []
+unfolding decode numberOf bitsTo
+p1-header = refl
+
+pub p1-header-bytes : bytesOf 4 (encode headerLayout (pos 5 ∷ negsuc 599 ∷ pos 0 ∷ [])) ≡ 0x17 ∷ 0xFD ∷ 0xA8 ∷ 0x00 ∷ []
+unfolding encode bytesOf toBits
+p1-header-bytes = refl
+
+-- Number 7, critical, ready at -600, length 495, deadline 0.
+pub p1-job : decode jobLayout (numberOf (0x1E ∷ 0x03 ∷ 0xFD ∷ 0xA8 ∷ 0x07 ∷ 0xBC ∷ 0x00 ∷ 0x00 ∷ []))
+    ≡ pos 7 ∷ pos 1 ∷ pos 0 ∷ negsuc 599 ∷ pos 495 ∷ pos 0 ∷ []
+unfolding decode numberOf bitsTo
+p1-job = refl
+
+pub p1-job-bytes : bytesOf 8 (encode jobLayout (pos 7 ∷ pos 1 ∷ pos 0 ∷ negsuc 599 ∷ pos 495 ∷ pos 0 ∷ []))
+    ≡ 0x1E ∷ 0x03 ∷ 0xFD ∷ 0xA8 ∷ 0x07 ∷ 0xBC ∷ 0x00 ∷ 0x00 ∷ []
+unfolding encode bytesOf toBits
+p1-job-bytes = refl
+
 -- ---- the header and the job, written out
 
 -- What a header's number says.
@@ -275,25 +297,3 @@ pub job-encode : (zs : List ℤ) → encode jobLayout zs
 job-encode zs =
     rw (encode-cons zs 0, encode-cons zs 1, encode-cons zs 2, encode-cons zs 3, encode-cons zs 4, encode-cons zs 5)
     (unfold encode in omega arith)
-
--- ---- P1's header and first record, both ways
-
--- Five jobs, the bus free at -600.
-pub p1-header : decode headerLayout (numberOf (0x17 ∷ 0xFD ∷ 0xA8 ∷ 0x00 ∷ [])) ≡ pos 5 ∷ negsuc 599 ∷ pos 0 ∷ []
-unfolding decode numberOf bitsTo
-p1-header = refl
-
-pub p1-header-bytes : bytesOf 4 (encode headerLayout (pos 5 ∷ negsuc 599 ∷ pos 0 ∷ [])) ≡ 0x17 ∷ 0xFD ∷ 0xA8 ∷ 0x00 ∷ []
-unfolding encode bytesOf toBits
-p1-header-bytes = refl
-
--- Number 7, critical, ready at -600, length 495, deadline 0.
-pub p1-job : decode jobLayout (numberOf (0x1E ∷ 0x03 ∷ 0xFD ∷ 0xA8 ∷ 0x07 ∷ 0xBC ∷ 0x00 ∷ 0x00 ∷ []))
-    ≡ pos 7 ∷ pos 1 ∷ pos 0 ∷ negsuc 599 ∷ pos 495 ∷ pos 0 ∷ []
-unfolding decode numberOf bitsTo
-p1-job = refl
-
-pub p1-job-bytes : bytesOf 8 (encode jobLayout (pos 7 ∷ pos 1 ∷ pos 0 ∷ negsuc 599 ∷ pos 495 ∷ pos 0 ∷ []))
-    ≡ 0x1E ∷ 0x03 ∷ 0xFD ∷ 0xA8 ∷ 0x07 ∷ 0xBC ∷ 0x00 ∷ 0x00 ∷ []
-unfolding encode bytesOf toBits
-p1-job-bytes = refl
