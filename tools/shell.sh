@@ -83,9 +83,10 @@ PATH=$room/bin:$PATH
 # checkout NAME: a checkout of its own that is not built. The program is made of three of its four crates.
 checkout() {
     here=$room/$1/stand
-    mkdir -p "$here/include"
+    mkdir -p "$here/include" "$here/.ci"
     cp "$root/leafanchor" "$here/leafanchor"
-    cp "$root/include/leafanchor.h" "$here/include/leafanchor.h"
+    cp "$root/include/leafanchor.h" "$root/include/phrases.txt" "$here/include"
+    cp "$root/.ci/run" "$here/.ci"
     printf '# crates\nfirst:\nsecond: first io\nplan_order: second libc # the program\nother: first\n' >"$here/crates.txt"
     for crate in first second plan_order other; do
         mkdir -p "$here/crates/$crate/src" "$here/crates/$crate/must-fail"
@@ -148,7 +149,23 @@ cp "$room/p1" "$here/-x"
 cd "$here" && try ./leafanchor plan ./-x
 gives "a file whose name begins with -" 0 "$p1" ''
 try ./leafanchor plan -x
-gives "an option that there is not" 2 '' "leafanchor: plan has no option '-x' (the file of that name is ./-x)"
+gives "an option that plan has not" 2 '' "leafanchor: plan has no option '-x' (the file of that name is ./-x, or -x behind --)"
+for words in '-- -x' '-- ./-x'; do
+    # shellcheck disable=SC2086
+    try ./leafanchor plan $words
+    gives "plan $words" 0 "$p1" ''
+done
+for words in '--' '-- -' '- --'; do
+    # shellcheck disable=SC2086
+    try ./leafanchor plan $words <"$room/p1"
+    gives "plan $words: standard input" 0 "$p1" ''
+done
+try ./leafanchor -- plan -x
+gives "-- before the command: what is behind plan is its own" 2 '' "leafanchor: plan has no option '-x' *"
+try ./leafanchor plan ./-x --fast
+gives "an option behind the file" 2 '' "leafanchor: plan has no option '--fast' *"
+try ./leafanchor plan -- -x --fast
+gives "two files behind --" 2 '' "leafanchor: 'plan' takes one file at most: *"
 cd "$room/tmp" && try ../plans/stand/leafanchor plan ../p1
 gives "from another directory" 0 "$p1" ''
 ln -s "$here/leafanchor" "$room/links/far"
@@ -188,7 +205,7 @@ gives "a file, with standard input closed" 0 "$p1" ''
 
 # ---- other words
 
-for word in --help -h help 'plan --help' 'plan -h'; do
+for word in --help -h help 'plan --help' 'plan -h' 'plan p1 --help' 'test --help' '-- help'; do
     # shellcheck disable=SC2086
     try "$leafanchor" $word
     holds "$word" '[ "$status" = 0 ] && [ ! -s "$err" ] && grep -q "^usage: ./leafanchor plan \[FILE\]" "$out" && grep -q "^Status: 0 planned; 1 refused; 2 " "$out"'
@@ -197,54 +214,89 @@ try "$leafanchor"
 gives "no word" 2 '' 'usage: *'
 try "$leafanchor" fly
 gives "a command that there is not" 2 '' "leafanchor: there is no command 'fly': *"
-for word in 'help me' 'test me' '--version 2'; do
+try "$leafanchor" -
+gives "- is no command" 2 '' "leafanchor: there is no command '-': *"
+for word in --frobnicate -x; do
+    try "$leafanchor" "$word"
+    gives "an option that there is not: $word" 2 '' "leafanchor: there is no option '$word': *"
+    try "$leafanchor" test "$word"
+    gives "nor has test one: $word" 2 '' "leafanchor: test has no option '$word': *"
+    try "$leafanchor" -- "$word"
+    gives "behind -- it is a command that there is not: $word" 2 '' "leafanchor: there is no command '$word': *"
+done
+for word in 'help me' 'test me' '--version 2' '-V 2'; do
     # shellcheck disable=SC2086
     try "$leafanchor" $word
     gives "$word" 2 '' "leafanchor: '${word% *}' takes no more words: *"
 done
 version=$(sed -n 's/^version = "\(.*\)"/\1/p' "$root/rust/leafanchor/Cargo.toml")
-try "$leafanchor" --version
-gives "--version: ours as the Rust crate has it, and the kit's" 0 "leafanchor $version
+for word in --version -V; do
+    try "$leafanchor" "$word"
+    gives "$word: ours as the Rust crate has it, and the kit's" 0 "leafanchor $version
 $("$real_rt" version)" ''
+done
+
+# ---- the script without its checkout
+
+mkdir alone
+cp "$root/leafanchor" alone/leafanchor
+for word in 'plan p1' test --version -V; do
+    # shellcheck disable=SC2086
+    try alone/leafanchor $word
+    gives "a copy of the script alone: $word" 3 '' "leafanchor: this script is without its checkout: there is no $room/alone/crates.txt (*)"
+done
+try alone/leafanchor --help
+holds "a copy of the script alone: --help" '[ "$status" = 0 ] && [ ! -s "$err" ] && grep -q "^usage: " "$out"'
 
 # ---- refusals: the line as it is, the status and a phrase
 
-# refused NAME LINE PHRASE: the order in the file 'order'.
+# listed NUMBER [PLACE FIELD]: what include/phrases.txt has for a refusal; behind its bar, where the figures are given.
+list=$root/include/phrases.txt
+listed() {
+    line=$(sed -n "s/^$1 //p" "$list")
+    [ $# = 1 ] || line=$(printf '%s' "${line#* | }" | sed "s/{place}/$2/; s/{field}/$(sed -n "s/^field $3 //p" "$list")/")
+    printf '%s' "${line%% | *}"
+}
+
+# refused NAME NUMBER [PLACE FIELD]: the order in the file 'order', with the list's phrase; none of these is text.
 machine=$room/bin
 refused() {
+    name=$1
+    shift
     try env PATH="$machine:$PATH" "$leafanchor" plan order
-    gives "refused: $1" 1 "$2" "leafanchor: refusal ${2%% *}: $3"
+    gives "refused: $name" 1 "$1 ${2-0} ${3-0}" "leafanchor: refusal $1: $(listed "$@")"
 }
-printf abc >order
-refused "three bytes" '1 0 0' 'the packed order is under 4 bytes'
+printf '\001\002\003' >order
+refused "three bytes" 1
 : >order
-refused "no bytes" '1 0 0' 'the packed order is under 4 bytes'
+refused "no bytes" 1
 octets 4 1 >order
-refused "a spare bit" '2 0 0' "the header's spare bits are not zero"
+refused "a spare bit" 2
 header 49 0 >order
-refused "49 jobs" '3 0 0' 'there are more than 48 jobs'
+refused "49 jobs" 3
 header 1 0 >order
-refused "a job missing" '4 0 0' 'the length does not fit the number of jobs: 4 bytes and 8 for each'
+refused "a job missing" 4
 header 0 100001 >order
-refused "a bus-free time of 100,001" '5 0 0' 'the bus-free time is out of range'
+refused "a bus-free time of 100,001" 5
 cp refused order
-refused "the README's, with a length of 10,001" '6 2 5' 'job at place 2: length out of range'
+refused "the README's, with a length of 10,001" 6 2 5
+holds "with the words that the README shows" '[ "$(cat "$out") $(sed "s/^leafanchor: refusal 6: //" "$err")" = "$(cat "$root/examples/refused.expected")" ]'
 { header 2 0 && job 1 0 1 10 10 && job 2 0 51 0 10; } >order
-refused "a weight of 51, and a length of 0" '6 1 3' 'job at place 1: weight out of range'
+refused "a weight of 51, and a length of 0" 6 1 3
 { header 2 0 && job 1 0 1 10 10 && job 2 1 1 10 10; } >order
-refused "a critical job of weight 1" '6 1 3' 'job at place 1: weight out of range'
+refused "a critical job of weight 1" 6 1 3
 { header 2 0 && job 1 0 1 10 10 && job 2 0 1 10 10 -100001; } >order
-refused "a ready time of -100,001" '6 1 4' 'job at place 1: ready time out of range'
+refused "a ready time of -100,001" 6 1 4
 { header 2 0 && job 1 0 1 10 10 && job 2 0 1 0 10; } >order
-refused "a length of 0" '6 1 5' 'job at place 1: length out of range'
+refused "a length of 0" 6 1 5
 { header 3 0 && job 1 0 1 10 10 && job 2 0 1 10 100001 && job 3 0 0 10 10; } >order
-refused "a deadline of 100,001 before a weight of 0" '6 1 6' 'job at place 1: deadline out of range'
+refused "a deadline of 100,001 before a weight of 0" 6 1 6
 { header 4 0 && job 4 0 1 10 10 && job 9 0 1 10 10 && job 4 0 1 10 10 && job 9 0 1 10 10; } >order
-refused "numbers 4, 9, 4, 9" '7 2 0' 'the job at place 2 repeats a number'
+refused "numbers 4, 9, 4, 9" 7 2 0
 { header 7 0 && for number in 1 2 3 4 5 6; do job "$number" 0 50 10 10; done && job 7 0 1 10 10; } >order
-refused "weights of 301" '9 0 0' 'the weights sum to more than 300'
+refused "weights of 301" 9
 { header 1 0 && job 0 1 0 10 9; } >order
-refused "a critical job with no time" '11 0 0' 'no choice of jobs keeps every critical job and meets every deadline'
+refused "a critical job with no time" 11
 { header 1 0 && job 0 0 10 10 9; } >order
 try "$leafanchor" plan order
 gives "not refused: the same job, not critical" 0 '0 0 0 0 10 0 1
@@ -270,7 +322,7 @@ gives "not refused: no jobs" 0 '0 0 0 0 0 -100000 0' ''
 try "$leafanchor" plan order
 holds "not refused: 388 bytes" '[ "$status" = 0 ] && [ "$(head -n 1 "$out")" = "0 0 0 0 48 0 48" ] && [ "$(wc -l <"$out")" = 49 ]'
 echo >>order
-refused "389 bytes" '4 0 0' 'the length does not fit *'
+refused "389 bytes" 4
 endless() { timeout 10 "$leafanchor" plan </dev/zero; }
 try endless
 gives "an endless input is not read to its end" 1 '4 0 0' 'leafanchor: refusal 4: *'
@@ -278,22 +330,82 @@ endless_pipe() { { cat p1 && yes; } | timeout 10 "$leafanchor" plan; }
 try endless_pipe
 gives "an endless pipe is not read to its end" 1 '4 0 0' 'leafanchor: refusal 4: *'
 
+# ---- text instead of a packed order
+
+# text NAME NUMBER: the file 'order' is refused, and it is said that it is text.
+text() {
+    try "$leafanchor" plan order
+    gives "text: $1" 1 "$2 0 0" "leafanchor: refusal $2: $(listed "$2")
+leafanchor: the input is text and not a packed order: *(docs/RULES.md, R21)*"
+}
+# bytes NAME NUMBER: it is refused, and nothing is said of text.
+bytes() {
+    try "$leafanchor" plan order
+    gives "no text: $1" 1 "$2 0 0" "leafanchor: refusal $2: $(listed "$2")"
+}
+printf '7\tcritical\t-600\t495\t0\r\n' >order
+text "a table" 2
+od -A n -t x1 p1 >order
+text "an order's bytes as figures" 2
+printf 'abc' >order
+text "three letters" 1
+printf 'Pr\303\274fung \342\200\223 \360\237\232\226\n' >order
+text "UTF-8 of two, three and four bytes" 2
+{ header 1 0 && job 1 1 0 10 10; } | base64 >order
+text "an order in base64" 2
+yes 'é' | head -c 389 >order
+text "a character cut at 389 bytes" 2
+yes 'a table' | head -c 2000 >order
+text "2,000 bytes" 2
+printf 'abcd\177\n' >order
+bytes "a byte 7F" 2
+printf 'abc\033[1m' >order
+bytes "an escape" 2
+printf 'abc\377' >order
+bytes "a byte that UTF-8 has not" 2
+printf 'abc\303(' >order
+bytes "a character of UTF-8 broken off" 2
+printf 'abc\274' >order
+bytes "a character of UTF-8 without its beginning" 2
+piped_text() { printf 'job 7 critical\n' | "$leafanchor" plan; }
+try piped_text
+gives "text, piped" 1 '2 0 0' "leafanchor: refusal 2: *
+leafanchor: the input is text and not a packed order: *"
+
+# ---- every phrase of the list
+
 # Stand-ins for the program are for every machine, so the machine calls itself x86-64 here.
 machine=$room/x86-64
 mkdir "$machine"
 printf '#!/bin/sh\necho x86_64\n' >"$machine/uname"
 chmod 755 "$machine/uname"
 built_checkout stand_ins
-program 'echo 10 0 0'
 cp p1 order
 leafanchor=$here/leafanchor
-refused "a buffer too short" '10 0 0' 'a buffer is too short'
-program 'echo 6 2 1'
-refused "a number out of range" '6 2 1' 'job at place 2: number out of range'
-program 'echo 6 2 2'
-refused "a critical mark out of range" '6 2 2' 'job at place 2: critical mark out of range'
+numbers=$(sed -n 's/^\([0-9][0-9]*\) .*/\1/p' "$list" | tr '\n' ' ')
+holds "the list has every refusal, 1 to 15" '[ "$numbers" = "1 2 3 4 5 6 7 8 9 10 11 12 13 14 15 " ]'
+for number in $numbers; do
+    set -- "$number"
+    ! grep -q "^$number .* | " "$list" || set -- "$number" 47 3
+    program "echo $1 ${2-0} ${3-0}"
+    refused "number $number of the list${2+, with a place}" "$@"
+done
+fields=$(sed -n 's/^field \([0-9]*\) .*/\1/p' "$list" | tr '\n' ' ')
+holds "the list has every field, 1 to 6" '[ "$fields" = "1 2 3 4 5 6 " ]'
+for number in $fields; do
+    program "echo 6 0 $number"
+    refused "field $number of the list" 6 0 "$number"
+done
 program 'echo 6 2 9'
-refused "a field with no name" '6 2 9' 'job at place 2: a field out of range'
+try env PATH="$machine:$PATH" "$leafanchor" plan order
+gives "a field with no name: no place is told" 1 '6 2 9' "leafanchor: refusal 6: $(listed 6)"
+program 'echo 16 0 0'
+try env PATH="$machine:$PATH" "$leafanchor" plan order
+gives "a number that the list has not" 1 '16 0 0' "leafanchor: refusal 16: there is no phrase for it"
+program 'echo 0 0 0 0 0 7 0'
+printf 'text' >order
+try env PATH="$machine:$PATH" "$leafanchor" plan order
+gives "what is accepted is not called text, whatever its bytes" 0 '0 0 0 0 0 7 0' ''
 program 'exit 5'
 try env PATH="$machine:$PATH" "$leafanchor" plan p1
 gives "a program that fails" 3 '' "leafanchor: the program $here/target/bin/plan_order cannot be run here: it ended with status 5"
@@ -343,6 +455,7 @@ holds "at a terminal, with a file, it waits for nothing" '[ "$status" = 0 ] && [
 
 # ---- building
 
+waiting='leafanchor: another build of this checkout is under way: waiting for it'
 checkout first_use
 mood wait
 "$here/leafanchor" plan p1 >"$out" 2>"$err" &
@@ -406,7 +519,7 @@ soon 'grep -q waiting "$err"'
 touch "$here/../go"
 wait "$two"
 status=$?
-gives "a second build waits for the first, and then has nothing to do" 0 "$p1" "leafanchor: another build of this checkout is under way: waiting for it"
+gives "a second build waits for the first, and then has nothing to do" 0 "$p1" "$waiting"
 wait "$one"
 holds "there was one build, and both planned" '[ "$(builds)" = 1 ] && [ "$(tail -n 6 "$room/written")" = "$p1" ]'
 
@@ -429,7 +542,7 @@ soon 'grep -q waiting "$err"'
 touch "$here/../go"
 wait "$two"
 status=$?
-gives "killed, it leaves its build to end, and the next waits for that" 0 "$p1" "leafanchor: another build *: waiting for it"
+gives "killed, it leaves its build to end, and the next waits for that" 0 "$p1" "$waiting"
 
 # Whether rt and all that it started have ended: they hold the lock.
 rt_ended() {
