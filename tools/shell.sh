@@ -1,6 +1,7 @@
 #!/bin/sh
-# Tries the shell's command, ./leafanchor, sentence by sentence: its output, what it says and its status. Plans are made by the
-# program as built. Builds go through a stand-in for rt over a checkout of three crates, so that they take a second or two.
+# Tries the shell's command, ./leafanchor, and the gate's place, .ci/run, sentence by sentence: output, what is said and the
+# status. Plans are made by the program as built. Builds and gates go through a stand-in for rt over a checkout of three
+# crates, so that they take a second or two.
 # A line for each case; ends with 0 if every one is as it should be.
 # shellcheck disable=SC2016,SC2034
 set -u
@@ -65,27 +66,42 @@ mkdir "$room/bin" "$room/tmp" "$room/tools" "$room/links"
 chmod 1777 "$room/tmp"
 export TMPDIR="$room/tmp"
 
-# Counts its builds in the folder above the checkout; what the file 'mood' there says comes after the first crate.
+# Notes when it begins and ends in the file 'builds' above the checkout; what the file 'mood' there says comes after the first
+# crate. As rt does, it begins a gate by removing target/.
 cat >"$room/bin/rt" <<END
 #!/bin/sh
-[ "\$1" = check ] || exec "$real_rt" "\$@"
-echo "\$*" >>../builds
-echo 'rt: first proved (1 s)'
-[ ! -f ../mood ] || . ../mood
+case \$1 in
+check | ci) ;;
+fmt) exit ;;
+*) exec "$real_rt" "\$@" ;;
+esac
+echo "\$*" >>"\$ABOVE/builds"
+if [ "\$1" = ci ]; then
+    rm -rf target
+    mkdir -p target/stamp target/log
+    find . ! -type d ! -path './.ci/log/*' | sort >"\$ABOVE/files"
+    ls -d .git >>"\$ABOVE/files" 2>/dev/null
+fi
+echo 'rt: first proved (1 s)' | tee target/log/first.out
+[ ! -f "\$ABOVE/mood" ] || . "\$ABOVE/mood"
 echo 'rt: second proved (unchanged since it was last proved)'
 echo 'rt: plan_order proved (2 s)'
 [ -f target/bin/plan_order ] || { mkdir -p target/bin && cp "$built" target/bin/plan_order; }
 echo "rt: plan_order ran, and wrote what its file 'stdout' has (0 s)"
+echo ended >>"\$ABOVE/builds"
+[ "\$1" = check ] || echo '3 passed, 0 failed'
 END
 chmod 755 "$room/bin/rt"
 PATH=$room/bin:$PATH
 
 # checkout NAME: a checkout of its own that is not built. The program is made of three of its four crates.
 checkout() {
-    here=$room/$1/stand
-    mkdir -p "$here/include" "$here/.ci"
+    export ABOVE="$room/$1"
+    here=$ABOVE/stand
+    mkdir -p "$here/include" "$here/tools" "$here/.ci"
     cp "$root/leafanchor" "$here/leafanchor"
     cp "$root/include/leafanchor.h" "$root/include/phrases.txt" "$here/include"
+    cp "$root/tools/build_lock.sh" "$here/tools"
     cp "$root/.ci/run" "$here/.ci"
     printf '# crates\nfirst:\nsecond: first io\nplan_order: second libc # the program\nother: first\n' >"$here/crates.txt"
     for crate in first second plan_order other; do
@@ -99,7 +115,7 @@ built_checkout() {
     mkdir -p "$here/target/bin"
     cp "$built" "$here/target/bin/plan_order"
 }
-builds() { if [ -f "$here/../builds" ]; then wc -l <"$here/../builds"; else echo 0; fi; }
+builds() { grep -c '^check' "$ABOVE/builds" 2>/dev/null; }
 
 # soon CONDITION: waits for it, ten seconds at most.
 soon() {
@@ -112,11 +128,11 @@ soon() {
 
 # mood WORDS: what rt does after the first crate of the next builds. 'wait' is up to the file 'go' beside the checkout.
 mood() {
-    rm -f "$here/../go"
+    rm -f "$ABOVE/go"
     case $1 in
-    wait) echo 'n=0; until [ -f ../go ] || [ "$n" = 100 ]; do n=$((n + 1)); sleep 0.1; done' ;;
+    wait) echo 'n=0; until [ -f "$ABOVE/go" ] || [ "$n" = 100 ]; do n=$((n + 1)); sleep 0.1; done' ;;
     *) echo "$1" ;;
-    esac >"$here/../mood"
+    esac >"$ABOVE/mood"
 }
 
 # program TEXT: the program of this checkout does this.
@@ -455,12 +471,12 @@ holds "at a terminal, with a file, it waits for nothing" '[ "$status" = 0 ] && [
 
 # ---- building
 
-waiting='leafanchor: another build of this checkout is under way: waiting for it'
+waiting='leafanchor: a build or the tests of this checkout are under way: waiting for their end'
 checkout first_use
 mood wait
 "$here/leafanchor" plan p1 >"$out" 2>"$err" &
 soon 'grep -q "crate 1" "$err"'
-touch "$here/../go"
+touch "$ABOVE/go"
 wait "$!"
 status=$?
 gives "the first use builds, with a line of progress for each step" 0 "$p1" 'leafanchor: building the program: *
@@ -482,14 +498,14 @@ holds "a source that is gone does" '[ "$status" = 0 ] && [ "$(builds)" = 3 ]'
 mood 'sleep 0.1; touch crates/first/src/lib.rt'
 touch "$here/crates.txt"
 try "$here/leafanchor" plan p1
-rm "$here/../mood"
+rm "$ABOVE/mood"
 try "$here/leafanchor" plan p1
 holds "what is edited during a build is built again" '[ "$status" = 0 ] && [ "$(builds)" = 5 ]'
 
 checkout at_terminal
 mood wait
 renewed() { tr '\r' '\n' <"$out" | grep -c "^leafanchor: building: crate $1 of 3, [0-9]* s$"; }
-{ soon '[ "$(renewed 1)" -ge 2 ]' && touch "$here/../go"; } &
+{ soon '[ "$(renewed 1)" -ge 2 ]' && touch "$ABOVE/go"; } &
 at_terminal "$here/leafanchor plan p1 >$room/written"
 holds "at a terminal the progress is one line that renews itself" '[ "$status" = 0 ] && [ "$(cat "$room/written")" = "$p1" ] &&
     [ "$(renewed 1)" -ge 2 ] && [ "$(renewed 3)" = 1 ] && [ "$(wc -l <"$out")" = 3 ]'
@@ -516,7 +532,7 @@ soon '[ "$(builds)" = 1 ]'
 "$here/leafanchor" plan p1 >"$out" 2>"$err" &
 two=$!
 soon 'grep -q waiting "$err"'
-touch "$here/../go"
+touch "$ABOVE/go"
 wait "$two"
 status=$?
 gives "a second build waits for the first, and then has nothing to do" 0 "$p1" "$waiting"
@@ -539,7 +555,7 @@ wait "$one" 2>/dev/null
 "$here/leafanchor" plan p1 >"$out" 2>"$err" &
 two=$!
 soon 'grep -q waiting "$err"'
-touch "$here/../go"
+touch "$ABOVE/go"
 wait "$two"
 status=$?
 gives "killed, it leaves its build to end, and the next waits for that" 0 "$p1" "$waiting"
@@ -561,9 +577,131 @@ holds "ended by a signal it ends its build too" '[ "$status" = 143 ] && rt_ended
 interrupted() { { soon '[ "$(builds)" = 2 ]' && printf '\003'; } | timeout 60 script -qec "$here/leafanchor plan p1" /dev/null; }
 try interrupted
 holds "and so it is with Ctrl-C" '[ "$status" = 130 ] && rt_ended'
-rm "$here/../mood"
+rm "$ABOVE/mood"
 try "$here/leafanchor" plan p1
 holds "the next build waits for nothing" '[ "$status" = 0 ] && ! grep -q waiting "$err"'
+
+# ---- the gate, and plans beside it
+
+# gate_checkout NAME: a checkout of its own whose gate has stand-ins for its tools. That for cargo's part counts its turns.
+gate_checkout() {
+    checkout "$1"
+    mkdir -p "$here/rust/src" "$here/rust/target" "$here/crates/first/target" "$here/.git" "$here/target/old"
+    touch "$here/rust/src/lib.rs" "$here/rust/target/lib" "$here/crates/first/target/kept" "$here/.git/HEAD" "$here/.hidden"
+    cp "$root/tools/timed" "$here/tools"
+    cp "$root/.ci/steps" "$here/.ci"
+    for tool in unused definitions.py stored shell.sh native.sh outside.sh; do
+        printf '#!/bin/sh\necho "%s $*"\n' "$tool" >"$here/tools/$tool"
+        chmod 755 "$here/tools/$tool"
+    done
+    echo "sh -c 'kill -s INT \$\$; echo INT is not heard'; true" >>"$here/tools/stored"
+    echo 'mkdir -p target/native && echo a library >target/native/libleafanchor.a' >>"$here/tools/native.sh"
+    echo '[ "${1-}" = tools ] || echo a turn >>rust/target/turns' >>"$here/tools/outside.sh"
+    (cd "$here" && find . ! -type d ! -path './.git/*' ! -path './target/*' ! -path './rust/target/*' && echo ./rust/target) | sort >"$ABOVE/wanted"
+    echo .git >>"$ABOVE/wanted"
+}
+# begin_gate: runs a gate beside us, up to rt's first crate at least; what it wrote and said is in gate.out and gate.err.
+begin_gate() {
+    rm -f "$room/gate.out"
+    "$here/leafanchor" test >"$room/gate.out" 2>"$room/gate.err" &
+    gate=$!
+    soon 'grep -q first "$room/gate.out" 2>/dev/null'
+}
+# state: the program and everything else of target/ that is the checkout's own, with the times.
+state() { (cd "$here/target" && find . ! -path './gate*' ! -path './build.lock' ! -path . -printf '%p %i %T@\n' | sort); }
+
+gate_checkout passing_gate
+mood wait
+begin_gate
+"$here/leafanchor" plan p1 >"$out" 2>"$err" &
+two=$!
+soon 'grep -q waiting "$err"'
+touch "$ABOVE/go"
+wait "$two"
+status=$?
+gives "a plan that must build waits for the tests, and then has nothing to build" 0 "$p1" "$waiting"
+wait "$gate"
+status=$?
+cp "$room/gate.out" "$out"
+cp "$room/gate.err" "$err"
+holds "they pass, say nothing on standard error, and their last line is rt's" '[ "$status" = 0 ] && [ ! -s "$err" ] && [ "$(tail -n 1 "$out")" = "3 passed, 0 failed" ]'
+holds "they went through every step" '[ "$(grep -cx "unused --check\|definitions.py \|stored --check\|outside.sh tools\|shell.sh \|native.sh \|outside.sh " "$out")" = 7 ]'
+holds "what they run hears INT" '! grep -q "INT is not heard" "$out"'
+holds "they worked on a copy of all files but what was built" 'cmp -s "$ABOVE/files" "$ABOVE/wanted"'
+holds "nothing was built twice" '[ "$(cat "$ABOVE/builds")" = "ci
+ended" ]'
+holds "what they built is the checkout's, and nothing else of theirs is left" '[ -f "$here/target/native/libleafanchor.a" ] && [ -d "$here/target/stamp" ] &&
+    [ -f "$here/target/log/first.out" ] && [ -d "$here/target/old" ] && [ ! -e "$here/target/gate" ]'
+holds "target/gate.log has every line with its second" '[ "$(sed "s/^ *[0-9]*\.[0-9] //" "$here/target/gate.log")" = "$(cat "$out")" ]'
+rm "$ABOVE/mood"
+try "$here/leafanchor" plan p1
+gives "after tests that passed a plan builds nothing" 0 "$p1" ''
+before=$(state)
+mood 'echo a fault; exit 1'
+try "$here/leafanchor" test
+gives "tests that fail" 1 "$(cat "$out")" "gate: it failed. This checkout is as it was; *: $here/target/gate"
+holds "their logs are where that says" 'grep -q "a fault" "$out" && [ -f "$here/target/gate/target/log/first.out" ]'
+holds "and nothing of the checkout was touched" '[ "$(state)" = "$before" ]'
+
+rm "$ABOVE/builds"
+mood wait
+begin_gate
+"$here/.ci/run" >"$out" 2>"$err" &
+two=$!
+soon 'grep -q waiting "$err"'
+try_beside() { "$here/leafanchor" plan p1 >"$room/written" 2>&1; }
+try_beside
+holds "while tests run and others wait, a plan is made at once" '[ "$(cat "$room/written")" = "$p1" ] && [ ! -f "$ABOVE/go" ]'
+echo '// another' >"$here/crates/first/src/lib.rt"
+touch "$ABOVE/go"
+wait "$gate"
+wait "$two"
+status=$?
+holds "a second run of the tests waits for the first" '[ "$status" = 0 ] && [ "$(cat "$err")" = "gate: ${waiting#*: }" ] && [ "$(cat "$ABOVE/builds")" = "ci
+ended
+ci
+ended" ]'
+holds "and finds what cargo built" '[ "$(wc -l <"$here/target/gate-cargo/turns")" = 3 ]'
+begin_gate
+echo '// a third' >"$here/crates/first/src/lib.rt"
+wait "$gate"
+try "$here/leafanchor" plan p1
+holds "what is edited during the tests is built again" '[ "$status" = 0 ] && [ "$(builds)" = 1 ] && grep -q "built in" "$err"'
+
+gate_checkout stopped_gate
+mkdir -p "$here/target/bin"
+cp "$built" "$here/target/bin/plan_order"
+before=$(state)
+mood 'sleep 30'
+for signal in TERM HUP; do
+    begin_gate
+    kill -s "$signal" "$gate"
+    wait "$gate" 2>/dev/null
+    status=$?
+    holds "tests that are stopped by $signal end all that they started" '[ "$status" -gt 128 ] && rt_ended'
+done
+mood 'trap "" TERM; sleep 4'
+begin_gate
+kill -s TERM "$gate"
+wait "$gate" 2>/dev/null
+sleep 1
+holds "what does not end at once keeps the lock until it does" '! flock -n "$here/target/build.lock" true && rt_ended'
+mood 'sleep 30'
+interrupted_gate() { { soon '[ "$(grep -c ci "$ABOVE/builds")" = 4 ]' && printf '\003'; } | timeout 60 script -qec "$here/.ci/run" /dev/null; }
+try interrupted_gate
+holds "and so it is with Ctrl-C" '[ "$status" = 130 ] && rt_ended'
+try "$here/leafanchor" plan p1
+gives "the program is there and plans" 0 "$p1" ''
+holds "and nothing of the checkout was touched by the tests that were stopped" '[ "$(state)" = "$before" ]'
+rm -r "$here/.git" "$ABOVE/mood"
+try "$here/.ci/run"
+holds "the next waits for nothing; of an exported tree, which is no repository, the copy is none" '[ "$status" = 0 ] && [ ! -s "$err" ] && [ "$(grep -c "^.git" "$ABOVE/files")" = 0 ]'
+
+gate_checkout closed_gate
+chmod -R a-w "$here"
+try plainly "$here/leafanchor" test
+gives "the tests of a read-only checkout" 3 '' "gate: $here cannot be written"
+chmod -R u+w "$here"
 
 # ---- a checkout that cannot be written
 
