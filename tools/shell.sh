@@ -633,7 +633,9 @@ ended" ]'
 holds "what they built is the checkout's, and nothing else of theirs is left" '[ -f "$here/target/native/libleafanchor.a" ] && [ -d "$here/target/stamp" ] &&
     [ -f "$here/target/log/first.out" ] && [ -d "$here/target/old" ] && [ ! -e "$here/target/gate" ]'
 holds "target/gate.log has every line with its second" '[ "$(sed "s/^ *[0-9]*\.[0-9] //" "$here/target/gate.log")" = "$(cat "$out")" ]'
-rm "$ABOVE/mood"
+cd "$here" && try "$root/tools/gate_times"
+holds "of which tools/gate_times tells where the time went" '[ "$status" = 0 ] && grep -q "^ *[0-9]* s  crates  *2, 3 s of work; idle" "$out"'
+cd "$room" && rm "$ABOVE/mood"
 try "$here/leafanchor" plan p1
 gives "after tests that passed a plan builds nothing" 0 "$p1" ''
 before=$(state)
