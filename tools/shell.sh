@@ -591,7 +591,7 @@ gate_checkout() {
     cp "$root/tools/timed" "$here/tools"
     cp "$root/.ci/steps" "$here/.ci"
     for tool in unused definitions.py stored shell.sh native.sh outside.sh; do
-        printf '#!/bin/sh\necho "%s $*"\n' "$tool" >"$here/tools/$tool"
+        printf '#!/bin/sh\necho "%s $*"\n[ "%s $*" != "$(cat "$ABOVE/fault" 2>/dev/null)" ] || exit 1\n' "$tool" "$tool" >"$here/tools/$tool"
         chmod 755 "$here/tools/$tool"
     done
     echo "sh -c 'kill -s INT \$\$; echo INT is not heard'; true" >>"$here/tools/stored"
@@ -645,7 +645,13 @@ gives "tests that fail" 1 "$(cat "$out")" "gate: it failed. This checkout is as 
 holds "their logs are where that says" 'grep -q "a fault" "$out" && [ -f "$here/target/gate/target/log/first.out" ]'
 holds "and nothing of the checkout was touched" '[ "$(state)" = "$before" ]'
 
-rm "$ABOVE/builds"
+rm "$ABOVE/mood"
+for step in 'unused --check' 'definitions.py ' 'stored --check' 'outside.sh tools' 'shell.sh ' 'native.sh ' 'outside.sh '; do
+    printf '%s' "$step" >"$ABOVE/fault"
+    try "$here/.ci/run"
+    holds "tests that fail in one step: $step" '[ "$status" = 1 ] && grep -q "^gate: it failed" "$err"'
+done
+rm "$ABOVE/fault" "$ABOVE/builds" "$here/target/gate-cargo/turns"
 mood wait
 begin_gate
 "$here/.ci/run" >"$out" 2>"$err" &
@@ -663,7 +669,7 @@ holds "a second run of the tests waits for the first" '[ "$status" = 0 ] && [ "$
 ended
 ci
 ended" ]'
-holds "and finds what cargo built" '[ "$(wc -l <"$here/target/gate-cargo/turns")" = 3 ]'
+holds "and finds what cargo built" '[ "$(wc -l <"$here/target/gate-cargo/turns")" = 2 ]'
 begin_gate
 echo '// a third' >"$here/crates/first/src/lib.rt"
 wait "$gate"
@@ -691,7 +697,7 @@ holds "what does not end at once keeps the lock until it does" '! flock -n "$her
 mood 'sleep 30'
 interrupted_gate() { { soon '[ "$(grep -c ci "$ABOVE/builds")" = 4 ]' && printf '\003'; } | timeout 60 script -qec "$here/.ci/run" /dev/null; }
 try interrupted_gate
-holds "and so it is with Ctrl-C" '[ "$status" = 130 ] && rt_ended'
+holds "Ctrl-C ends them too" '[ "$status" = 130 ] && rt_ended'
 try "$here/leafanchor" plan p1
 gives "the program is there and plans" 0 "$p1" ''
 holds "and nothing of the checkout was touched by the tests that were stopped" '[ "$(state)" = "$before" ]'
