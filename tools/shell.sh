@@ -408,6 +408,9 @@ for number in $numbers; do
 done
 fields=$(sed -n 's/^field \([0-9]*\) .*/\1/p' "$list" | tr '\n' ' ')
 holds "the list has every field, 1 to 6" '[ "$fields" = "1 2 3 4 5 6 " ]'
+names=$(sed -n 's/^field //p' "$list" | tr '\n' ',' | sed 's/,$//; s/,/, /g')
+try "$leafanchor" --help
+holds "and --help names them as the list does" 'case $(tr "\n" " " <"$out") in *"($names)"*) ;; *) false ;; esac'
 for number in $fields; do
     program "echo 6 0 $number"
     refused "field $number of the list" 6 0 "$number"
