@@ -346,6 +346,18 @@ endless_pipe() { { cat p1 && yes; } | timeout 10 "$leafanchor" plan; }
 try endless_pipe
 gives "an endless pipe is not read to its end" 1 '4 0 0' 'leafanchor: refusal 4: *'
 
+# The program itself, past what the command hands over: longer inputs, the longest order, none at all.
+emulated() {
+    [ "$(uname -m)" = x86_64 ] && { "$@"; return; }
+    tools=$("$real_rt" doc) && tools=${tools%/*/*}/on/$(uname -m)/toolchain
+    "$tools/bin/qemu-x86_64" "$tools/lib/ld-linux-x86-64.so.2" --library-path "$tools/lib" "$@"
+}
+for given in "$root"/tools/program/*.in; do
+    name=${given##*/}
+    try emulated "$built" <"$given"
+    gives "the program on ${name%.in}" 0 "$(cat "${given%.in}.out")" ''
+done
+
 # ---- text instead of a packed order
 
 # text NAME NUMBER: the file 'order' is refused, and it is said that it is text.
@@ -593,7 +605,7 @@ gate_checkout() {
     touch "$here/rust/src/lib.rs" "$here/rust/target/lib" "$here/crates/first/target/kept" "$here/.git/HEAD" "$here/.hidden"
     cp "$root/tools/timed" "$here/tools"
     cp "$root/.ci/steps" "$here/.ci"
-    for tool in unused definitions.py stored shell.sh native.sh outside.sh; do
+    for tool in unused definitions.py edits stored shell.sh native.sh outside.sh; do
         printf '#!/bin/sh\necho "%s $*"\n[ "%s $*" != "$(cat "$ABOVE/fault" 2>/dev/null)" ] || exit 1\n' "$tool" "$tool" >"$here/tools/$tool"
         chmod 755 "$here/tools/$tool"
     done
@@ -628,7 +640,7 @@ status=$?
 cp "$room/gate.out" "$out"
 cp "$room/gate.err" "$err"
 holds "they pass, say nothing on standard error, and their last line is rt's" '[ "$status" = 0 ] && [ ! -s "$err" ] && [ "$(tail -n 1 "$out")" = "3 passed, 0 failed" ]'
-holds "they went through every step" '[ "$(grep -cx "unused --check\|definitions.py \|stored --check\|outside.sh tools\|shell.sh \|native.sh \|outside.sh " "$out")" = 7 ]'
+holds "they went through every step" '[ "$(grep -cx "unused --check\|definitions.py \|edits \|stored --check\|outside.sh tools\|shell.sh \|native.sh \|outside.sh " "$out")" = 8 ]'
 holds "what they run hears INT" '! grep -q "INT is not heard" "$out"'
 holds "they worked on a copy of all files but what was built" 'cmp -s "$ABOVE/files" "$ABOVE/wanted"'
 holds "nothing was built twice" '[ "$(cat "$ABOVE/builds")" = "ci
@@ -649,7 +661,7 @@ holds "their logs are where that says" 'grep -q "a fault" "$out" && [ -f "$here/
 holds "and nothing of the checkout was touched" '[ "$(state)" = "$before" ]'
 
 rm "$ABOVE/mood"
-for step in 'unused --check' 'definitions.py ' 'stored --check' 'outside.sh tools' 'shell.sh ' 'native.sh ' 'outside.sh '; do
+for step in 'unused --check' 'definitions.py ' 'edits ' 'stored --check' 'outside.sh tools' 'shell.sh ' 'native.sh ' 'outside.sh '; do
     printf '%s' "$step" >"$ABOVE/fault"
     try "$here/.ci/run"
     holds "tests that fail in one step: $step" '[ "$status" = 1 ] && grep -q "^gate: it failed" "$err"'
