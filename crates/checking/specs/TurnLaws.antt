@@ -9,7 +9,7 @@ use native.Mathlib.Numerals.{add-one}
 use native.Mathlib.Omega.{arith}
 use lib.Count.{ones}
 use lib.Dec.{eqb}
-use lib.IntN.{ℤ, pos, negsuc, natAbs, _+ℤ_}
+use lib.IntN.{ℤ, pos, natAbs, _+ℤ_}
 use lib.ListN.{length, take, drop, getElem?, drop-of-length-le}
 use lib.Pow.{pow-pos}
 use lib.Signed.{leZ, _≤ℤ_}
@@ -18,7 +18,7 @@ use mir.Val.{SFits, ofZ}
 use borrow.Author.Tests.{not-true, not-false, eqb-true, eqb-false}
 use borrow.Table.Steps.{cases}
 use Rattle.seconds.specs.Limits.{rest}
-use Rattle.seconds.specs.Ranges.{Between, InTime}
+use Rattle.seconds.specs.Ranges.{InTime}
 use Rattle.seconds.specs.Signed.{signed, abs-is, one-zero, add-is}
 use Rattle.seconds.specs.TwosLaws.{InBits, bitsTo-in}
 use Rattle.order.specs.Job.{Job}
@@ -27,7 +27,7 @@ use Rattle.packed.specs.Packed.{jobOf}
 use Rattle.packed.specs.Places.{eachOf}
 use Rattle.fields.specs.declared.Job.{Job as Numbers}
 use Rattle.fields.specs.Fields.{asJob}
-use Rattle.fields.specs.Facts.{JobFacts}
+use Rattle.fields.specs.Facts.{JobFacts, mark-bits}
 use Rattle.fields.specs.Places.{drop-more}
 use Rattle.packed_plan.specs.Plan.{planBytes, padBits}
 use Rattle.packed_plan.specs.PlanLaws.{ones-0}
@@ -46,10 +46,6 @@ pub start-in : (plan : List ℕ) (k : ℕ) → InBits 18 (startFrom plan k)
 start-in plan k =
     let above = numberOf (take 3 (drop (placeOf k) plan)) / 2 ^ padBits (suc k) in
     bitsTo-in 17 (above % 2 ^ 18) (mod-lt above (pow-pos 18))
-
-mark-bits : (mark : ℤ) → Between (pos 0) (pos 1) mark → eqb (ofZ w32 mark) 1 ≡ eqb (natAbs mark) 1
-mark-bits (pos n) b = refl
-mark-bits (negsuc n) b = absurd (omega signed)
 
 module _ (j : Numbers) (f : JobFacts j) where
   -- Left out.

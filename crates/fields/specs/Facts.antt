@@ -1,21 +1,21 @@
 -- What callers read by name: a job within its limits, a job and a header that were read.
 use Prim.Native.Nat.{ℕ, _+_, _*_, _^_, _<_}
 use mathlib.Core.Path.{_≡_, sym, ap, _∙_}
-use mathlib.Core.Bool.{true}
+use mathlib.Core.Bool.{true, false}
 use mathlib.Core.Logic.{_↔_}
 use mathlib.Core.List.{List}
 use lib.Dec.{eqb}
-use lib.IntN.{ℤ, pos, natAbs}
+use lib.IntN.{ℤ, pos, negsuc, natAbs}
 use lib.ListN.{getD, take, drop}
-use lib.Signed.{_≤ℤ_, mag}
+use lib.Signed.{leZ, _≤ℤ_, mag}
 use mir.Syntax.{w32}
 use mir.Val.{SFits, toZ, ofZ, hbits}
 use mir.Facts.{toZ-ofZ}
 use borrow.Table.Steps.{cases}
 use Rattle.seconds.specs.Limits.{heaviest, longest}
-use Rattle.seconds.specs.Signed.{signed, abs-is}
-use Rattle.seconds.specs.Ranges.{Between, InTime}
-use Rattle.seconds.specs.RangesLaws.{between-true, time-fits}
+use Rattle.seconds.specs.Signed.{signed}
+use Rattle.seconds.specs.Ranges.{same, Between, InTime}
+use Rattle.seconds.specs.RangesLaws.{between-true, same-yes, same-no, same-is, time-fits}
 use Rattle.packed.specs.Layout.{decode, numberOf, jobLayout}
 use Rattle.packed.specs.Packed.{headerOf, countOf, t0Of, spareOf, jobFields, fieldsAt}
 use Rattle.packed.specs.PackedLaws.{fields-is, word-is}
@@ -45,18 +45,27 @@ pub record WeightFacts (mark weight : ℤ) : Type 0 where
   pub weightless : mark ≡ pos 1 → weight ≡ pos 0
   pub weighty : mark ≡ pos 0 → pos 1 ≤ℤ weight
 
-weight-facts : (mark weight : ℤ) → weightTest (eqb (natAbs mark) 1) weight ≡ true → WeightFacts mark weight
-weight-facts mark weight h = cases (eqb (natAbs mark) 1)
-    (λ e. let r : Between (pos 0) (pos 0) weight = between-true _ _ _ .0 (rw e at h) in
-    record { range = omega signed; weightless = λ k. omega signed; weighty = λ k. omega (signed, abs-is mark) })
+weight-facts : (mark weight : ℤ) → weightTest (same mark (pos 1)) weight ≡ true → WeightFacts mark weight
+weight-facts mark weight h = cases (same mark (pos 1))
+    (λ e. let one = same-yes mark (pos 1) .0 e in
+    let r : Between (pos 0) (pos 0) weight = between-true _ _ _ .0 (rw e at h) in
+    record { range = omega signed; weightless = λ k. omega signed; weighty = λ k. omega signed })
     (λ e. let r : Between (pos 1) (pos heaviest) weight = between-true _ _ _ .0 (rw e at h) in
-    record { range = omega signed; weightless = λ k. omega (signed, abs-is mark); weighty = λ k. omega signed })
+    record { range = omega signed; weightless = λ k. absurd (same-no mark (pos 1) .0 e k); weighty = λ k. omega signed })
 
 facts-weight : (mark weight : ℤ) → Between (pos 0) (pos 1) mark → WeightFacts mark weight
-    → weightTest (eqb (natAbs mark) 1) weight ≡ true
-facts-weight mark weight m f = cases (eqb (natAbs mark) 1)
-    (λ e. let z = f .weightless (omega (signed, abs-is mark)) in rw e (between-true (pos 0) (pos 0) weight .1 (omega signed)))
-    (λ e. let z = f .weighty (omega (signed, abs-is mark)) in rw e (between-true (pos 1) (pos heaviest) weight .1 (omega signed)))
+    → weightTest (same mark (pos 1)) weight ≡ true
+facts-weight mark weight m f = cases (same mark (pos 1))
+    (λ e. let z = f .weightless (same-yes mark (pos 1) .0 e) in rw e (between-true (pos 0) (pos 0) weight .1 (omega signed)))
+    (λ e. let z = f .weighty (nought e) in rw e (between-true (pos 1) (pos heaviest) weight .1 (omega signed)))
+  where
+    nought : same mark (pos 1) ≡ false → mark ≡ pos 0
+    nought e = cases (leZ mark (pos 0)) (λ l. omega signed) (λ l. absurd (same-no mark (pos 1) .0 e (omega signed)))
+
+-- A mark of 0 or 1 is compared with 1 as its bits.
+pub mark-bits : (mark : ℤ) → Between (pos 0) (pos 1) mark → eqb (ofZ w32 mark) 1 ≡ same mark (pos 1)
+mark-bits (pos n) b = sym (same-is n 1)
+mark-bits (negsuc n) b = absurd (omega signed)
 
 -- The test says so.
 pub job-facts : (j : Job) → fieldsWithin (fieldsOf j) ≡ true ↔ JobFacts j

@@ -5,13 +5,12 @@ use mathlib.Core.Path.{_≡_, refl, sym, ap, _∙_}
 use mathlib.Core.List.{List}
 use native.Mathlib.Omega.{arith}
 use lib.Dec.{T, eqb}
-use lib.IntN.{ℤ, pos, negsuc, natAbs}
+use lib.IntN.{ℤ, natAbs}
 use lib.ListN.{take, drop}
 use lib.Signed.{nonNeg}
 use mir.Syntax.{w32, w64}
 use mir.Val.{Fits, toZ, ofZ}
 use mir.Facts.{toZ-ofZ}
-use Rattle.seconds.specs.Ranges.{Between}
 use Rattle.seconds.specs.Signed.{signed, abs-is}
 use Rattle.order.specs.Job.{Job, oneRate, Point}
 use Rattle.packed.specs.Layout.{decode, jobLayout, numberOf}
@@ -20,7 +19,7 @@ use Rattle.packed.specs.PackedLaws.{fields-of-numbers, numbers-count}
 use Rattle.packed.specs.RefusalLaws.{Within, within-is}
 use Rattle.packed.specs.Accepted.{OrderFine}
 use Rattle.fields.specs.Fields.{fieldsOf}
-use Rattle.fields.specs.Facts.{JobFacts, JobFits, job-facts, facts-fit, read-at}
+use Rattle.fields.specs.Facts.{JobFacts, JobFits, job-facts, facts-fit, mark-bits, read-at}
 use Rattle.fields.specs.declared.Job.{Job as Numbers}
 use Rattle.points.specs.Steps.{listStep}
 use Rattle.codes.specs.Code.{listAt}
@@ -32,11 +31,6 @@ use Rattle.filling.specs.Lists.{CanFillOne, FilledOne}
 -- A number, as the code reads it back from its bits.
 abbrev read : ℤ → ℤ
 read z = toZ w32 (ofZ w32 z)
-
--- A mark of 0 or 1 is its bits.
-mark-is : (z : ℤ) → Between (pos 0) (pos 1) z → eqb (ofZ w32 z) 1 ≡ eqb (natAbs z) 1
-mark-is (pos n) b = refl
-mark-is (negsuc n) b = absurd (omega signed)
 
 module _ (bytes : List ℕ) (k : ℕ) (order : OrderFine bytes) (there : k < countOf bytes)
     (job : Numbers) (is : fieldsOf job ≡ decode jobLayout (numberOf (take 8 (drop (4 + 8 * k) bytes))))
@@ -61,7 +55,7 @@ module _ (bytes : List ℕ) (k : ℕ) (order : OrderFine bytes) (there : k < cou
     unfolding jobOf
     job-is =
         rw (
-          mark-is (job .critical) (within .critical),
+          mark-bits (job .critical) (within .critical),
           toZ-ofZ (fits .weight),
           toZ-ofZ (fits .ready),
           toZ-ofZ (fits .long),

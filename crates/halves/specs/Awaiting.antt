@@ -7,8 +7,8 @@ use mathlib.Core.List.{List}
 use lib.Dec.{ltb, eqb}
 use lib.ListN.{length, getD, set, replicate}
 use Rattle.seconds.specs.Limits.{highestHalf, halvesApart, secondsPerWeight, mostWeight}
-use Rattle.order.specs.Job.{Job}
-use Rattle.order.specs.Halves.{lengthOf, isHalf}
+use Rattle.order.specs.Job.{Job, lengthOf}
+use Rattle.order.specs.Halves.{isHalf}
 use Rattle.packed.specs.Packed.{countOf}
 use Rattle.packed.specs.Refusals.{fieldsWithin}
 use Rattle.packed.specs.Accepted.{OrderFine}

@@ -8,7 +8,7 @@ use mathlib.Core.List.{List, [], _∷_, _++_}
 use mathlib.Core.Option.{some}
 use native.Mathlib.Omega.{arith}
 use lib.Dec.{leb, ltb, eqb}
-use lib.IntN.{ℤ, pos, negsuc, natAbs}
+use lib.IntN.{pos, natAbs}
 use lib.ListN.{length, take, drop, getD, set, replicate, getElem?, length-set, length-replicate, getD-replicate}
 use lib.Seq.{getD-set-same, getD-set-other}
 use mir.Syntax.{w32}
@@ -18,9 +18,9 @@ use borrow.Author.Tests.{eqb-true, eqb-false, eq-eqb, ne-eqb, lt-ltb, le-ltb}
 use borrow.Table.Steps.{cases}
 use Rattle.seconds.specs.Limits.{highestHalf, halvesApart, secondsPerWeight}
 use Rattle.seconds.specs.Signed.{signed, abs-is}
-use Rattle.seconds.specs.Ranges.{Between}
-use Rattle.order.specs.Job.{Job}
-use Rattle.order.specs.Halves.{lengthOf, isHalf, hasPartner, offends, offendsAt}
+use Rattle.seconds.specs.Ranges.{same}
+use Rattle.order.specs.Job.{Job, lengthOf}
+use Rattle.order.specs.Halves.{isHalf, hasPartner, offends, offendsAt}
 use Rattle.order.specs.HalvesLaws.{has-more}
 use Rattle.packed.specs.Layout.{decode, numberOf, jobLayout}
 use Rattle.packed.specs.Places.{first}
@@ -31,7 +31,7 @@ use Rattle.packed.specs.Refusals.{firstOffending}
 use Rattle.packed.specs.Accepted.{OrderFine}
 use Rattle.fields.specs.declared.Job.{Job as Fields}
 use Rattle.fields.specs.Fields.{fieldsOf, asJob}
-use Rattle.fields.specs.Facts.{JobFacts, JobFits, facts-fit}
+use Rattle.fields.specs.Facts.{JobFacts, JobFits, facts-fit, mark-bits}
 use Rattle.fields.specs.Places.{take-more, job-there, job-fine, job-limits}
 use Rattle.halves.specs.Awaiting.{CanTake, offendsBy, awaitedAfter, CanSearch}
 
@@ -89,18 +89,14 @@ module _ (job : Fields) (awaited : List ℕ) (f : JobFacts job) where
   pub weight-low : weight ≤ 50
   weight-low = rw (toZ-ofZ (fitting .weight)) (omega (signed, f .weight, abs-is (job .weight)))
 
-  mark-is : (z : ℤ) → Between (pos 0) (pos 1) z → ofZ w32 z ≡ natAbs z
-  mark-is (pos n) b = refl
-  mark-is (negsuc n) b = absurd (omega signed)
-
   -- What the contract says of it.
   abbrev pub Taken : Bool → List ℕ → Type 0
   Taken told noted = (told ≡ offendsBy awaited (asJob job)) × (noted ≡ awaitedAfter (asJob job) awaited)
 
   -- Critical, and numbered above 31 or not.
   module _ (critical : ofZ w32 (job .critical) ≡ 1) where
-    marked : eqb (natAbs (job .critical)) 1 ≡ true
-    marked = eq-eqb _ _ (sym (mark-is (job .critical) (f .critical)) ∙ critical)
+    marked : same (job .critical) (pos 1) ≡ true
+    marked = sym (mark-bits (job .critical) (f .critical)) ∙ eq-eqb _ _ critical
 
     pub high-taken : highestHalf < number → Taken true awaited
     unfolding jobOf
@@ -118,8 +114,8 @@ module _ (job : Fields) (awaited : List ℕ) (f : JobFacts job) where
 
   -- Any other, of another length than 60 seconds a weight or of that.
   module _ (optional : ofZ w32 (job .critical) ≢ 1) where
-    unmarked : eqb (natAbs (job .critical)) 1 ≡ false
-    unmarked = ne-eqb _ _ (λ e. optional (mark-is (job .critical) (f .critical) ∙ e))
+    unmarked : same (job .critical) (pos 1) ≡ false
+    unmarked = sym (mark-bits (job .critical) (f .critical)) ∙ ne-eqb _ _ optional
 
     pub long-taken : seconds ≢ secondsPerWeight * weight → Taken true awaited
     unfolding jobOf

@@ -10,18 +10,10 @@ use lib.IntN.{ℤ, pos, _+ℤ_}
 use lib.ListN.{length, getElem?}
 use lib.Signed.{leZ, _≤ℤ_}
 use Rattle.seconds.specs.Limits.{rest}
-use Rattle.order.specs.Job.{Rate, Job, Order}
+use Rattle.order.specs.Job.{Job, Order, lengthOf}
 use Rattle.order.specs.Choice.{Choice, feasible, keptWeight, choices}
 
 -- ---- a plan's jobs and their finishes
-
--- The length of a job of one rate.
-abbrev pub firstTakes : List Rate → ℕ
-firstTakes [] = 0
-firstTakes (r ∷ rs) = r .takes
-
-abbrev pub lengthOf : Job → ℕ
-lengthOf j = firstTakes (j .rates)
 
 -- Start + length.
 abbrev pub endOf : Job → ℤ → ℤ

@@ -11,8 +11,8 @@ use lib.Signed.{_≤ℤ_}
 use lib.ListN.{length, getElem?}
 use Rattle.seconds.specs.Limits.{rest}
 use Rattle.seconds.specs.Signed.{signed, add-is}
-use Rattle.order.specs.Job.{Job, Order}
-use Rattle.legal.specs.Legal.{lengthOf, endOf, keptJobs, Legal, startLegal, legalFrom, isLegal}
+use Rattle.order.specs.Job.{Job, Order, lengthOf}
+use Rattle.legal.specs.Legal.{endOf, keptJobs, Legal, startLegal, legalFrom, isLegal}
 use Rattle.legal.specs.LegalLaws.{both, StartLegal, start-legal, legal-start}
 
 abbrev from : List Job → ℤ → Order

@@ -11,11 +11,11 @@ use lib.Signed.{leZ, _≤ℤ_}
 use lib.ListN.{length, getElem?}
 use Rattle.seconds.specs.Limits.{rest}
 use Rattle.seconds.specs.Signed.{signed, add-is, max-is}
-use Rattle.order.specs.Job.{Rate, Job, startAt, allowed, busFree}
+use Rattle.order.specs.Job.{Rate, Job, firstTakes, lengthOf, startAt, allowed, busFree}
 use Rattle.order.specs.Choice.{Choice, feasible, finish, starts}
 use Rattle.order.specs.OneRate.{Marks}
 use Rattle.order.specs.Moves.{pick-holds, holds-pick, kept-rests}
-use Rattle.legal.specs.Legal.{firstTakes, lengthOf, endOf, keptJobs, startLegal, legalFrom, pickOf, choiceOf, keptOf, keptStarts, endsAt}
+use Rattle.legal.specs.Legal.{endOf, keptJobs, startLegal, legalFrom, pickOf, choiceOf, keptOf, keptStarts, endsAt}
 
 -- Jobs that have a rate.
 abbrev pub Rated : List Job → Type 0

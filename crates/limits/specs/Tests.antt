@@ -4,12 +4,13 @@ use mathlib.Core.Path.{_≡_, refl, sym, ap, _∙_}
 use mathlib.Core.Bool.{true, false, cond}
 use mathlib.Core.Logic.{_≢_}
 use lib.Dec.{eqb}
-use lib.IntN.{ℤ, pos, negsuc, natAbs}
+use lib.IntN.{ℤ, pos, negsuc}
 use mir.Syntax.{w32}
 use mir.Val.{ofZ}
 use borrow.Author.Tests.{eq-eqb, ne-eqb}
 use Rattle.seconds.specs.Limits.{longest}
-use Rattle.seconds.specs.Ranges.{isBetween, isTime}
+use Rattle.seconds.specs.Ranges.{same, isBetween, isTime}
+use Rattle.seconds.specs.RangesLaws.{same-is}
 use Rattle.packed.specs.Refusals.{weightTest, fieldsWithin, badField}
 use Rattle.packed.specs.FieldLaws.{no-field-within}
 use Rattle.fields.specs.Fields.{fieldsOf}
@@ -18,8 +19,8 @@ use Rattle.fields.specs.declared.Job.{Job}
 -- The mark is compared as its bits.
 mark-tested : (mark weight : ℤ) (later : ℕ)
     → cond (isBetween (pos 0) (pos 1) mark) (cond (weightTest (eqb (ofZ w32 mark) 1) weight) later 3) 2
-    ≡ cond (isBetween (pos 0) (pos 1) mark) (cond (weightTest (eqb (natAbs mark) 1) weight) later 3) 2
-mark-tested (pos n) weight later = refl
+    ≡ cond (isBetween (pos 0) (pos 1) mark) (cond (weightTest (same mark (pos 1)) weight) later 3) 2
+mark-tested (pos n) weight later = rw (same-is n 1)
 mark-tested (negsuc n) weight later = refl
 
 -- The six tests together, the last field's first.

@@ -7,16 +7,8 @@ use mathlib.Core.Option.{Option, none, some}
 use lib.Dec.{leb, ltb, eqb}
 use lib.ListN.{take, getElem?}
 use Rattle.seconds.specs.Limits.{highestHalf, halvesApart, secondsPerWeight}
-use Rattle.order.specs.Job.{Rate, Job}
+use Rattle.order.specs.Job.{Job, lengthOf}
 use Rattle.order.specs.Choice.{Choice}
-
--- The seconds that a job takes: at its first rate, the normal one.
-abbrev firstTakes : List Rate → ℕ
-firstTakes [] = 0
-firstTakes (r ∷ rs) = r .takes
-
-abbrev pub lengthOf : Job → ℕ
-lengthOf j = firstTakes (j .rates)
 
 -- A critical half: a critical job numbered 0 to 31.
 abbrev pub isHalf : Job → Bool

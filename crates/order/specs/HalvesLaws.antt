@@ -14,10 +14,10 @@ use borrow.Author.Tests.{eqb-true, eqb-false, eq-eqb, ltb-true, ltb-false, not-f
 use borrow.Table.Steps.{cases}
 use Rattle.seconds.specs.Limits.{highestHalf, halvesApart, secondsPerWeight}
 use Rattle.seconds.specs.Signed.{signed}
-use Rattle.order.specs.Job.{Rate, Job, rateOf, allowed, busFree, lossOf}
+use Rattle.order.specs.Job.{Rate, Job, lengthOf, rateOf, allowed, busFree, lossOf}
 use Rattle.order.specs.Choice.{Choice, feasible, lostWeight}
 use Rattle.order.specs.Moves.{left-out-loses, kept-loses-none}
-use Rattle.order.specs.Halves.{lengthOf, isHalf, isPartner, hasPartner, offends, offendsAt, lostBy, secondsLost}
+use Rattle.order.specs.Halves.{isHalf, isPartner, hasPartner, offends, offendsAt, lostBy, secondsLost}
 
 -- ---- partners
 

@@ -30,6 +30,14 @@ abbrev pub oneRate : ℕ → Bool → ℕ → ℤ → ℕ → ℤ → Job
 oneRate n c w r l d =
     record { number = n; critical = c; weight = w; ready = r; rates = record { takes = l; gain = w } ∷ []; deadline = d }
 
+-- A job's length: the seconds that it takes at its first rate, the normal one.
+abbrev pub firstTakes : List Rate → ℕ
+firstTakes [] = 0
+firstTakes (r ∷ rs) = r .takes
+
+abbrev pub lengthOf : Job → ℕ
+lengthOf j = firstTakes (j .rates)
+
 -- An order: the time at which the bus is free, and the jobs in the dispatcher's sequence.
 pub record Order : Type 0 where
   pub t0 : ℤ

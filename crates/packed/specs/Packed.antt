@@ -3,9 +3,9 @@
 use Prim.Native.Nat.{ℕ, _/_}
 use mathlib.Core.Bool.{Bool}
 use mathlib.Core.List.{List, [], _∷_, _++_}
-use lib.Dec.{eqb}
 use lib.IntN.{ℤ, pos, natAbs}
 use lib.ListN.{length, take, drop, getD}
+use Rattle.seconds.specs.Ranges.{same}
 use Rattle.order.specs.Job.{Job, Order, oneRate}
 use Rattle.packed.specs.Layout.{decode, encode, numberOf, bytesOf, headerLayout}
 use Rattle.packed.specs.Layout.{jobLayout, headerBytes, jobBytes, jobNumbers}
@@ -93,7 +93,7 @@ theDeadline zs = getD zs 5 (pos 0)
 
 -- The mark of a critical job is 1.
 abbrev pub isCritical : List ℤ → Bool
-isCritical zs = eqb (natAbs (theMark zs)) 1
+isCritical zs = same (theMark zs) (pos 1)
 
 -- ---- the jobs and the order
 

@@ -1,7 +1,7 @@
 -- The laws of the refusals of orders: a job within its limits, what the searches find, and what it is to pass each stage.
 use Prim.Native.Nat.{ℕ, zero, suc, _+_, _*_, _%_, _^_, _≤_, _<_}
-use mathlib.Core.Path.{_≡_, refl, sym, ap, _∙_}
-use mathlib.Core.Bool.{Bool, true, false, not, and-eq-true-iff, true≢false}
+use mathlib.Core.Path.{_≡_, refl, ap}
+use mathlib.Core.Bool.{Bool, true, false, not, and-eq-true-iff}
 use mathlib.Core.Logic.{_↔_, _≢_}
 use mathlib.Core.List.{List, [], _∷_}
 use native.Mathlib.Omega.{arith}
@@ -9,13 +9,12 @@ use lib.Dec.{T, leb, ltb}
 use lib.Ieee.Bits.{is-true}
 use lib.IntN.{ℤ, pos, negsuc, natAbs}
 use lib.ListN.{length, getD}
-use lib.Signed.{leZ}
 use borrow.Author.Tests.{ltb-true, ltb-false, le-ltb, eqb-true, eq-eqb, not-false}
 use borrow.Table.Steps.{cases}
 use Rattle.seconds.specs.Limits.{longest, heaviest, mostWeight, mostJobs}
 use Rattle.seconds.specs.Signed.{signed, abs-is}
 use Rattle.seconds.specs.Ranges.{Between, isBetween, InTime}
-use Rattle.seconds.specs.RangesLaws.{between-true}
+use Rattle.seconds.specs.RangesLaws.{between-true, same-no}
 use Rattle.seconds.specs.TwosLaws.{time-in}
 use Rattle.order.specs.Job.{weightOf, weightWithin, jobWithin}
 use Rattle.order.specs.Halves.{offendsAt}
@@ -29,7 +28,7 @@ use Rattle.packed.specs.Packed.{theNumber, theMark, theWeight, theReady,
 use Rattle.packed.specs.Judge.{fine, judge}
 use Rattle.packed.specs.JudgeLaws.{judge-at}
 use Rattle.packed.specs.Refusals.{weightTest, fieldTests, allTrue, fieldsWithin, badAt, firstBad}
-use Rattle.packed.specs.Refusals.{numberAt, same, sameAt, firstLike, repeatedAt, firstRepeat}
+use Rattle.packed.specs.Refusals.{numberAt, sameAt, firstLike, repeatedAt, firstRepeat}
 use Rattle.packed.specs.Refusals.{firstOffending, headerChecks, listChecks, jobChecks, weightChecks, halvesChecks, roomChecks}
 
 -- ---- one job
@@ -141,26 +140,6 @@ repeat-is-first zs = first-is (repeatedAt zs) 0 (jobCount zs) (omega arith)
 pub offending-is-first : (zs : List ℤ) → IsFirst (offendsAt (jobsOf zs)) 0 (jobCount zs) (firstOffending zs)
 unfolding firstOffending
 offending-is-first zs = first-is (offendsAt (jobsOf zs)) 0 (jobCount zs) (omega arith)
-
--- Two numbers are the same.
-pub same-yes : (x y : ℤ) → same x y ≡ true ↔ x ≡ y
-same-yes x y = (there, back)
-  where
-    there : same x y ≡ true → x ≡ y
-    there e = let h = and-eq-true-iff (leZ x y) (leZ y x) .0 e in omega signed
-
-    back : x ≡ y → same x y ≡ true
-    back e = and-eq-true-iff (leZ x y) (leZ y x) .1 (omega signed)
-
--- Two numbers are not.
-pub same-no : (x y : ℤ) → same x y ≡ false ↔ (x ≢ y)
-same-no x y = (there, back)
-  where
-    there : same x y ≡ false → x ≢ y
-    there e q = true≢false (sym (same-yes x y .1 q) ∙ e)
-
-    back : x ≢ y → same x y ≡ false
-    back n = cases (same x y) (λ e. absurd (n (same-yes x y .0 e))) (λ e. e)
 
 -- A number that stood at no earlier place.
 pub repeated-no : (zs : List ℤ) (k : ℕ) → repeatedAt zs k ≡ false ↔ ((j : ℕ) → j < k → numberAt zs j ≢ numberAt zs k)

@@ -7,9 +7,8 @@ use mathlib.Core.List.{List, [], _∷_, _++_}
 use lib.Dec.{ltb, eqb}
 use lib.IntN.{ℤ, pos}
 use lib.ListN.{length}
-use lib.Signed.{leZ}
 use Rattle.seconds.specs.Limits.{highestNumber, longest, heaviest, mostWeight, mostJobs}
-use Rattle.seconds.specs.Ranges.{isBetween, isTime}
+use Rattle.seconds.specs.Ranges.{same, isBetween, isTime}
 use Rattle.order.specs.Job.{weightOf}
 use Rattle.order.specs.Halves.{offendsAt}
 use Rattle.packed.specs.Layout.{headerBytes, jobBytes, jobNumbers}
@@ -72,10 +71,6 @@ fieldOfBad zs = badField (fieldsAt zs (firstBad zs))
 -- The number of the job at a place.
 unfoldable pub numberAt : List ℤ → ℕ → ℤ
 numberAt zs k = theNumber (fieldsAt zs k)
-
--- Whether two numbers are the same.
-abbrev pub same : ℤ → ℤ → Bool
-same x y = leZ x y && leZ y x
 
 -- Whether the number at a place j is that at k.
 abbrev pub sameAt : List ℤ → ℕ → ℕ → Bool

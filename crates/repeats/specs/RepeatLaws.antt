@@ -11,12 +11,11 @@ use lib.ListN.{length, getD, set}
 use lib.Seq.{getD-set-same, getD-set-other}
 use borrow.Author.Tests.{ltb-true, ltb-false, lt-ltb, le-ltb, eq-eqb, ne-eqb, eqb-true, eqb-false}
 use borrow.Table.Steps.{cases}
-use Rattle.seconds.specs.Signed.{signed}
+use Rattle.seconds.specs.RangesLaws.{same-is}
 use Rattle.packed.specs.Places.{first}
 use Rattle.packed.specs.PlacesLaws.{IsFirst, first-is, first-unique, first-on, first-here}
 use Rattle.packed.specs.Packed.{jobCount}
-use Rattle.packed.specs.Refusals.{numberAt, same, sameAt, repeatedAt, firstRepeat}
-use Rattle.packed.specs.RefusalLaws.{same-yes, same-no}
+use Rattle.packed.specs.Refusals.{numberAt, sameAt, repeatedAt, firstRepeat}
 use Rattle.repeats.specs.Repeats.{alike, stoodEarlier, firstAgain}
 
 -- ---- the steps
@@ -95,11 +94,6 @@ first-cong p q n e =
       before = λ k a b. e k (omega (arith, f .to)) ∙ f .before k a b;
     } in
     first-unique p 0 n (first p 0 n) (first q 0 n) (first-is p 0 n (omega arith)) same-first
-
-same-is : (a b : ℕ) → same (pos a) (pos b) ≡ eqb a b
-same-is a b = cases (eqb a b)
-    (λ e. same-yes (pos a) (pos b) .1 (ap pos (eqb-true a b e)) ∙ sym e)
-    (λ e. same-no (pos a) (pos b) .1 (λ q. let u = eqb-false a b e in absurd (u (omega signed))) ∙ sym e)
 
 -- Over the numbers of all jobs the search is that of check 7.
 pub repeat-again : (zs : List ℤ) (ns : List ℕ) → length ns ≡ jobCount zs

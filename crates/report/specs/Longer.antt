@@ -10,6 +10,7 @@ use lib.ListN.{length, take, drop, length-append, take-append-drop}
 use lib.Seq.{take-all, take-append-le, length-take-le}
 use borrow.Author.Tests.{le-ltb, ltb-true, ltb-false, ne-eqb}
 use borrow.Table.Steps.{cases}
+use Rattle.seconds.specs.Limits.{mostJobs}
 use Rattle.packed.specs.Judge.{plainly, refused, judge}
 use Rattle.packed.specs.JudgeLaws.{judge-append}
 use Rattle.packed.specs.Packed.{headerWord, countOf, spareOf, numbersOf}
@@ -26,9 +27,9 @@ module _ (bytes : List ℕ) (long : longestOrder < length bytes) where
       ∙ rw (le-ltb (length bytes) 4 (omega arith))
       (cases (not (eqb (spareOf bytes) 0))
       (λ e. rw e)
-      (λ e. cases (ltb 48 (countOf bytes))
+      (λ e. cases (ltb mostJobs (countOf bytes))
       (λ f. rw (e, f))
-      (λ f. rw (e, f, ne-eqb (length bytes) (4 + 8 * countOf bytes) (λ q. omega (arith, ltb-false 48 (countOf bytes) f))))))
+      (λ f. rw (e, f, ne-eqb (length bytes) (4 + 8 * countOf bytes) (λ q. omega (arith, ltb-false mostJobs (countOf bytes) f))))))
 
   -- Such bytes have one line.
   pub long-text : reportOf bytes ≡ refusalLine (plainly (tooLong bytes))

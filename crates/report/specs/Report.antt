@@ -1,5 +1,5 @@
 -- The text that the program prints, as a function of the bytes that it reads. Definitions only.
-use Prim.Native.Nat.{ℕ, _≤_}
+use Prim.Native.Nat.{ℕ, _+_, _*_, _≤_}
 use mathlib.Core.Path.{_≡_}
 use mathlib.Core.Bool.{not, cond}
 use mathlib.Core.List.{List, [], _∷_, _++_}
@@ -7,13 +7,15 @@ use mathlib.Core.Option.{Option, none, some}
 use lib.Dec.{ltb, eqb}
 use lib.IntN.{ℤ, pos}
 use lib.ListN.{length, drop}
-use Rattle.seconds.specs.Limits.{leftOut}
+use Rattle.seconds.specs.Limits.{leftOut, mostJobs}
+use Rattle.seconds.specs.Ranges.{same}
 use Rattle.order.specs.Job.{Job, Order}
 use Rattle.plan.specs.Plan.{Answer, planAnswer}
 use Rattle.packed.specs.declared.Refusal.{Refusal}
+use Rattle.packed.specs.Layout.{headerBytes, jobBytes}
 use Rattle.packed.specs.Judge.{plainly, Verdict, fine, refused, judge}
 use Rattle.packed.specs.Packed.{countOf, spareOf, orderOf}
-use Rattle.packed.specs.Refusals.{same, orderChecks}
+use Rattle.packed.specs.Refusals.{orderChecks}
 use Rattle.planner.specs.Calls.{figuresOf}
 use Rattle.planner.specs.declared.Figures.{Figures}
 use Rattle.text.specs.Decimal.{minus, digits, figure, words, line}
@@ -62,13 +64,13 @@ reportOf bytes = textOf (judge (orderChecks bytes)) (orderOf bytes)
 
 -- ---- longer input
 
--- The bytes of an order of 48 jobs.
+-- The bytes of an order of as many jobs as there may be.
 abbrev pub longestOrder : ℕ
-longestOrder = 388
+longestOrder = headerBytes + jobBytes * mostJobs
 
 -- What longer bytes are refused by: 2 or 3 where they apply, else 4.
 abbrev pub tooLong : List ℕ → ℕ
-tooLong bytes = cond (not (eqb (spareOf bytes) 0)) 2 (cond (ltb 48 (countOf bytes)) 3 4)
+tooLong bytes = cond (not (eqb (spareOf bytes) 0)) 2 (cond (ltb mostJobs (countOf bytes)) 3 4)
 
 -- ---- the calls
 

@@ -16,6 +16,7 @@ use mir.Val.{Fits, toZ, ofZ}
 use mir.Facts.{toZ-ofZ}
 use Rattle.seconds.specs.Limits.{leftOut}
 use Rattle.seconds.specs.Ranges.{Between}
+use Rattle.seconds.specs.RangesLaws.{same-yes, same-no}
 use Rattle.seconds.specs.Signed.{signed, add-is, abs-is}
 use Rattle.order.specs.Job.{Job, allowed}
 use Rattle.order.specs.Choice.{startOf}
@@ -27,7 +28,7 @@ use Rattle.packed.specs.PlacesLaws.{each-more, each-end, length-each}
 use Rattle.packed.specs.declared.Refusal.{Refusal}
 use Rattle.packed.specs.Packed.{countOf, jobFields, jobOf, jobIn, orderOf}
 use Rattle.packed.specs.PackedLaws.{fields-of-numbers, numbers-count, order-jobs}
-use Rattle.packed.specs.RefusalLaws.{Within, same-yes, same-no}
+use Rattle.packed.specs.RefusalLaws.{Within}
 use Rattle.packed.specs.Accepted.{OrderFine}
 use Rattle.fields.specs.Fields.{fieldsOf}
 use Rattle.fields.specs.Facts.{read-at}

@@ -1,5 +1,5 @@
--- Times compared: the later and the earlier of two, and the ranges that they lie in, each with the test that decides it.
--- Definitions only.
+-- Times compared: the later and the earlier of two, whether two numbers are the same, and the ranges that times lie in, each with the
+-- test that decides it. Definitions only.
 use mathlib.Core.Bool.{Bool, cond, _&&_}
 use lib.IntN.{ℤ}
 use lib.Signed.{leZ, _≤ℤ_}
@@ -12,6 +12,10 @@ maxZ x y = cond (leZ x y) y x
 -- The earlier of two times.
 abbrev pub minZ : ℤ → ℤ → ℤ
 minZ x y = cond (leZ x y) x y
+
+-- Whether two numbers are the same.
+abbrev pub same : ℤ → ℤ → Bool
+same x y = leZ x y && leZ y x
 
 -- z lies from the least number to the greatest.
 pub record Between (least greatest z : ℤ) : Type 0 where

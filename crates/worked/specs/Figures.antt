@@ -1,6 +1,6 @@
 -- The figures of the rules, each beside the name that the definitions have for it; and the refusals of each call by number, in
 -- the sequence in which they are judged. One statement holds of each whole list, by computation.
-use Prim.Native.Nat.{ℕ, _+_, _*_}
+use Prim.Native.Nat.{ℕ, _*_}
 use mathlib.Core.Path.{_≡_, refl}
 use mathlib.Core.List.{List, [], _∷_, map}
 use lib.IntN.{ℤ, pos, negsuc}
@@ -21,6 +21,7 @@ use Rattle.plan_writer.specs.Calls.{planRoom, writeChecks}
 use Rattle.checking.specs.Calls.{legalChecks}
 use Rattle.best_plan.specs.Calls.{bestChecks}
 use Rattle.choosing.specs.Choosing.{choosingChecks}
+use Rattle.report.specs.Report.{longestOrder}
 
 -- ---- names and figures
 
@@ -60,7 +61,7 @@ figures =
     ∷ is (pos jobNumbers) (pos 6)
     -- R24, R32: the most numbers, and the most bytes, that an order has
     ∷ is (pos (jobNumbers * mostJobs)) (pos 288)
-    ∷ is (pos (headerBytes + jobBytes * mostJobs)) (pos 388)
+    ∷ is (pos longestOrder) (pos 388)
     -- R29: the numbers of a row, and of the work area
     ∷ is (pos rowSize) (pos 301)
     ∷ is (pos area) (pos 14749)

@@ -1,13 +1,11 @@
 -- `walking::step_back` meets its contract: the test is that of the job's source, and a job that is not left out is kept.
 -- Assumes nothing.
 use Prim.Native.Nat.{_+_, _-_, _≤_}
-use mathlib.Core.Path.{_≡_, refl, sym, ap₂, _∙_}
+use mathlib.Core.Path.{_≡_, sym, ap₂, _∙_}
 use mathlib.Core.Bool.{Bool}
 use mathlib.Core.List.{List}
 use mathlib.Core.Option.{some}
-use lib.Dec.{eqb}
-use lib.IntN.{ℤ, pos, negsuc, natAbs}
-use lib.Signed.{_≤ℤ_}
+use lib.IntN.{ℤ, natAbs}
 use mir.Syntax.{w32}
 use mir.Val.{toZ, ofZ}
 use mir.Facts.{toZ-ofZ}
@@ -17,7 +15,7 @@ use Rattle.seconds.specs.Signed.{signed, abs-is, read-back}
 use Rattle.order.specs.Job.{Point}
 use Rattle.packed.specs.Packed.{isCritical}
 use Rattle.fields.specs.Fields.{fieldsOf, asJob}
-use Rattle.fields.specs.Facts.{JobFacts, job-facts, JobFits, facts-fit}
+use Rattle.fields.specs.Facts.{JobFacts, job-facts, JobFits, facts-fit, mark-bits}
 use Rattle.codes.specs.Code.{listAt}
 use Rattle.walking.specs.Trail.{leavesOut, lastStartOf, stepBack}
 use Rattle.walking.specs.Sources.{step-left, step-kept}
@@ -49,11 +47,6 @@ module _ (s : tie.Start) where
 
 -- ---- the test
 
--- A mark that is not below 0, as the code tests it.
-mark-is : (z : ℤ) → pos 0 ≤ℤ z → eqb (ofZ w32 z) 1 ≡ eqb (natAbs z) 1
-mark-is (pos n) h = refl
-mark-is (negsuc n) h = absurd (omega signed)
-
 module _ (c : tie.After-leaves) where
   abbrev entry : tie.Start
   entry = c .before .before .before .before
@@ -64,7 +57,7 @@ module _ (c : tie.After-leaves) where
   left-is =
       c .leaves .ensures
       ∙ ap₂ (λ (b : Bool) (t : ℤ). leavesOut b (list entry) (entry .args .trail .weight) t)
-      (mark-is (entry .args .job .critical) (omega (signed, facts entry .critical))) (by-back entry)
+      (mark-bits (entry .args .job .critical) (facts entry .critical)) (by-back entry)
 
 -- Left out.
 returns : tie.Need-returns
