@@ -1,9 +1,10 @@
 -- R4 to R6 and R34 at a few jobs, as computed facts: a job whose ready time and length pass its deadline is never kept, however
 -- early the bus is free (for every such job it is shown in Late); a deadline binds the finish, while the bus is free a rest later;
--- a partner stands before its optional half; and the seconds lost are those of the optional jobs left out.
+-- a partner stands before its optional half, and critical jobs are numbered up to 31; and the seconds lost are those of the optional jobs left out.
+use Prim.Native.Nat.{ℕ}
 use mathlib.Core.Path.{_≡_, refl}
 use mathlib.Core.Bool.{true, false}
-use mathlib.Core.List.{List, [], _∷_, reverse}
+use mathlib.Core.List.{List, [], _∷_, map, reverse}
 use mathlib.Core.Option.{none}
 use lib.IntN.{pos}
 use Rattle.seconds.specs.Limits.{rest}
@@ -46,6 +47,10 @@ partner-before = refl
 
 pub partner-behind : offendsAt (reverse halves) 0 ≡ true
 partner-behind = refl
+
+-- A critical job is numbered up to 31.
+pub critical-to-31 : map (λ (n : ℕ). offendsAt (oneRate n true 0 (pos 0) 200 (pos 1000) ∷ []) 0) (31 ∷ 32 ∷ []) ≡ false ∷ true ∷ []
+critical-to-31 = refl
 
 -- With the optional half left out its 300 seconds are lost, and with it kept none.
 pub left-out-seconds : secondsLost halves (1 ∷ 0 ∷ []) ≡ 300

@@ -1,4 +1,5 @@
--- The numbers that the rules fix, once each. Definitions only.
+-- The numbers that the rules fix, once each. Definitions only. Nothing in this crate computes with them: a wrong rest, or a wrong figure of
+-- halves, is first refused by the computed facts of `order AsWritten`, and every one by those of `worked Figures`.
 use Prim.Native.Nat.{ℕ, _+_}
 use lib.IntN.{ℤ, pos, negsuc}
 
