@@ -1,12 +1,13 @@
 -- P1 to P11 as one list, with an order of no jobs and a job that never runs: each question as a call is asked it, and the
 -- figures that the rules give for it. Answers and lent numbers are those of the definitions that the calls' contracts cite.
 -- One statement holds of the whole list, by computation.
-use Prim.Native.Nat.{ℕ, _*_}
+use Prim.Native.Nat.{ℕ, _*_, _≤_}
 use mathlib.Core.Path.{_≡_, refl}
 use mathlib.Core.Bool.{true, false}
 use mathlib.Core.List.{List, [], _∷_, _++_, map}
 use lib.IntN.{ℤ, pos, negsuc}
 use lib.ListN.{length, take, replicate}
+use borrow.Author.Tests.{le-ltb}
 use Rattle.seconds.specs.Limits.{rest}
 use Rattle.seconds.specs.Twos.{bitsTo, toBits}
 use Rattle.order.specs.Job.{Order, oneRate}
@@ -93,7 +94,7 @@ pub record Example : Type 0 where
   pub asked : List ℤ
   pub told : List ℤ
 
--- Beside an example's own numbers a call is lent room for a profile and a work area: 602 and 14,749 numbers, of any values.
+-- Beside an example's own numbers a call is lent room for a profile and a work area: 602 and 14,749 numbers or more, of any values.
 module _ (out work : List ℤ) where
   -- A plan's figures, then the starts, which were 1 for each job.
   abbrev pub planned : List ℕ → ℕ → List ℤ
@@ -196,9 +197,9 @@ module _ (out work : List ℤ) where
       ∷ []
 
   -- Every example comes out as the rules say.
-  pub examples-hold : length out ≡ 602 → length work ≡ 14749
+  pub examples-hold : 602 ≤ length out → 14749 ≤ length work
       → map (λ (e : Example). e .asked) examples ≡ map (λ (e : Example). e .told) examples
   unfolding rest bitsTo toBits decode encode numberOf bytesOf part flat each first headerWord headerOf countOf t0Of spareOf
       recordAt jobWord jobFields numbersOf jobCount fieldsAt packedHeader packedJob packOrder jobOf jobsOf orderOf fieldsWithin
       firstBad numberAt firstRepeat headerChecks jobChecks weightChecks planChecks extendJudged extendChecks
-  examples-hold room area = rw (room, area)
+  examples-hold room area = rw (le-ltb (length out) 602 room, le-ltb (length work) 14749 area)

@@ -1,10 +1,11 @@
 -- Orders of halves (R34, R35): the README's four jobs, and the edges of the call around check 13. Each question as the call is asked it,
 -- and what the rules say. One statement holds of the whole list, by computation.
-use Prim.Native.Nat.{ℕ, _*_}
+use Prim.Native.Nat.{ℕ, _*_, _≤_, _<_}
 use mathlib.Core.Path.{_≡_}
 use mathlib.Core.List.{List, [], _∷_, _++_, map}
 use lib.IntN.{ℤ, pos, negsuc}
 use lib.ListN.{length, replicate}
+use borrow.Author.Tests.{le-ltb, lt-ltb}
 use Rattle.seconds.specs.Limits.{rest}
 use Rattle.seconds.specs.Twos.{bitsTo, toBits}
 use Rattle.packed.specs.Layout.{decode, encode, numberOf, bytesOf}
@@ -38,7 +39,7 @@ abbrev refusal : ℕ → ℕ → List ℤ
 refusal number place =
     pos number ∷ pos place ∷ pos 0 ∷ pos 0 ∷ pos 0 ∷ pos 0 ∷ pos 0 ∷ pos 0 ∷ []
 
--- A call is lent a work area of 14,749 numbers, of any values, or one that is shorter.
+-- A call is lent a work area of 14,749 numbers or more, of any values, or one that is shorter.
 module _ (work short : List ℤ) where
   -- A plan's figures and the seconds lost, then the starts, which were 1 for each of so many places.
   abbrev with-work : List ℤ → List ℕ → ℕ → List ℤ
@@ -99,9 +100,9 @@ module _ (work short : List ℤ) where
       ∷ []
 
   -- Every one comes out as the rules say.
-  pub halves-hold : length work ≡ 14749 → length short ≡ 14748
+  pub halves-hold : 14749 ≤ length work → length short < 14749
       → map (λ (e : Example). e .asked) halves ≡ map (λ (e : Example). e .told) halves
   unfolding rest bitsTo toBits decode encode numberOf bytesOf part flat each first headerWord headerOf countOf t0Of spareOf
       recordAt jobWord jobFields numbersOf jobCount fieldsAt packedHeader packedJob packOrder jobOf jobsOf orderOf fieldsWithin
       firstBad numberAt firstRepeat firstOffending headerChecks jobChecks weightChecks halvesChecks planHalvesChecks
-  halves-hold area less = rw (area, less)
+  halves-hold area less = rw (le-ltb (length work) 14749 area, lt-ltb (length short) 14749 less)

@@ -1,12 +1,13 @@
 -- Checking plans and writing them (R37 to R40): the plans of P1, every condition of a legal plan on both sides, and the edges of the calls
 -- around checks 14 and 15. Each question as the calls are asked it, and what the rules say. One statement holds of the whole list, by
 -- computation.
-use Prim.Native.Nat.{ℕ, _*_, _^_}
+use Prim.Native.Nat.{ℕ, _*_, _^_, _≤_, _<_}
 use mathlib.Core.Path.{_≡_, refl}
 use mathlib.Core.List.{List, [], _∷_, _++_, map}
 use lib.Count.{ones}
 use lib.IntN.{ℤ, pos, negsuc}
 use lib.ListN.{length, take, replicate, set}
+use borrow.Author.Tests.{le-ltb, lt-ltb}
 use Rattle.seconds.specs.Limits.{rest}
 use Rattle.seconds.specs.Twos.{bitsTo, toBits}
 use Rattle.packed.specs.Layout.{decode, encode, numberOf, bytesOf}
@@ -88,7 +89,7 @@ refusal number = pos number ∷ pos 0 ∷ []
 abbrev bothRefuse : ℕ → List ℤ
 bothRefuse number = refusal number ++ refusal number
 
--- Calls are lent a work area of 14,749 numbers, of any values, or one that is shorter.
+-- Calls are lent a work area of 14,749 numbers or more, of any values, or one that is shorter.
 module _ (work short : List ℤ) where
   -- Of Legal, then of Best.
   abbrev checked : List ℕ → List ℕ → List ℤ
@@ -158,12 +159,20 @@ module _ (work short : List ℤ) where
       ∷ []
 
   -- Every one comes out as the rules say.
-  pub plans-hold : length work ≡ 14749 → length short ≡ 14748
+  pub plans-hold : 14749 ≤ length work → length short < 14749
       → map (λ (e : Example). e .asked) plans ≡ map (λ (e : Example). e .told) plans
   unfolding toBits encode numberOf bytesOf planNumber packPlan maskIn countIn startsIn padIn sentChecks legalChecks bestChecks
       writeChecks
   plans-hold area less =
-      rw (ones-raised 0x80 40, ones-raised 0xB8 40, ones-raised 0xC0 40, ones-raised 0xC8 40, ones-raised 0xD8 40, area, less)
+      rw (
+        ones-raised 0x80 40,
+        ones-raised 0xB8 40,
+        ones-raised 0xC0 40,
+        ones-raised 0xC8 40,
+        ones-raised 0xD8 40,
+        le-ltb (length work) 14749 area,
+        lt-ltb (length short) 14749 less,
+      )
       (unfold
       ones rest bitsTo decode part flat each first headerWord headerOf countOf t0Of spareOf recordAt jobWord jobFields numbersOf
       jobCount fieldsAt packedHeader packedJob packOrder jobOf jobsOf orderOf fieldsWithin firstBad numberAt firstRepeat headerChecks

@@ -1,10 +1,11 @@
 -- The rest after every job (R5, R6, R11), on both sides of its edges: each question as a call is asked it, and what the rules say.
 -- One statement holds of the whole list, by computation.
-use Prim.Native.Nat.{ℕ}
+use Prim.Native.Nat.{ℕ, _≤_}
 use mathlib.Core.Path.{_≡_}
 use mathlib.Core.List.{List, [], _∷_, _++_, map}
 use lib.IntN.{ℤ, pos, negsuc}
 use lib.ListN.{length}
+use borrow.Author.Tests.{le-ltb}
 use Rattle.seconds.specs.Limits.{rest}
 use Rattle.seconds.specs.Twos.{bitsTo, toBits}
 use Rattle.packed.specs.Layout.{decode, encode, numberOf, bytesOf}
@@ -98,9 +99,9 @@ module _ (out work : List ℤ) where
       ∷ []
 
   -- Every one comes out as the rules say.
-  pub rests-hold : length out ≡ 602 → length work ≡ 14749
+  pub rests-hold : 602 ≤ length out → 14749 ≤ length work
       → map (λ (e : Example). e .asked) rests ≡ map (λ (e : Example). e .told) rests
   unfolding rest bitsTo toBits decode encode numberOf bytesOf part flat each first headerWord headerOf countOf t0Of spareOf
       recordAt jobWord jobFields numbersOf jobCount fieldsAt packedHeader packedJob packOrder jobOf jobsOf orderOf fieldsWithin
       firstBad numberAt firstRepeat headerChecks jobChecks weightChecks planChecks extendJudged extendChecks
-  rests-hold room area = rw (room, area)
+  rests-hold room area = rw (le-ltb (length out) 602 room, le-ltb (length work) 14749 area)
