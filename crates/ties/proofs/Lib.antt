@@ -1,0 +1,2 @@
+-- What is proved of the contract of who wins.
+pub mod Determined
