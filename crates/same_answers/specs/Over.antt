@@ -1,13 +1,22 @@
 -- The calls' answers and buffers with what they take from planning left open, as a way to compute it. Definitions only.
 use Prim.Native.Nat.{ℕ}
-use mathlib.Core.List.{List}
+use mathlib.Core.Bool.{Bool, cond, _&&_}
+use mathlib.Core.List.{List, []}
 use mathlib.Core.Option.{Option, Option·map}
+use lib.Dec.{ltb}
 use lib.IntN.{ℤ}
+use lib.ListN.{length}
+use Rattle.seconds.specs.Limits.{latestFree}
 use Rattle.order.specs.Job.{Job, Order, Point}
 use Rattle.order.specs.Choice.{mask, numberKept, lostWeight, starts}
 use Rattle.plan.specs.Plan.{Ended, Answer}
 use Rattle.points.specs.Ways.{Way}
-use Rattle.packed.specs.Packed.{orderOf}
+use Rattle.packed.specs.Judge.{Verdict, fine, refused, judge}
+use Rattle.packed.specs.Packed.{countOf, orderOf}
+use Rattle.packed.specs.Refusals.{orderChecks}
+use Rattle.packed_plan.specs.Plan.{keptIn}
+use Rattle.legal.specs.Legal.{weightKept}
+use Rattle.pack.specs.declared.Packed.{Packed}
 use Rattle.planner.specs.declared.Planned.{Planned}
 use Rattle.planner.specs.Calls.{planVerdict, plannedBy, startsBy}
 use Rattle.halves.specs.declared.HalvesPlanned.{HalvesPlanned}
@@ -17,6 +26,12 @@ use Rattle.extending.specs.Calls.{profileGiven, extendVerdict, extendedBy, outB
 use Rattle.ties.specs.declared.Chosen.{Chosen}
 use Rattle.ties.specs.Winning.{TieRule, byPoints}
 use Rattle.choosing.specs.Choosing.{choosingVerdict, chosenBy, partOf, placeOf}
+use Rattle.plan_writer.specs.Calls.{writeVerdict, writtenBy, outBy as bytesBy}
+use Rattle.checking.specs.declared.Checked.{Checked}
+use Rattle.checking.specs.Calls.{legalIn, checkedBy}
+use Rattle.best_plan.specs.Calls.{bestVerdict}
+use Rattle.best_plan.specs.Weights.{notAbove}
+use Rattle.report.specs.Report.{refusalLine, planText, textRoom}
 
 -- ---- planning, and planning halves
 
@@ -75,3 +90,34 @@ abbrev pub choiceOver : Way → TieRule → List ℕ → List ℕ → ℕ × ℕ
 choiceOver w rule first second at other t work =
     let c = questionOver w rule first second t work in
     (partOf c first second, placeOf c at other)
+
+-- ---- writing the plan, and whether a plan is best
+
+-- The answer, and the bytes at exit.
+abbrev pub writeOver : Way → List ℕ → List ℕ → List ℤ → Packed × List ℕ
+writeOver w order out work =
+    let v = writeVerdict order out work in
+    let a = planAnswerOver w (orderOf order) in
+    (writtenBy v a, bytesBy v a out)
+
+-- A plan is best if it is legal and the order's last point, by the latest time at which the bus can be free, is no heavier.
+abbrev pub bestBy : List ℕ → List ℕ → Option Point → Bool
+bestBy order plan last =
+    legalIn order plan
+    && notAbove (Option·map (λ (p : Point). p .weight) last) (weightKept (orderOf order) (keptIn (countOf order) plan))
+
+abbrev pub bestOver : Way → List ℕ → List ℕ → List ℤ → Checked
+bestOver w order plan work = checkedBy (bestVerdict order plan work) (bestBy order plan (pointOver w order latestFree))
+
+-- ---- the program's text
+
+-- By the verdict and the plan.
+abbrev pub textBy : List Job → Verdict → Option Answer → List ℕ
+textBy js (refused r) plan = refusalLine r
+textBy js fine plan = planText js plan
+
+-- What is written for any bytes into any buffer.
+abbrev pub reportOver : Way → List ℕ → List ℕ → List ℕ
+reportOver w bytes out =
+    let o = orderOf bytes in
+    cond (ltb (length out) textRoom) [] (textBy (o .jobs) (judge (orderChecks bytes)) (planAnswerOver w o))

@@ -1,20 +1,28 @@
 -- Two ways to plan that give the same for every accepted order give every call the same answer and the same buffers, for every
 -- input. So rows and lists do, and both give what the contracts of the calls say.
 use Prim.Native.Nat.{ℕ}
-use mathlib.Core.Path.{_≡_, refl, ap, ap₂}
-use mathlib.Core.List.{List, _++_}
+use mathlib.Core.Path.{_≡_, refl, sym, ap, ap₂, _∙_}
+use mathlib.Core.Bool.{cond, _&&_}
+use mathlib.Core.List.{List, [], _++_}
 use mathlib.Core.Option.{Option, Option·map}
+use lib.Dec.{ltb}
 use lib.IntN.{ℤ}
 use lib.ListN.{length}
-use Rattle.plan.specs.Plan.{Ended, Answer}
+use Rattle.seconds.specs.Limits.{latestFree}
+use Rattle.order.specs.Job.{Order}
+use Rattle.plan.specs.Plan.{Ended, Answer, planAnswer}
+use Rattle.profile.specs.Profile.{lookup, orderProfile}
 use Rattle.profile.specs.Rising.{Rising}
+use Rattle.profile.specs.Worth.{lookup-worth, order-rises}
 use Rattle.points.specs.Ways.{Way, SameWay, byRows, byLists, byRules}
 use Rattle.points.specs.WaysLaws.{lists-rules, rows-lists}
-use Rattle.packed.specs.Judge.{Verdict, fine, refused}
+use Rattle.packed.specs.Judge.{Verdict, fine, refused, judge}
 use Rattle.packed.specs.JudgeLaws.{stages-fine}
 use Rattle.packed.specs.Packed.{countOf, numbersOf, orderOf, jobsIn}
 use Rattle.packed.specs.Refusals.{roomChecks, orderChecks, halvesChecks}
-use Rattle.packed.specs.Accepted.{OrderFine, order-fine}
+use Rattle.packed.specs.Accepted.{OrderFine, order-fine, order-within}
+use Rattle.packed_plan.specs.Plan.{keptIn}
+use Rattle.legal.specs.Legal.{weightKept, isBest}
 use Rattle.seconds.specs.Determined.{two}
 use Rattle.profiles.specs.Numbers.{mostNumbers}
 use Rattle.area.specs.Area.{area}
@@ -28,7 +36,15 @@ use Rattle.extending.specs.ExtendingLaws.{Accepted, accepted, accepted-order}
 use Rattle.ties.specs.declared.Chosen.{Chosen}
 use Rattle.ties.specs.Winning.{TieRule, byPoints}
 use Rattle.choosing.specs.Choosing.{choosingChecks, choosingVerdict, chosenBy, partOf, placeOf, chosenOf}
+use Rattle.plan_writer.specs.Calls.{planRoom, writeChecks, writeVerdict, writtenBy, outBy as bytesBy, writtenOf, outAfter as bytesAfter}
+use Rattle.checking.specs.Calls.{legalChecks, legalIn, checkedBy}
+use Rattle.checking.specs.CallLaws.{order-passed}
+use Rattle.best_plan.specs.Calls.{bestChecks, bestVerdict, bestIn, bestOf}
+use Rattle.best_plan.specs.Weights.{notAbove}
+use Rattle.best_plan.specs.Most.{most-told}
 use Rattle.same_answers.specs.Over.{answerWith, planAnswerOver, planOver, lostOver, halvesOver, extendOver, pointOver, questionOver, choiceOver}
+use Rattle.report.specs.Report.{textOf, reportOf, textRoom, printed}
+use Rattle.same_answers.specs.Over.{writeOver, bestBy, bestOver, textBy, reportOver}
 
 -- Two ways give the same for every accepted order.
 abbrev pub Agree : Way → Way → Type 0
@@ -48,6 +64,12 @@ by-verdict : {X A : Type 0} (by : Verdict → X → A) (v : Verdict) (x y : X) �
     → (((r : _) → by (refused r) x ≡ by (refused r) y)) → by v x ≡ by v y
 by-verdict by fine x y same none = ap (by fine) (same refl)
 by-verdict by (refused r) x y same none = none r
+
+-- An order whose plan passes the checks of Best is accepted.
+best-fine : (order plan : List ℕ) (work : List ℤ) → bestVerdict order plan work ≡ fine → judge (orderChecks order) ≡ fine
+unfolding bestChecks
+best-fine order plan work e =
+    order-passed order plan (stages-fine (legalChecks order plan) (roomChecks area (length work)) .0 e .0)
 
 module _ {a b : Way} (agree : Agree a b) where
   -- ---- the plan of an accepted order
@@ -147,6 +169,38 @@ module _ {a b : Way} (agree : Agree a b) where
   choice-same rule first second at other t work =
       ap (λ (c : Chosen). (partOf c first second, placeOf c at other)) (question-same rule first second t work)
 
+  -- ---- writing the plan: the answer, and the bytes at exit
+
+  write-fine : (order out : List ℕ) (work : List ℤ) → writeVerdict order out work ≡ fine → OrderFine order
+  unfolding writeChecks
+  write-fine order out work e =
+      order-fine order .0
+      (stages-fine (orderChecks order) _ .0
+      (stages-fine (orderChecks order ++ roomChecks planRoom (length out)) (roomChecks area (length work)) .0 e .0) .0)
+
+  pub write-same : (order out : List ℕ) (work : List ℤ) → writeOver a order out work ≡ writeOver b order out work
+  write-same order out work =
+      by-verdict (λ v p. (writtenBy v p, bytesBy v p out)) (writeVerdict order out work)
+      (planAnswerOver a (orderOf order)) (planAnswerOver b (orderOf order))
+      (λ e. answers-same order (write-fine order out work e)) (λ r. refl)
+
+  -- ---- whether a plan is best
+
+  pub best-same : (order plan : List ℕ) (work : List ℤ) → bestOver a order plan work ≡ bestOver b order plan work
+  best-same order plan work =
+      by-verdict checkedBy (bestVerdict order plan work) (bestBy order plan (pointOver a order latestFree))
+      (bestBy order plan (pointOver b order latestFree))
+      (λ e. ap (bestBy order plan)
+      (agree order (order-fine order .0 (best-fine order plan work e)) .pointAt (orderOf order .t0) latestFree)) (λ r. refl)
+
+  -- ---- the program's text
+
+  pub report-same : (bytes out : List ℕ) → reportOver a bytes out ≡ reportOver b bytes out
+  report-same bytes out =
+      ap (λ (text : List ℕ). cond (ltb (length out) textRoom) [] text)
+      (by-verdict (textBy (orderOf bytes .jobs)) (judge (orderChecks bytes)) (planAnswerOver a (orderOf bytes))
+      (planAnswerOver b (orderOf bytes)) (λ e. answers-same bytes (order-fine bytes .0 e)) (λ r. refl))
+
 -- ---- as computed from rows and as computed from lists they are the same function
 
 -- Of each call, rows and lists.
@@ -158,6 +212,9 @@ pub record SameCalls (a b : Way) : Type 0 where
       → questionOver a rule first second t work ≡ questionOver b rule first second t work
   pub choice : (rule : TieRule) (first second : List ℕ) (at other : ℕ × ℕ) (t : ℤ) (work : List ℤ)
       → choiceOver a rule first second at other t work ≡ choiceOver b rule first second at other t work
+  pub write : (order out : List ℕ) (work : List ℤ) → writeOver a order out work ≡ writeOver b order out work
+  pub best : (order plan : List ℕ) (work : List ℤ) → bestOver a order plan work ≡ bestOver b order plan work
+  pub report : (bytes out : List ℕ) → reportOver a bytes out ≡ reportOver b bytes out
 
 same-calls : {a b : Way} → Agree a b → SameCalls a b
 same-calls agree =
@@ -167,6 +224,9 @@ same-calls agree =
       extend = extend-same agree;
       question = question-same agree;
       choice = choice-same agree;
+      write = write-same agree;
+      best = best-same agree;
+      report = report-same agree;
     }
 
 pub rows-and-lists : SameCalls byRows byLists
@@ -196,3 +256,32 @@ pub contracts-choice : (rule : TieRule) (first second : List ℕ) (at other : �
     → choiceOver byRules rule first second at other t work
     ≡ (partOf (chosenOf rule first second t work) first second, placeOf (chosenOf rule first second t work) at other)
 contracts-choice rule first second at other t work = refl
+
+pub contracts-write : (order out : List ℕ) (work : List ℤ)
+    → writeOver byRules order out work ≡ (writtenOf order out work, bytesAfter order out work)
+contracts-write order out work = refl
+
+-- Of Best it is the greatest weight of the profile that decides.
+pub contracts-best : (order plan : List ℕ) (work : List ℤ) → bestOver byRules order plan work ≡ bestOf order plan work
+unfolding isBest
+contracts-best order plan work =
+    by-verdict checkedBy (bestVerdict order plan work) (bestBy order plan (lookup (orderProfile o) latestFree)) (bestIn order plan)
+    (λ e. ap (λ m. legalIn order plan && m)
+    (ap (λ m. notAbove m kept) (lookup-worth (order-rises o) latestFree)
+    ∙ sym (most-told o (order-within order (best-fine order plan work e)) kept))) (λ r. refl)
+  where
+    o : Order
+    o = orderOf order
+
+    kept : ℕ
+    kept = weightKept o (keptIn (countOf order) plan)
+
+by-plan : (v : Verdict) (o : Order) → textBy (o .jobs) v (planAnswer o) ≡ textOf v o
+unfolding textOf
+by-plan fine o = refl
+by-plan (refused r) o = refl
+
+pub contracts-report : (bytes out : List ℕ) → reportOver byRules bytes out ≡ printed bytes out
+unfolding printed reportOf
+contracts-report bytes out =
+    ap (λ (text : List ℕ). cond (ltb (length out) textRoom) [] text) (by-plan (judge (orderChecks bytes)) (orderOf bytes))
