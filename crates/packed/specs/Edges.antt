@@ -3,6 +3,7 @@
 -- One statement holds of the whole list, by computation.
 use Prim.Native.Nat.{ℕ}
 use mathlib.Core.Path.{_≡_, refl}
+use mathlib.Core.Bool.{true, false}
 use mathlib.Core.List.{List, [], _∷_, _++_, map}
 use lib.IntN.{ℤ, pos, negsuc}
 use lib.ListN.{replicate}
@@ -10,7 +11,7 @@ use Rattle.seconds.specs.Twos.{bitsTo, toBits}
 use Rattle.packed.specs.Layout.{decode, encode, numberOf, bytesOf}
 use Rattle.packed.specs.Places.{part, flat, each, first}
 use Rattle.packed.specs.Packed.{headerWord, headerOf, countOf, t0Of, spareOf, recordAt, jobWord, jobFields}
-use Rattle.packed.specs.Packed.{numbersOf, jobCount, fieldsAt, packedHeader, packedJob, packOrder, jobOf, jobsOf}
+use Rattle.packed.specs.Packed.{numbersOf, jobCount, fieldsAt, packedHeader, packedJob, packOrder, isCritical, jobOf, jobsOf}
 use Rattle.packed.specs.Judge.{inField, atPlace, plainly, Verdict, fine, refused, judge}
 use Rattle.packed.specs.Refusals.{fieldsWithin, badField, firstBad, numberAt, firstRepeat, firstOffending, headerChecks}
 use Rattle.packed.specs.Refusals.{listChecks, jobChecks, weightChecks, halvesChecks, numberChecks, unpackChecks, packChecks}
@@ -52,6 +53,11 @@ critical number = job number (pos 1) (pos 0) (pos 10)
 
 abbrev optional : ℕ → ℕ → ℕ → List ℤ
 optional number weight long = job number (pos 0) (pos weight) (pos long)
+
+-- The mark of a critical job is 1, and no other number is.
+pub critical-marks : map (λ (mark : ℤ). isCritical (job 2 mark (pos 0) (pos 1))) (pos 1 ∷ pos 0 ∷ pos 2 ∷ negsuc 0 ∷ [])
+    ≡ true ∷ false ∷ false ∷ false ∷ []
+critical-marks = refl
 
 -- ---- the list
 
