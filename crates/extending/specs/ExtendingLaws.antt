@@ -25,7 +25,7 @@ use Rattle.codes.specs.Code.{listAt}
 use Rattle.codes.specs.HeldLaws.{held-read, list-length}
 use Rattle.stepping.specs.declared.Prefix.{Prefix}
 use Rattle.reading.specs.Reading.{CanWrite}
-use Rattle.filling.specs.Lists.{CanFillLast, FilledLast}
+use Rattle.filling.specs.Lists.{CanFill, FilledLast}
 use Rattle.filling.specs.Begin.{CanBegin, Begun}
 use Rattle.filling.specs.BeginLaws.{profile-valid}
 use Rattle.extending.specs.Calls.{profileGiven, profileChecks, extendJudged, extension}
@@ -98,7 +98,7 @@ module _ {ns : List ℤ} {bytes : List ℕ} {out work : List ℤ} (f : CanExtend
       light = omega (arith, all .light, ap lastWeight (given-read ns (all .valid)))
 
       -- the lists of all jobs can be filled behind it,
-      pub can-fill : CanFillLast bytes n count begun
+      pub can-fill : CanFill bytes n count begun
       can-fill =
           record {
             order = accepted-order all;

@@ -19,6 +19,7 @@ use Rattle.codes.specs.Held.{Held}
 use Rattle.stepping.specs.declared.Prefix.{Prefix}
 use Rattle.stepping.specs.Stepping.{Buffer}
 use Rattle.reading.specs.Reading.{Stands}
+use Rattle.filling.specs.declared.Totals.{Totals}
 
 -- ---- the lists of all prefixes
 
@@ -62,35 +63,30 @@ pub record FilledOne (bytes : List ℕ) (k place count : ℕ) (work : List ℤ) 
 -- ---- all jobs
 
 -- The lists can be filled: the order is accepted, a profile stands at the front, and there is weight for both together.
-pub record CanFill (bytes : List ℕ) (n count : ℕ) (work : List ℤ) (places counts : List ℕ) (pushed : List ℤ) : Type 0 where
+pub record CanFill (bytes : List ℕ) (n count : ℕ) (work : List ℤ) : Type 0 where
   pub order : OrderFine bytes
   pub jobs : n ≡ countOf bytes
   pub held : Held work 0 (listAt work 0 count)
   pub valid : ValidProfile (listAt work 0 count)
   pub light : lastWeight (listAt work 0 count) + weightOf (jobsIn bytes) ≤ mostWeight
   pub room : area ≤ length work
+
+-- And there is a note for each of them.
+pub record CanFillLists (bytes : List ℕ) (n count : ℕ) (work : List ℤ) (places counts : List ℕ) : Type 0 where
+  pub filling : CanFill bytes n count work
   pub roomPlaces : mostJobs < length places
   pub roomCounts : mostJobs < length counts
-  pub buffer : Buffer pushed
 
 -- They are filled, from that profile; the points of all and the weight of all jobs are told.
-pub record Filled (bytes : List ℕ) (n count : ℕ) (work : List ℤ) (points weight : ℕ) (places counts : List ℕ) (work′ : List ℤ)
+pub record Filled (bytes : List ℕ) (n count : ℕ) (work : List ℤ) (totals : Totals) (places counts : List ℕ) (work′ : List ℤ)
     : Type 0 where
   pub used : ℕ
   pub small : used ≤ area
   pub lists : Lists (listAt work 0 count) (jobsIn bytes) n places counts used work′
-  pub total : points ≡ pointsTo (listAt work 0 count) (jobsIn bytes) n
-  pub weighs : weight ≡ weightOf (jobsIn bytes)
+  pub total : totals .points ≡ pointsTo (listAt work 0 count) (jobsIn bytes) n
+  pub weighs : totals .weight ≡ weightOf (jobsIn bytes)
 
--- The last of them alone.
-pub record CanFillLast (bytes : List ℕ) (n count : ℕ) (work : List ℤ) : Type 0 where
-  pub order : OrderFine bytes
-  pub jobs : n ≡ countOf bytes
-  pub held : Held work 0 (listAt work 0 count)
-  pub valid : ValidProfile (listAt work 0 count)
-  pub light : lastWeight (listAt work 0 count) + weightOf (jobsIn bytes) ≤ mostWeight
-  pub room : area ≤ length work
-
+-- The last of them stands.
 pub record FilledLast (bytes : List ℕ) (count : ℕ) (work : List ℤ) (r : Prefix) (work′ : List ℤ) : Type 0 where
   pub list : Stands work′ (r .place) (r .count)
   pub is : listAt work′ (r .place) (r .count) ≡ extend (listAt work 0 count) (jobsIn bytes)

@@ -14,7 +14,7 @@ ghost use Rattle.profiles.specs.Numbers.{holdsProfile};
 ghost use Rattle.profiles.specs.Places.{pointsOf};
 ghost use Rattle.codes.specs.Held.{Held};
 ghost use Rattle.stepping.specs.Stepping.{Buffer};
-ghost use Rattle.filling.specs.Lists.{CanFillOne, FilledOne, CanFill, Filled, CanFillLast, FilledLast};
+ghost use Rattle.filling.specs.Lists.{CanFillOne, FilledOne, CanFillLists, Filled, CanFill, FilledLast};
 ghost use Rattle.filling.specs.Begin.{CanStart, CanBegin, Begun};
 
 // The list after one more job: where it begins, how many points it has, and the weight of the job.
@@ -66,7 +66,7 @@ fn fill_one(
 }
 
 // A buffer for a pushed list: a number past all at its top.
-pub fn buffer() -> [i32; 303]
+fn buffer() -> [i32; 303]
     ensures { λ r. ⌜ Buffer r ⌝ }
 {
     [PAST; 303]
@@ -88,13 +88,12 @@ pub fn fill_lists(
     count: usize,
     places: &mut [usize],
     counts: &mut [usize],
-    pushed: &mut [i32],
 ) -> Totals
-    requires { ⌜ CanFill (now bytes) n count (now work) (now places) (now counts) (now pushed) ⌝ }
+    requires { ⌜ CanFillLists (now bytes) n count (now work) (now places) (now counts) ⌝ }
     ensures { λ r. ⌜
-        Filled (now (bytes .entry)) n count (now (work .entry)) (r .points) (r .weight) (now (places .exit))
-        (now (counts .exit)) (now (work .exit)) ⌝ }
+        Filled (now (bytes .entry)) n count (now (work .entry)) r (now (places .exit)) (now (counts .exit)) (now (work .exit)) ⌝ }
 {
+    let mut pushed = buffer();
     places[0] = 0;
     counts[0] = count;
     let mut place = 0;
@@ -103,7 +102,7 @@ pub fn fill_lists(
     let mut weight = 0;
     let mut k = 0;
     while k < n {
-        let next = fill_one(work, bytes, k, place, many, pushed);
+        let next = fill_one(work, bytes, k, place, many, &mut pushed);
         place = next.place;
         many = next.count;
         points += many;
@@ -120,13 +119,12 @@ pub fn fill_lists(
 
 // The list after all of the n jobs, behind a first list at the front.
 pub fn fill_last(work: &mut [i32], bytes: &[u8], n: usize, count: usize) -> Prefix
-    requires { ⌜ CanFillLast (now bytes) n count (now work) ⌝ }
+    requires { ⌜ CanFill (now bytes) n count (now work) ⌝ }
     ensures { λ r. ⌜ FilledLast (now (bytes .entry)) count (now (work .entry)) r (now (work .exit)) ⌝ }
 {
     let mut places = notes();
     let mut counts = notes();
-    let mut pushed = buffer();
-    fill_lists(work, bytes, n, count, &mut places, &mut counts, &mut pushed);
+    fill_lists(work, bytes, n, count, &mut places, &mut counts);
     let place = places[n];
     let many = counts[n];
     Prefix {

@@ -29,6 +29,7 @@ use Rattle.points.specs.Walk.{walkLists, walkListsFrom}
 use Rattle.points.specs.WalkLaws.{plan-by-lists}
 use Rattle.filling.specs.Lists.{Lists}
 use Rattle.filling.specs.ListsLaws.{jobs-single}
+use Rattle.walking.specs.declared.End.{End}
 use Rattle.walking.specs.Trail.{Walks, walkMask}
 use Rattle.starting.specs.Picks.{picksOf, WritesStarts, startsWritten}
 use Rattle.starting.specs.PicksLaws.{picks-feasible, kept-of-mask}
@@ -79,22 +80,21 @@ module _ (bytes : List ℕ) (fine : OrderFine bytes) (e : Ended) (is : plan (t0O
       (plan-picks (t0Of bytes) (jobsIn bytes) e is (jobs-one-rate bytes) (omega (arith, jobs-count bytes, fine .header .few)))
 
   -- The walk from its end can be made,
-  pub plan-walks : (work : List ℤ) (places counts : List ℕ) (used : ℕ)
-      → Lists (startPoint (t0Of bytes) ∷ []) (jobsIn bytes) (countOf bytes) places counts used work → used ≤ length work
-      → countOf bytes < length places → countOf bytes < length counts
-      → Walks work bytes (countOf bytes) places counts (e .end .weight) (e .end .time)
-  plan-walks work places counts used lists room roomPlaces roomCounts =
+  pub plan-walks : (n : ℕ) (end : End) → n ≡ countOf bytes → end .weight ≡ e .end .weight → end .finish ≡ e .end .time
+      → (work : List ℤ) (places counts : List ℕ) (used : ℕ) → Lists (startPoint (t0Of bytes) ∷ []) (jobsIn bytes) n places counts used work
+      → used ≤ length work → n < length places → n < length counts → Walks work bytes n places counts end
+  plan-walks n end count weighs ends work places counts used lists room roomPlaces roomCounts =
       record {
         order = fine;
-        count = refl;
+        count = count;
         used = used;
         lists = lists;
         room = room;
         roomPlaces = roomPlaces;
         roomCounts = roomCounts;
-        free = plan-free (t0Of bytes) (jobsIn bytes) e is (jobs-fit bytes fine) free;
+        free = rw ends (plan-free (t0Of bytes) (jobsIn bytes) e is (jobs-fit bytes fine) free);
         choice = e .choice;
-        walked = plan-walked (t0Of bytes) (jobsIn bytes) e is (jobs-single bytes fine);
+        walked = rw (weighs, ends) (plan-walked (t0Of bytes) (jobsIn bytes) e is (jobs-single bytes fine));
       }
 
   -- the starts that go with its mask can be written,

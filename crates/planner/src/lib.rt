@@ -1,8 +1,9 @@
 // The call that plans: the plan of a packed order. Any bytes and buffers have an answer. Assumes nothing.
 use area::AREA;
 use area::clear;
+use fields::Header;
 use fields::header_at;
-use filling::buffer;
+use filling::Totals;
 use filling::fill_lists;
 use filling::notes;
 use filling::start_at;
@@ -10,10 +11,12 @@ use judge::Verdict;
 use judge::judge_order;
 use packed::Refusal;
 use packed::plainly;
+use profiles::LATEST;
 use reading::Found;
 use reading::last_by;
 use starting::kept_of;
 use starting::write_starts;
+use walking::End;
 use walking::walk;
 ghost use mathlib.Core.Path.{_≡_};
 ghost use Rattle.packed.specs.Judge.{fine, judge};
@@ -38,95 +41,68 @@ pub enum Planned {
     Made(Figures),
 }
 
-// A time past every point's.
-const EVER: i32 = 200_000;
-
-// The plan that ends at the last point of the last list, by its weight and time; its starts are written. Of all jobs the
-// points and the weight are told.
+// The plan of a mask: its starts are written, and its figures told by its end and by the points and the weight of all jobs.
 fn make_plan(
     bytes: &[u8],
-    n: usize,
-    t0: i32,
-    places: &[usize],
-    counts: &[usize],
-    points: usize,
-    total: usize,
-    weight: usize,
-    finish: i32,
+    header: Header,
+    mask: u64,
+    totals: Totals,
+    end: End,
     starts: &mut [i32],
-    work: &[i32],
 ) -> Planned
-    requires { ⌜ CanMake (now bytes) n t0 (now places) (now counts) points total weight finish (now starts) (now work) ⌝ }
+    requires { ⌜ CanMake (now bytes) header mask totals end (now starts) ⌝ }
     ensures { λ r. ⌜ MadeIn (now (bytes .entry)) (now (starts .entry)) r (now (starts .exit)) ⌝ }
 {
-    let mask = walk(work, bytes, n, places, counts, weight, finish);
-    write_starts(bytes, n, t0, mask, starts);
+    write_starts(bytes, header.count, header.t0, mask, starts);
     Planned::Made(Figures {
         mask: mask,
         kept: kept_of(mask),
-        kept_weight: weight as u32,
-        lost_weight: (total - weight) as u32,
-        finish: finish,
-        points: points as u32,
+        kept_weight: end.weight as u32,
+        lost_weight: (totals.weight - end.weight) as u32,
+        finish: end.finish,
+        points: totals.points as u32,
     })
 }
 
-// The plan by the lists of all jobs; where the last list has no point there is none (refusal 11).
+// The plan by the lists of all jobs: it ends at the last point of the last list, and the walk back from there gives its mask.
+// Where the last list has no point there is none (refusal 11).
 fn plan_by_lists(
     bytes: &[u8],
-    n: usize,
-    t0: i32,
+    header: Header,
     starts: &mut [i32],
     work: &mut [i32],
     places: &mut [usize],
     counts: &mut [usize],
-    pushed: &mut [i32],
 ) -> Planned
-    requires { ⌜ CanPlanOver (now bytes) n t0 (now starts) (now work) (now places) (now counts) (now pushed) ⌝ }
+    requires { ⌜ CanPlanOver (now bytes) header (now starts) (now work) (now places) (now counts) ⌝ }
     ensures { λ r. ⌜ MadeIn (now (bytes .entry)) (now (starts .entry)) r (now (starts .exit)) ⌝ }
 {
-    start_at(work, t0);
-    let totals = fill_lists(work, bytes, n, 1, places, counts, pushed);
-    let points = totals.points;
-    let total = totals.weight;
+    let n = header.count;
+    start_at(work, header.t0);
+    let totals = fill_lists(work, bytes, n, 1, places, counts);
     let place = places[n];
     let count = counts[n];
-    match last_by(work, place, count, EVER) {
+    match last_by(work, place, count, LATEST) {
         Found::Nothing => Planned::Refused(plainly(11)),
-        Found::At(weight, finish) => make_plan(
-            bytes,
-            n,
-            t0,
-            places,
-            counts,
-            points,
-            total,
-            weight,
-            finish,
-            starts,
-            work,
-        ),
+        Found::At(weight, finish) => {
+            let end = End {
+                weight: weight,
+                finish: finish,
+            };
+            let mask = walk(work, bytes, n, places, counts, end);
+            make_plan(bytes, header, mask, totals, end, starts)
+        }
     }
 }
 
-// The same with notes for the lists and a buffer for the pushed one.
-fn plan_within(bytes: &[u8], n: usize, t0: i32, starts: &mut [i32], work: &mut [i32]) -> Planned
-    requires { ⌜ CanPlan (now bytes) n t0 (now starts) (now work) ⌝ }
+// The same with notes for the lists.
+fn plan_within(bytes: &[u8], header: Header, starts: &mut [i32], work: &mut [i32]) -> Planned
+    requires { ⌜ CanPlan (now bytes) header (now starts) (now work) ⌝ }
     ensures { λ r. ⌜ MadeIn (now (bytes .entry)) (now (starts .entry)) r (now (starts .exit)) ⌝ }
 {
     let mut places = notes();
     let mut counts = notes();
-    let mut pushed = buffer();
-    plan_by_lists(
-        bytes,
-        n,
-        t0,
-        starts,
-        work,
-        &mut places,
-        &mut counts,
-        &mut pushed,
-    )
+    plan_by_lists(bytes, header, starts, work, &mut places, &mut counts)
 }
 
 // Planning an order that has passed its checks: the room is judged, and the work area is cleared behind.
@@ -136,15 +112,13 @@ pub fn plan_order(bytes: &[u8], starts: &mut [i32], work: &mut [i32]) -> Planned
         PlanCall (now (bytes .entry)) (now (starts .entry)) (now (work .entry)) r (now (starts .exit)) (now (work .exit)) ⌝ }
 {
     let header = header_at(bytes);
-    let n = header.count;
-    let t0 = header.t0;
-    if starts.len() < n {
+    if starts.len() < header.count {
         return Planned::Refused(plainly(10));
     }
     if work.len() < AREA {
         return Planned::Refused(plainly(10));
     }
-    let answer = plan_within(bytes, n, t0, starts, &mut work[..AREA]);
+    let answer = plan_within(bytes, header, starts, &mut work[..AREA]);
     clear(work);
     answer
 }

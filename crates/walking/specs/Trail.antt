@@ -25,6 +25,7 @@ use Rattle.codes.specs.Code.{listAt}
 use Rattle.reading.specs.Reading.{Stands}
 use Rattle.filling.specs.Lists.{Lists}
 use Rattle.walking.specs.declared.Trail.{Trail}
+use Rattle.walking.specs.declared.End.{End}
 
 -- ---- one job back
 
@@ -63,9 +64,8 @@ pub record StepsBack (work : List ℤ) (place count bit : ℕ) (job : Numbers) (
 
 -- ---- all jobs
 
--- The walk can be made: the bytes are an order, the lists of all its prefixes stand, and the walk from the weight and the time
--- gives a choice.
-pub record Walks (work : List ℤ) (bytes : List ℕ) (n : ℕ) (places counts : List ℕ) (weight : ℕ) (by : ℤ) : Type 0 where
+-- The walk can be made: the bytes are an order, the lists of all its prefixes stand, and the walk from the end gives a choice.
+pub record Walks (work : List ℤ) (bytes : List ℕ) (n : ℕ) (places counts : List ℕ) (end : End) : Type 0 where
   pub order : OrderFine bytes
   pub count : n ≡ countOf bytes
   pub used : ℕ
@@ -73,9 +73,9 @@ pub record Walks (work : List ℤ) (bytes : List ℕ) (n : ℕ) (places counts :
   pub room : used ≤ length work
   pub roomPlaces : n < length places
   pub roomCounts : n < length counts
-  pub free : InFree by
+  pub free : InFree (end .finish)
   pub choice : Choice
-  pub walked : walkLists (reverse (jobsIn bytes)) (startPoint (t0Of bytes) ∷ []) weight by [] ≡ some choice
+  pub walked : walkLists (reverse (jobsIn bytes)) (startPoint (t0Of bytes) ∷ []) (end .weight) (end .finish) [] ≡ some choice
 
 -- The mask of the choice that the walk back over some jobs gives.
 abbrev pub walkMask : ℤ → List Job → ℕ → ℤ → Option ℕ

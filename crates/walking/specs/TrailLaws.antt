@@ -34,6 +34,7 @@ use Rattle.codes.specs.HeldLaws.{held-read}
 use Rattle.reading.specs.Reading.{Stands}
 use Rattle.filling.specs.ListsLaws.{jobs-single}
 use Rattle.walking.specs.declared.Trail.{Trail}
+use Rattle.walking.specs.declared.End.{End}
 use Rattle.walking.specs.Trail.{StepsBack, trailBefore, stepBack, Walks, walkMask}
 use Rattle.walking.specs.Sources.{source-in-range}
 
@@ -201,80 +202,84 @@ pub record CanStep (work : List ℤ) (bytes : List ℕ) (place count weight : �
   pub keeps : (r : Trail) → some r ≡ stepBack (asJob job) (2 ^ (63 - k)) (listAt work place count) trail
       → Trails bytes weight by k r
 
-module _ {work : List ℤ} {bytes : List ℕ} {n : ℕ} {places counts : List ℕ} {weight : ℕ} {by : ℤ}
-    (w : Walks work bytes n places counts weight by)
-  where
-    abbrev js : List Job
-    js = jobsIn bytes
+module _ {work : List ℤ} {bytes : List ℕ} {n : ℕ} {places counts : List ℕ} {end : End} (w : Walks work bytes n places counts end) where
+  abbrev weight : ℕ
+  weight = end .weight
 
-    abbrev P : List Point
-    P = startPoint (t0Of bytes) ∷ []
+  abbrev by : ℤ
+  by = end .finish
 
-    few-jobs : length js ≤ 64
-    few-jobs = omega (arith, jobs-count bytes, w .order .header .few)
+  abbrev js : List Job
+  js = jobsIn bytes
 
-    -- The trail starts after all jobs, and at its end stands the mask of the walk.
-    pub trail-start : Trails bytes weight by n (record { mask = 0; weight = weight; by = by })
-    trail-start =
-        let all : n ≡ length js = omega (arith, jobs-count bytes, w .count) in
-        rw all (on-start js P weight by (w .free))
+  abbrev P : List Point
+  P = startPoint (t0Of bytes) ∷ []
 
-    pub trail-end : {trail : Trail} → Trails bytes weight by 0 trail → some (trail .mask) ≡ walkMask (t0Of bytes) js weight by
-    trail-end on = ap some (on-end js P weight by few-jobs (w .choice) (w .walked) on) ∙ sym (ap (Option·map mask) (w .walked))
+  few-jobs : length js ≤ 64
+  few-jobs = omega (arith, jobs-count bytes, w .order .header .few)
 
-    -- The trail, and the job that was read at the next place.
-    module _ (k : ℕ) (trail : Trail) (on : Trails bytes weight by (suc k) trail) (numbers : Numbers)
-        (read : fieldsOf numbers ≡ decode jobLayout (numberOf (take 8 (drop (4 + 8 * k) bytes))))
-      where
-        below : k < countOf bytes
-        below = omega (arith, jobs-count bytes, on .few)
+  -- The trail starts after all jobs, and at its end stands the mask of the walk.
+  pub trail-start : Trails bytes weight by n (record { mask = 0; weight = weight; by = by })
+  trail-start =
+      let all : n ≡ length js = omega (arith, jobs-count bytes, w .count) in
+      rw all (on-start js P weight by (w .free))
 
-        there : getElem? js k ≡ some (asJob numbers)
-        there = job-there bytes k below numbers read
+  pub trail-end : {trail : Trail} → Trails bytes weight by 0 trail → some (trail .mask) ≡ walkMask (t0Of bytes) js weight by
+  trail-end on = ap some (on-end js P weight by few-jobs (w .choice) (w .walked) on) ∙ sym (ap (Option·map mask) (w .walked))
 
-        -- The list before the job stands in the work area.
-        abbrev place : ℕ
-        place = getD places k 0
+  -- The trail, and the job that was read at the next place.
+  module _ (k : ℕ) (trail : Trail) (on : Trails bytes weight by (suc k) trail) (numbers : Numbers)
+      (read : fieldsOf numbers ≡ decode jobLayout (numberOf (take 8 (drop (4 + 8 * k) bytes))))
+    where
+      below : k < countOf bytes
+      below = omega (arith, jobs-count bytes, on .few)
 
-        abbrev count : ℕ
-        count = getD counts k 0
+      there : getElem? js k ≡ some (asJob numbers)
+      there = job-there bytes k below numbers read
 
-        within : k ≤ n
-        within = omega (arith, below, w .count)
+      -- The list before the job stands in the work area.
+      abbrev place : ℕ
+      place = getD places k 0
 
-        list-there : listAt work place count ≡ extend P (take k js)
-        list-there = rw (w .lists .counted k within) (held-read (w .lists .held k within))
+      abbrev count : ℕ
+      count = getD counts k 0
 
-        stands : Stands work place count
-        stands =
-            record {
-              held = rw list-there (w .lists .held k within);
-              rises = rw list-there (profileOf-rises (outcomes (take k js) P));
-              room = omega (arith, w .lists .ends k within, w .room);
-            }
+      within : k ≤ n
+      within = omega (arith, below, w .count)
 
-        -- It is the list that the walk asks.
-        list-asked : listAfter (take k js) P ≡ listAt work place count
-        list-asked =
-            let one : Singles (take k js) = λ j m. jobs-single bytes (w .order) j (in-take k js m) in
-            list-is (take k js) one (rising-one (startPoint (t0Of bytes))) ∙ sym list-there
+      list-there : listAt work place count ≡ extend P (take k js)
+      list-there = rw (w .lists .counted k within) (held-read (w .lists .held k within))
 
-        bit-fits : trail .mask + 2 ^ (63 - k) < 2 ^ 64
-        bit-fits = omega (arith, on-fits few-jobs there on, pow-mono {i = 63 - k} {j = 63} (omega arith))
+      stands : Stands work place count
+      stands =
+          record {
+            held = rw list-there (w .lists .held k within);
+            rises = rw list-there (profileOf-rises (outcomes (take k js) P));
+            room = omega (arith, w .lists .ends k within, w .room);
+          }
 
-        -- So the code can step back.
-        pub can-step : CanStep work bytes place count weight by k numbers trail
-        can-step =
-            let f = on-found few-jobs there on list-asked (w .walked) in
-            record {
-              asks =
-                  record {
-                    within = job-fine bytes k below numbers read (w .order);
-                    list = stands;
-                    fits = bit-fits;
-                    free = on .free;
-                    source = f .0;
-                    found = f .1;
-                  };
-              keeps = on-step few-jobs there on list-asked (f .0) (f .1) (job-limits bytes k below numbers read (w .order));
-            }
+      -- It is the list that the walk asks.
+      list-asked : listAfter (take k js) P ≡ listAt work place count
+      list-asked =
+          let one : Singles (take k js) = λ j m. jobs-single bytes (w .order) j (in-take k js m) in
+          list-is (take k js) one (rising-one (startPoint (t0Of bytes))) ∙ sym list-there
+
+      bit-fits : trail .mask + 2 ^ (63 - k) < 2 ^ 64
+      bit-fits = omega (arith, on-fits few-jobs there on, pow-mono {i = 63 - k} {j = 63} (omega arith))
+
+      -- So the code can step back.
+      pub can-step : CanStep work bytes place count weight by k numbers trail
+      can-step =
+          let f = on-found few-jobs there on list-asked (w .walked) in
+          record {
+            asks =
+                record {
+                  within = job-fine bytes k below numbers read (w .order);
+                  list = stands;
+                  fits = bit-fits;
+                  free = on .free;
+                  source = f .0;
+                  found = f .1;
+                };
+            keeps = on-step few-jobs there on list-asked (f .0) (f .1) (job-limits bytes k below numbers read (w .order));
+          }

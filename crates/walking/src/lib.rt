@@ -24,6 +24,12 @@ struct Trail {
     by: i32,
 }
 
+// The end of a plan: the weight that it keeps, and when the bus is free after it.
+pub struct End {
+    pub weight: usize,
+    pub finish: i32,
+}
+
 // The worth of the bit of a place.
 fn bit_at(place: usize) -> u64
     requires { ⌜ place < mostJobs ⌝ }
@@ -75,23 +81,22 @@ fn step_back(work: &[i32], place: usize, count: usize, bit: u64, job: Job, trail
     }
 }
 
-// The mask of the choice that keeps a weight with the bus free by a time, from the last job to the first.
+// The mask of the choice that ends so, from the last job to the first.
 pub fn walk(
     work: &[i32],
     bytes: &[u8],
     n: usize,
     places: &[usize],
     counts: &[usize],
-    weight: usize,
-    by: i32,
+    end: End,
 ) -> u64
-    requires { ⌜ Walks (now work) (now bytes) n (now places) (now counts) weight by ⌝ }
-    ensures { λ r. ⌜ some r ≡ walkMask (t0Of (now (bytes .entry))) (jobsIn (now (bytes .entry))) weight by ⌝ }
+    requires { ⌜ Walks (now work) (now bytes) n (now places) (now counts) end ⌝ }
+    ensures { λ r. ⌜ some r ≡ walkMask (t0Of (now (bytes .entry))) (jobsIn (now (bytes .entry))) (end .weight) (end .finish) ⌝ }
 {
     let mut trail = Trail {
         mask: 0,
-        weight: weight,
-        by: by,
+        weight: end.weight,
+        by: end.finish,
     };
     let mut k = n;
     while k > 0 {

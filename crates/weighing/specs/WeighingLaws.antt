@@ -28,7 +28,7 @@ use Rattle.stepping.specs.declared.Prefix.{Prefix}
 use Rattle.reading.specs.Reading.{found, pointIn}
 use Rattle.reading.specs.declared.Found.{Found}
 use Rattle.reading.specs.declared.Found.the-variants.{Nothing, At}
-use Rattle.filling.specs.Lists.{CanFillLast, FilledLast}
+use Rattle.filling.specs.Lists.{CanFill, FilledLast}
 use Rattle.filling.specs.Begin.{CanStart}
 use Rattle.weighing.specs.Weighing.{weightIn, CanWeigh}
 
@@ -72,7 +72,7 @@ module _ {bytes : List ℕ} {work : List ℤ} (f : CanWeigh bytes work) where
       first-is = held-read started
 
       -- the lists of all jobs can be filled behind it,
-      pub can-fill : CanFillLast bytes (h .count) 1 begun
+      pub can-fill : CanFill bytes (h .count) 1 begun
       can-fill =
           record {
             order = order;

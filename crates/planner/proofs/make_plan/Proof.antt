@@ -1,69 +1,75 @@
--- `planner::make_plan` meets its contract: the walk back gives the plan's mask, and with it the starts and the figures.
--- Assumes nothing.
-use mathlib.Core.Path.{_≡_}
-use mathlib.Core.Option.{some}
+-- `planner::make_plan` meets its contract: with the mask come the starts and the figures. Assumes nothing.
 use native.Mathlib.Omega.{arith}
-use denote.Ref.{now}
+use mathlib.Core.Path.{_≡_}
+use mir.Syntax.{w32}
+use mir.Val.{SFits, toZ, ofZ}
 use mir.Facts.{toZ-ofZ}
-use Rattle.packed.specs.Packed.{t0Of, jobsIn}
-use Rattle.walking.specs.Trail.{walkMask}
-use Rattle.planner.specs.PlanningLaws.{can-walk, weight-light, total-light, points-light, can-write, plan-made}
 use borrow.Author.Needs.{needs}
+use Rattle.seconds.specs.RangesLaws.{time-fits}
+use Rattle.planner.specs.PlanningLaws.{weight-light, total-light, points-light, can-write, plan-made}
 use Rattle.planner.proofs.make_plan.Statement.{statement}
 use Rattle.planner.proofs.make_plan.Tie as tie
 
-walk-requires : tie.Need-walk-requires
-walk-requires c κs =
-    let s = c .before .before .before in
-    rw (toZ-ofZ (s .fits .finish)) (can-walk (s .pre))
+-- ---- the stages of the code, each seen from a later one
 
--- The walk from the end that was passed.
-walked : (c : tie.After-walk) → let s = c .before .before .before .before in
-    some (c .walk .result) ≡ walkMask (t0Of (now (s .args .bytes))) (jobsIn (now (s .args .bytes))) (s .args .weight) (s .args .finish)
-walked c = rw (toZ-ofZ (c .before .before .before .before .fits .finish)) at (c .walk .ensures)
+abbrev start : tie.After-struct-told → tie.Start
+start read = read .before .before .before
+
+abbrev written : tie.After-kept-of → tie.After-write-starts
+written told = told .before .before
+
+abbrev entry : tie.After-kept-of → tie.Start
+entry told = start (written told .before)
+
+-- The header's time, as the code reads it back.
+t0-back : (s : tie.Start) → toZ w32 (ofZ w32 (s .args .header .t0)) ≡ s .args .header .t0
+t0-back s =
+    let fits : SFits w32 (s .args .header .t0) = rw (s .pre .read .t0) (time-fits (s .pre .order .header .timely)) in
+    toZ-ofZ fits
+
+-- ---- the needs
 
 write-starts-requires : tie.Need-write-starts-requires
-write-starts-requires c κs =
-    let w = c .before in
-    let s = w .before .before .before .before in
-    rw (toZ-ofZ (s .fits .t0)) (can-write (s .pre) (w .walk .result) (walked w))
+write-starts-requires c κs = let s = start c in rw (t0-back s) (can-write (s .pre))
 
 kept-of-requires : tie.Need-kept-of-requires
 kept-of-requires c κs = search needs
 
-cast-t17 : tie.Need-cast-t17
-cast-t17 c = let f = c .before .before .before .before .before .before .before .before .pre in omega (arith, weight-light f, total-light f)
+cast-t11 : tie.Need-cast-t11
+cast-t11 c = let f = entry (c .before) .pre in omega (arith, weight-light f, total-light f)
 
-sub-t18 : tie.Need-sub-t18
-sub-t18 c = weight-light (c .before .before .before .before .before .before .before .before .pre)
+sub-t12 : tie.Need-sub-t12
+sub-t12 c = let told : tie.After-kept-of = c .before .before .before in weight-light (entry told .pre)
 
-cast-t19 : tie.Need-cast-t19
-cast-t19 c = search needs
+cast-t13 : tie.Need-cast-t13
+cast-t13 c = search needs
 
-cast-t20 : tie.Need-cast-t20
-cast-t20 c = omega (arith, points-light (c .before .before .before .before .before .before .before .before .pre))
+cast-t14 : tie.Need-cast-t14
+cast-t14 c =
+    let told : tie.After-kept-of = c .before .before .before .before in
+    omega (arith, points-light (entry told .pre))
 
 same-length : tie.Need-same-length
 same-length c = search needs
 
 returns : tie.Need-returns
 returns c =
-    let w = c .before .before .before .before in
-    let s = w .before .before .before .before in
-    rw (toZ-ofZ (s .fits .finish))
-    (plan-made (s .pre) (w .walk .result) (walked w) (c .kept-of .result) _ (c .kept-of .ensures)
-    (rw (toZ-ofZ (s .fits .t0)) at (c .before .before .write-starts .ensures)))
+    let told : tie.After-kept-of = c .before .before .before .before .before in
+    let s = entry told in
+    let finish : SFits w32 (s .args .end .finish) = record { sfits = c .struct-told2 .given .1 .0 .1 } in
+    rw (toZ-ofZ finish)
+    (plan-made (s .pre) (told .kept-of .result) _ (told .kept-of .ensures)
+    (rw (t0-back s) at (written told .write-starts .ensures)))
 
 pub make-plan-spec : {M : Type 1} → statement M
 make-plan-spec =
     tie.close
     (tie.spec
-    walk-requires
     write-starts-requires
     kept-of-requires
-    cast-t17
-    sub-t18
-    cast-t19
-    cast-t20
+    cast-t11
+    sub-t12
+    cast-t13
+    cast-t14
     same-length
     returns)

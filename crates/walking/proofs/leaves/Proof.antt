@@ -64,7 +64,7 @@ returns-2 c =
 
 returns-3 : tie.Need-returns-3
 returns-3 c =
-    let d = c .before .before .before in
+    let d : tie.After-last-by = c .before .before .before in
     let a = s d .args in
     let e = c .before .found .given in
     sym (left-at (a .critical) (list d) (a .weight) (a .by) (d .before .if1 .left) (e .0 .0) (e .0 .1 .0) (sym (finds d) ∙ e .1))

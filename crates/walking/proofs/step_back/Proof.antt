@@ -87,12 +87,14 @@ module _ (c : tie.Else1) where
 
 cast-gain : tie.Need-cast-gain
 cast-gain c =
-    let s = start (c .before .before) in
+    let kept : tie.Else1 = c .before .before in
+    let s = start kept in
     rw (weight-back s) (omega (signed, facts s .weight, abs-is (s .args .job .weight)))
 
 last-start-requires : tie.Need-last-start-requires
 last-start-requires c κs =
-    let s = start (c .before .before .before .before) in
+    let kept : tie.Else1 = c .before .before .before .before in
+    let s = start kept in
     let f = facts s in
     let g = fitting s in
     record {
@@ -102,10 +104,12 @@ last-start-requires c κs =
     }
 
 -- The last start that the call gives.
-last-is : (c : tie.After-last-start)
-    → toZ w32 (ofZ w32 (c .last-start .result)) ≡ last (c .before .before .before .before .before)
+abbrev kept-by : tie.After-last-start → tie.Else1
+kept-by c = c .before .before .before .before .before
+
+last-is : (c : tie.After-last-start) → toZ w32 (ofZ w32 (c .last-start .result)) ≡ last (kept-by c)
 last-is c =
-    let s = start (c .before .before .before .before .before) in
+    let s = start (kept-by c) in
     let long = toZ w32 (ofZ w32 (s .args .job .length)) in
     let deadline = toZ w32 (ofZ w32 (s .args .job .deadline)) in
     let by = toZ w32 (ofZ w32 (s .args .trail .by)) in
@@ -119,13 +123,14 @@ add-t12 c = search needs
 
 sub-t13 : tie.Need-sub-t13
 sub-t13 c =
-    let d = c .before .before .before .before .before .before .before in
-    rw (weight-back (start d)) (kept-is d .0)
+    let kept = kept-by (c .before .before) in
+    rw (weight-back (start kept)) (kept-is kept .0)
 
 returns-2 : tie.Need-returns-2
 returns-2 c =
-    let d = c .before .before .before .before .before .before .before in
-    rw (last-is (c .before .before), weight-back (start d)) (sym (kept-is d .1))
+    let told : tie.After-last-start = c .before .before in
+    let kept = kept-by told in
+    rw (last-is told, weight-back (start kept)) (sym (kept-is kept .1))
 
 pub step-back-spec : {M : Type 1} → statement M
 step-back-spec =
