@@ -1,14 +1,12 @@
 -- The calls stage by stage, as the code goes through their checks: each refusal, and what is left when all are passed.
 use Prim.Native.Nat.{ℕ, _≤_, _<_}
-use mathlib.Core.Path.{_≡_, refl, sym, ap₂, _∙_}
+use mathlib.Core.Path.{_≡_, refl, sym, _∙_}
 use mathlib.Core.List.{List, _++_}
-use mathlib.Core.Option.{Option}
 use native.Mathlib.Omega.{arith}
 use lib.IntN.{ℤ}
 use lib.ListN.{length, drop}
 use denote.Ref.{RefT, now}
 use borrow.Author.Tests.{lt-ltb, le-ltb}
-use Rattle.order.specs.Job.{Point}
 use Rattle.packed.specs.declared.Refusal.{Refusal}
 use Rattle.packed.specs.Judge.{plainly, withoutPlace, Verdict as Judged, fine, refused, judge}
 use Rattle.packed.specs.JudgeLaws.{stages-fine}
@@ -19,7 +17,7 @@ use Rattle.area.specs.Clearing.{cleared-same}
 use Rattle.judge.specs.Verdicts.{verdictOf}
 use Rattle.judge.specs.Told.{refusal-told, stays, told-next}
 use Rattle.judge.specs.declared.Verdict.the-variants.{Refused as Stopped}
-use Rattle.ties.specs.Winning.{openingPoint, TieRule, byPoints, winnerBy}
+use Rattle.ties.specs.Winning.{TieRule, winnerBy}
 use Rattle.choosing.specs.Choosing.{choosingChecks, choosingVerdict}
 use Rattle.choosing.specs.Choosing.{chosenBy, workBy, chosenOf, Asked, partOf, placeOf, Handed, winnerOf}
 use Rattle.choosing.specs.Comparing.{CanCompare}
@@ -67,15 +65,14 @@ module _ (rule : TieRule) (first second : List ℕ) (t : ℤ) (work : List ℤ) 
     pub no-room : length work < area → Asked rule first second t work (Refused (plainly 10)) work
     no-room h = by-verdict {r = plainly 10} (room-told ∙ rw (lt-ltb (length work) area h))
 
-    -- Past all of them both are weighed, the winner is told, and the work area cleared.
-    pub compared : {one other : Option Point} {end : List ℤ} {r : Chosen} (left : List ℤ) → area ≤ length work
-        → one ≡ openingPoint first t → other ≡ openingPoint second t → drop area left ≡ drop area work → end ≡ cleared left
-        → r ≡ byPoints rule one other → Asked rule first second t work r end
-    compared left h v w past c e =
+    -- Past all of them the winner is told, and the work area cleared.
+    pub compared : {end : List ℤ} {r : Chosen} (left : List ℤ) → area ≤ length work → r ≡ winnerBy rule first second t
+        → drop area left ≡ drop area work → end ≡ cleared left → Asked rule first second t work r end
+    compared left h won past c =
         let passed : choosingVerdict first second work ≡ fine = room-told ∙ rw (le-ltb (length work) area h) in
         let after = cleared-past (winnerBy rule first second t) work in
         record {
-          answer = rw passed (e ∙ ap₂ (byPoints rule) v w);
+          answer = rw passed won;
           area = rw passed (c ∙ cleared-same work left past ∙ sym after);
         }
 

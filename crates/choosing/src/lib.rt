@@ -10,12 +10,22 @@ use ties::Chosen;
 use ties::Tie;
 use ties::winner;
 use weighing::weigh;
-ghost use Rattle.ties.specs.Winning.{ruleOf};
+ghost use mathlib.Core.Path.{_≡_};
+ghost use Rattle.ties.specs.Winning.{winnerBy, ruleOf};
 ghost use Rattle.choosing.specs.Choosing.{Asked};
-ghost use Rattle.choosing.specs.Comparing.{CanCompare};
+ghost use Rattle.choosing.specs.Comparing.{CanCompare, CanWeighBoth};
 
-// The question on two openings that have passed their checks: the room is judged, both are weighed, and
-// the work area is cleared behind.
+// Which of two openings that have passed their checks wins: each is weighed in the same area.
+fn weigh_both(tie: Tie, first: &[u8], second: &[u8], t: i32, work: &mut [i32]) -> Chosen
+    requires { ⌜ CanWeighBoth (now first) (now second) (now work) ⌝ }
+    ensures { λ r. ⌜ r ≡ winnerBy (ruleOf tie) (now (first .entry)) (now (second .entry)) t ⌝ }
+{
+    let one = weigh(first, t, work);
+    let other = weigh(second, t, work);
+    winner(tie, one, other)
+}
+
+// The same with the room judged, and the work area cleared behind.
 fn compare(tie: Tie, first: &[u8], second: &[u8], t: i32, work: &mut [i32]) -> Chosen
     requires { ⌜ CanCompare (now first) (now second) ⌝ }
     ensures { λ r. ⌜ Asked (ruleOf tie) (now (first .entry)) (now (second .entry)) t (now (work .entry)) r (now (work .exit)) ⌝ }
@@ -23,10 +33,9 @@ fn compare(tie: Tie, first: &[u8], second: &[u8], t: i32, work: &mut [i32]) -> C
     if work.len() < AREA {
         return Chosen::Refused(plainly(10));
     }
-    let one = weigh(first, t, &mut work[..AREA]);
-    let other = weigh(second, t, &mut work[..AREA]);
+    let won = weigh_both(tie, first, second, t, &mut work[..AREA]);
     clear(work);
-    winner(tie, one, other)
+    won
 }
 
 // The question by a tie: which of two openings wins at a time, or the refusal.
