@@ -4,6 +4,7 @@ use fields::put_word;
 use fields::time_bits;
 use fields::time_of;
 use fields::word_at;
+use starting::LEFT_OUT;
 ghost use mathlib.Core.Path.{_≡_};
 ghost use mathlib.Core.Bool.{cond};
 ghost use mathlib.Core.List.{_++_};
@@ -29,9 +30,6 @@ const START_BYTES: usize = 3;
 
 // What one more of the first of a start's bytes counts for.
 const FIRST_BYTE: u64 = 0x1_0000;
-
-// What stands for the start of a job that is left out.
-pub const LEFT_OUT: i32 = 200_000;
 
 // The bytes of a plan with so many starts.
 pub fn plan_bytes(n: usize) -> usize

@@ -7,6 +7,7 @@ use packed::Refusal;
 use planner::Figures;
 use planner::Planned;
 use planner::plan;
+use starting::LEFT_OUT;
 use text::put_byte;
 use text::put_count;
 use text::put_number;
@@ -24,9 +25,6 @@ const SPACE: u8 = 32;
 const NEWLINE: u8 = 10;
 
 const MINUS: u8 = 45;
-
-// What stands for the start of a job that is left out.
-const LEFT_OUT: i32 = 200_000;
 
 // The most jobs of an order.
 const MOST_JOBS: usize = 48;

@@ -12,7 +12,7 @@ ghost use Rattle.starting.specs.Picks.{picksOf, TakesTurn, turnOf, Write
 const HIGHEST: u64 = 0x8000_0000_0000_0000;
 
 // What stands for the start of a job that is left out.
-const LEFT_OUT: i32 = 200_000;
+pub const LEFT_OUT: i32 = 200_000;
 
 // A job's start, and when the bus is free after it.
 struct Turn {
