@@ -71,11 +71,13 @@ pub record CanFill (bytes : List ℕ) (n count : ℕ) (work : List ℤ) : Type 0
   pub light : lastWeight (listAt work 0 count) + weightOf (jobsIn bytes) ≤ mostWeight
   pub room : area ≤ length work
 
--- And there is a note for each of them.
-pub record CanFillLists (bytes : List ℕ) (n count : ℕ) (work : List ℤ) (places counts : List ℕ) : Type 0 where
-  pub filling : CanFill bytes n count work
+-- And noted: the first of them is, and there is a note for each. A buffer is lent for the pushed list.
+pub record CanFillLists (bytes : List ℕ) (n : ℕ) (work : List ℤ) (places counts : List ℕ) (pushed : List ℤ) : Type 0 where
+  pub filling : CanFill bytes n (getD counts 0 0) work
+  pub first : getD places 0 0 ≡ 0
   pub roomPlaces : mostJobs < length places
   pub roomCounts : mostJobs < length counts
+  pub buffer : Buffer pushed
 
 -- They are filled, from that profile; the points of all and the weight of all jobs are told.
 pub record Filled (bytes : List ℕ) (n count : ℕ) (work : List ℤ) (totals : Totals) (places counts : List ℕ) (work′ : List ℤ)

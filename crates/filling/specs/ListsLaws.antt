@@ -11,7 +11,6 @@ use lib.Dec.{T}
 use lib.IntN.{ℤ, natAbs}
 use lib.ListN.{length, getD, set, take, drop, take-append-drop, length-set}
 use lib.Seq.{take-suc, take-all, getD-set-same, getD-set-other}
-use Rattle.seconds.specs.Limits.{mostJobs}
 use Rattle.order.specs.Job.{Job, Point, weightOf, jobsWithin}
 use Rattle.order.specs.Choice.{outcomes}
 use Rattle.order.specs.Outcomes.{outcomes-none}
@@ -34,7 +33,6 @@ use Rattle.area.specs.Area.{area}
 use Rattle.codes.specs.Code.{listAt}
 use Rattle.codes.specs.Held.{Held}
 use Rattle.codes.specs.HeldLaws.{held-stays, held-read, list-length}
-use Rattle.stepping.specs.Stepping.{Buffer}
 use Rattle.reading.specs.Reading.{Stands}
 use Rattle.filling.specs.declared.Totals.{Totals}
 use Rattle.filling.specs.Lists.{Lists, pointsTo, CanFillOne, FilledOne, CanFill, CanFillLists, Filled, FilledLast, Filling}
@@ -154,234 +152,236 @@ room-more k reach used r few light =
 start-is : {P : List Point} → Rising P → extend P [] ≡ P
 start-is {P} r = ap profileOf (outcomes-none P) ∙ profileOf-rising r
 
-module _ {bytes : List ℕ} {n count : ℕ} {work₀ : List ℤ} (all : CanFill bytes n count work₀) where
-  abbrev P : List Point
-  P = listAt work₀ 0 count
+module _ {bytes : List ℕ} {n : ℕ} {work₀ : List ℤ} {places₀ counts₀ : List ℕ} {pushed₀ : List ℤ}
+    (can : CanFillLists bytes n work₀ places₀ counts₀ pushed₀)
+  where
+    -- The first list, with its count as it is noted.
+    abbrev count : ℕ
+    count = getD counts₀ 0 0
 
-  abbrev js : List Job
-  js = jobsIn bytes
+    abbrev all : CanFill bytes n count work₀
+    all = can .filling
 
-  P-rises : Rising P
-  P-rises = all .valid .rises
+    abbrev P : List Point
+    P = listAt work₀ 0 count
 
-  few-jobs : n ≤ 48
-  few-jobs = omega (arith, all .jobs, all .order .header .few)
+    abbrev js : List Job
+    js = jobsIn bytes
 
-  -- Nothing is filled yet but the profile to start with.
-  pub filling-start : (places₀ counts₀ : List ℕ) {pushed₀ : List ℤ} → mostJobs < length places₀ → mostJobs < length counts₀
-      → Buffer pushed₀ → Filling bytes count work₀ 0 0 count 0 0 (set places₀ 0 0) (set counts₀ 0 count) work₀ pushed₀
-  filling-start places₀ counts₀ roomPlaces roomCounts buffer = record {
-    size = refl;
-    lists = record {
-      held = λ k h. let z : k ≡ 0 = omega arith in rw (z, first-place, start-is P-rises) (all .held);
-      counted = λ k h. let z : k ≡ 0 = omega arith in rw (z, first-count, start-is P-rises) (sym (list-length work₀ 0 count));
-      ends = λ k h. let z : k ≡ 0 = omega arith in rw (z, first-place, first-count) (omega arith);
-    };
-    held = rw (start-is P-rises) (all .held);
-    counted = rw (start-is P-rises) (sym (list-length work₀ 0 count));
-    room = omega (arith, rising-short (lastWeight P) P-rises (last-heaviest P-rises), list-length work₀ 0 count);
-    total = refl;
-    weighs = refl;
-    roomPlaces = omega (arith, length-set places₀ 0 0);
-    roomCounts = omega (arith, length-set counts₀ 0 count);
-    buffer = buffer;
-  }
-    where
-      first-place : getD (set places₀ 0 0) 0 0 ≡ 0
-      first-place = getD-set-same places₀ 0 0 0 (omega arith)
+    P-rises : Rising P
+    P-rises = all .valid .rises
 
-      first-count : getD (set counts₀ 0 count) 0 0 ≡ count
-      first-count = getD-set-same counts₀ 0 count 0 (omega arith)
+    few-jobs : n ≤ 48
+    few-jobs = omega (arith, all .jobs, all .order .header .few)
 
-  module _ {k place many points weight : ℕ} {places counts : List ℕ} {work pushed : List ℤ}
-      (f : Filling bytes count work₀ k place many points weight places counts work pushed)
-    where
-      abbrev here : List Point
-      here = extend P (take k js)
+    -- Nothing is filled yet but the profile to start with.
+    pub filling-start : Filling bytes count work₀ 0 0 count 0 0 places₀ counts₀ work₀ pushed₀
+    filling-start = record {
+      size = refl;
+      lists = record {
+        held = λ k h. let z : k ≡ 0 = omega arith in rw (z, can .first, start-is P-rises) (all .held);
+        counted = λ k h. let z : k ≡ 0 = omega arith in rw (z, start-is P-rises) (sym (list-length work₀ 0 count));
+        ends = λ k h. let z : k ≡ 0 = omega arith in rw (z, can .first) (omega arith);
+      };
+      held = rw (start-is P-rises) (all .held);
+      counted = rw (start-is P-rises) (sym (list-length work₀ 0 count));
+      room = omega (arith, rising-short (lastWeight P) P-rises (last-heaviest P-rises), list-length work₀ 0 count);
+      total = refl;
+      weighs = refl;
+      roomPlaces = can .roomPlaces;
+      roomCounts = can .roomCounts;
+      buffer = can .buffer;
+    }
 
-      -- The last list is the profile of the first k jobs.
-      list-is : listAt work place many ≡ here
-      list-is = rw (f .counted) (held-read (f .held))
+    module _ {k place many points weight : ℕ} {places counts : List ℕ} {work pushed : List ℤ}
+        (f : Filling bytes count work₀ k place many points weight places counts work pushed)
+      where
+        abbrev here : List Point
+        here = extend P (take k js)
 
-      few : many ≤ suc (lastWeight P + weight)
-      few = omega (arith, f .counted, extend-short (take k js) P-rises (jobs-take k js (jobs-fit bytes (all .order))), f .weighs)
+        -- The last list is the profile of the first k jobs.
+        list-is : listAt work place many ≡ here
+        list-is = rw (f .counted) (held-read (f .held))
 
-      reach-light : lastWeight P + weight ≤ 300
-      reach-light = omega (arith, f .weighs, weight-up-to js k, all .light)
+        few : many ≤ suc (lastWeight P + weight)
+        few = omega (arith, f .counted, extend-short (take k js) P-rises (jobs-take k js (jobs-fit bytes (all .order))), f .weighs)
 
-      -- The next job can be stepped by,
-      module _ (below : k < n) where
-        there : k < countOf bytes
-        there = omega (arith, all .jobs)
+        reach-light : lastWeight P + weight ≤ 300
+        reach-light = omega (arith, f .weighs, weight-up-to js k, all .light)
 
-        abbrev job : Job
-        job = jobIn bytes k
+        -- The next job can be stepped by,
+        module _ (below : k < n) where
+          there : k < countOf bytes
+          there = omega (arith, all .jobs)
 
-        next-light : lastWeight P + (weight + job .weight) ≤ 300
-        next-light = omega (arith, f .weighs, weight-next bytes (all .order) k there, weight-up-to js (k + 1), all .light)
+          abbrev job : Job
+          job = jobIn bytes k
 
-        limits : JobWithin job
-        limits = job-limits bytes (all .order) k there
+          next-light : lastWeight P + (weight + job .weight) ≤ 300
+          next-light = omega (arith, f .weighs, weight-next bytes (all .order) k there, weight-up-to js (k + 1), all .light)
 
-        pub next-can : CanFillOne bytes k place many work pushed
-        next-can = record {
-          order = all .order;
-          there = there;
-          held = rw list-is (f .held);
-          rises = rw list-is (profileOf-rises (outcomes (take k js) P));
-          light = rw list-is (λ p m.
-              omega (arith, extend-light (take k js) P-rises (jobs-take k js (jobs-fit bytes (all .order))) p m, f .weighs, next-light));
-          room = omega (
-            arith,
-            f .size,
-            all .room,
-            room-fits (k + 1) (lastWeight P + weight) (place + many + many)
-                (room-critical k (lastWeight P + weight) (place + many) many (f .room) (omega (arith, few)))
-                (omega (arith, few-jobs)) reach-light,
-          );
-          roomMore = λ free. omega (
-            arith,
-            f .size,
-            all .room,
-            room-more k (lastWeight P + weight) (place + many) (f .room) (omega (arith, few-jobs))
-                (omega (arith, next-light, limits .weighty free)),
-          );
-          buffer = f .buffer;
-        }
+          limits : JobWithin job
+          limits = job-limits bytes (all .order) k there
 
-        -- and with its list there is one more.
-        module _ {place′ count′ w : ℕ} {work′ pushed′ : List ℤ}
-            (one : FilledOne bytes k place many work place′ count′ w work′ pushed′)
-          where
-            next-is : listStep job (listAt work place many) ≡ extend P (take (k + 1) js)
-            next-is = ap (listStep job) list-is ∙ list-next bytes (all .order) k there P-rises
-
-            next-held : Held work′ place′ (extend P (take (k + 1) js))
-            next-held = rw next-is at (one .held)
-
-            next-counted : count′ ≡ length (extend P (take (k + 1) js))
-            next-counted = one .counted ∙ ap length next-is
-
-            next-weighs : weight + w ≡ weightOf (take (k + 1) js)
-            next-weighs = omega (arith, f .weighs, one .weighs, weight-next bytes (all .order) k there)
-
-            next-few : count′ ≤ lastWeight P + weight + w + 1
-            next-few =
-                omega (
-                  arith,
-                  next-counted,
-                  extend-short (take (k + 1) js) P-rises (jobs-take (k + 1) js (jobs-fit bytes (all .order))),
-                  next-weighs,
-                )
-
-            next-room : place′ + count′ ≤ (k + 1 + 1) * (lastWeight P + (weight + w) + 1)
-            next-room =
-                let same : lastWeight P + weight + w + 1 ≡ lastWeight P + (weight + w) + 1 = omega arith in
-                rw (← same) (by (job .critical) refl)
-              where
-                by : (c : Bool) → job .critical ≡ c → place′ + count′ ≤ (k + 1 + 1) * (lastWeight P + weight + w + 1)
-                by true e =
-                    let none : w ≡ 0 = one .weighs ∙ limits .weightless e in
-                    let more : _≡_ {A = ℕ} (cond (job .critical) 0 1) 0 = rw e in
-                    let z : lastWeight P + weight + w + 1 ≡ lastWeight P + weight + 1 = omega arith in
-                    rw z (omega (
-                      arith,
-                      one .few,
-                      room-critical k (lastWeight P + weight) (place + many) count′ (f .room) (omega (arith, next-few)),
-                    ))
-                by false e =
-                    let more : _≡_ {A = ℕ} (cond (job .critical) 0 1) 1 = rw e in
-                    omega (
-                      arith,
-                      one .few,
-                      room-merged k (lastWeight P + weight) w (place + many) count′ (f .room)
-                          (omega (arith, one .weighs, limits .weighty e)) next-few,
-                    )
-
-            abbrev places′ : List ℕ
-            places′ = set places (k + 1) place′
-
-            abbrev counts′ : List ℕ
-            counts′ = set counts (k + 1) count′
-
-            new-place : (i : ℕ) → i ≡ k + 1 → getD places′ i 0 ≡ place′
-            new-place i e =
-                ap (λ (x : ℕ). getD places′ x 0) e ∙ getD-set-same places (k + 1) place′ 0 (omega (arith, f .roomPlaces, few-jobs))
-
-            new-count : (i : ℕ) → i ≡ k + 1 → getD counts′ i 0 ≡ count′
-            new-count i e =
-                ap (λ (x : ℕ). getD counts′ x 0) e ∙ getD-set-same counts (k + 1) count′ 0 (omega (arith, f .roomCounts, few-jobs))
-
-            old-place : (i : ℕ) → i ≤ k → getD places′ i 0 ≡ getD places i 0
-            old-place i h = getD-set-other places (k + 1) i place′ 0 (omega arith)
-
-            old-count : (i : ℕ) → i ≤ k → getD counts′ i 0 ≡ getD counts i 0
-            old-count i h = getD-set-other counts (k + 1) i count′ 0 (omega arith)
-
-            lists-more : Lists P js (k + 1) places′ counts′ (place′ + count′) work′
-            lists-more = record {
-              held = λ i h. ⊎-elim (λ e. rw (new-place i e, e) next-held) (λ l. old-held i (omega arith)) (eq-or-lt-of-le h);
-              counted = λ i h. ⊎-elim
-                  (λ e. rw (new-count i e, e) next-counted)
-                  (λ l. old-counted i (omega arith)) (eq-or-lt-of-le h);
-              ends = λ i h. ⊎-elim
-                  (λ e. rw (new-place i e, new-count i e) (omega arith))
-                  (λ l. old-ends i (omega arith)) (eq-or-lt-of-le h);
-            }
-              where
-                old-counted : (i : ℕ) → i ≤ k → getD counts′ i 0 ≡ length (extend P (take i js))
-                old-counted i m = old-count i m ∙ f .lists .counted i m
-
-                old-ends : (i : ℕ) → i ≤ k → getD places′ i 0 + getD counts′ i 0 ≤ place′ + count′
-                old-ends i m = rw (old-place i m, old-count i m) (omega (arith, f .lists .ends i m, one .further))
-
-                old-held : (i : ℕ) → i ≤ k → Held work′ (getD places′ i 0) (extend P (take i js))
-                old-held i m =
-                    rw (old-place i m)
-                    (held-stays (place + many) (one .stays) (omega (arith, f .lists .ends i m, f .lists .counted i m))
-                    (f .lists .held i m))
-
-            pub filling-more : Filling bytes count work₀ (k + 1) place′ count′ (points + count′) (weight + w) places′ counts′ work′ pushed′
-            filling-more =
-                let e : k + 1 ≡ suc k = omega arith in
-                record {
-                  size = one .size ∙ f .size;
-                  lists = lists-more;
-                  held = next-held;
-                  counted = next-counted;
-                  room = next-room;
-                  total = rw e (ap₂ _+_ (f .total) (next-counted ∙ ap (λ (i : ℕ). length (extend P (take i js))) e));
-                  weighs = next-weighs;
-                  roomPlaces = omega (arith, length-set places (k + 1) place′, f .roomPlaces);
-                  roomCounts = omega (arith, length-set counts (k + 1) count′, f .roomCounts);
-                  buffer = one .buffer;
-                }
-
-      -- All are filled.
-      pub filling-all : k ≡ n → Filled bytes n count work₀ (record { points = points; weight = weight }) places counts work
-      filling-all e =
-          record {
-            used = place + many;
-            small = room-fits k (lastWeight P + weight) (place + many) (f .room) (omega (arith, few-jobs)) reach-light;
-            lists = rw e at (f .lists);
-            total = rw e at (f .total);
-            weighs = f .weighs ∙ ap (λ (i : ℕ). weightOf (take i js)) (e ∙ all .jobs) ∙ ap weightOf (jobs-all bytes);
+          pub next-can : CanFillOne bytes k place many work pushed
+          next-can = record {
+            order = all .order;
+            there = there;
+            held = rw list-is (f .held);
+            rises = rw list-is (profileOf-rises (outcomes (take k js) P));
+            light = rw list-is (λ p m.
+                omega (arith, extend-light (take k js) P-rises (jobs-take k js (jobs-fit bytes (all .order))) p m, f .weighs, next-light));
+            room = omega (
+              arith,
+              f .size,
+              all .room,
+              room-fits (k + 1) (lastWeight P + weight) (place + many + many)
+                  (room-critical k (lastWeight P + weight) (place + many) many (f .room) (omega (arith, few)))
+                  (omega (arith, few-jobs)) reach-light,
+            );
+            roomMore = λ free. omega (
+              arith,
+              f .size,
+              all .room,
+              room-more k (lastWeight P + weight) (place + many) (f .room) (omega (arith, few-jobs))
+                  (omega (arith, next-light, limits .weighty free)),
+            );
+            buffer = f .buffer;
           }
 
-      -- The sums stay small.
-      pub sums-small : (points ≤ 301 * k) × (weight ≤ 300)
-      sums-small = (rw (f .total) (total-few k), omega (arith, reach-light))
-        where
-          total-few : (i : ℕ) → pointsTo P js i ≤ 301 * i
-          total-few zero = omega arith
-          total-few (suc i) =
-              omega (
-                arith,
-                total-few i,
-                extend-short (take (suc i) js) P-rises (jobs-take (suc i) js (jobs-fit bytes (all .order))),
-                weight-up-to js (suc i),
-                all .light,
-              )
+          -- and with its list there is one more.
+          module _ {place′ count′ w : ℕ} {work′ pushed′ : List ℤ}
+              (one : FilledOne bytes k place many work place′ count′ w work′ pushed′)
+            where
+              next-is : listStep job (listAt work place many) ≡ extend P (take (k + 1) js)
+              next-is = ap (listStep job) list-is ∙ list-next bytes (all .order) k there P-rises
+
+              next-held : Held work′ place′ (extend P (take (k + 1) js))
+              next-held = rw next-is at (one .held)
+
+              next-counted : count′ ≡ length (extend P (take (k + 1) js))
+              next-counted = one .counted ∙ ap length next-is
+
+              next-weighs : weight + w ≡ weightOf (take (k + 1) js)
+              next-weighs = omega (arith, f .weighs, one .weighs, weight-next bytes (all .order) k there)
+
+              next-few : count′ ≤ lastWeight P + weight + w + 1
+              next-few =
+                  omega (
+                    arith,
+                    next-counted,
+                    extend-short (take (k + 1) js) P-rises (jobs-take (k + 1) js (jobs-fit bytes (all .order))),
+                    next-weighs,
+                  )
+
+              next-room : place′ + count′ ≤ (k + 1 + 1) * (lastWeight P + (weight + w) + 1)
+              next-room =
+                  let same : lastWeight P + weight + w + 1 ≡ lastWeight P + (weight + w) + 1 = omega arith in
+                  rw (← same) (by (job .critical) refl)
+                where
+                  by : (c : Bool) → job .critical ≡ c → place′ + count′ ≤ (k + 1 + 1) * (lastWeight P + weight + w + 1)
+                  by true e =
+                      let none : w ≡ 0 = one .weighs ∙ limits .weightless e in
+                      let more : _≡_ {A = ℕ} (cond (job .critical) 0 1) 0 = rw e in
+                      let z : lastWeight P + weight + w + 1 ≡ lastWeight P + weight + 1 = omega arith in
+                      rw z (omega (
+                        arith,
+                        one .few,
+                        room-critical k (lastWeight P + weight) (place + many) count′ (f .room) (omega (arith, next-few)),
+                      ))
+                  by false e =
+                      let more : _≡_ {A = ℕ} (cond (job .critical) 0 1) 1 = rw e in
+                      omega (
+                        arith,
+                        one .few,
+                        room-merged k (lastWeight P + weight) w (place + many) count′ (f .room)
+                            (omega (arith, one .weighs, limits .weighty e)) next-few,
+                      )
+
+              abbrev places′ : List ℕ
+              places′ = set places (k + 1) place′
+
+              abbrev counts′ : List ℕ
+              counts′ = set counts (k + 1) count′
+
+              new-place : (i : ℕ) → i ≡ k + 1 → getD places′ i 0 ≡ place′
+              new-place i e =
+                  ap (λ (x : ℕ). getD places′ x 0) e ∙ getD-set-same places (k + 1) place′ 0 (omega (arith, f .roomPlaces, few-jobs))
+
+              new-count : (i : ℕ) → i ≡ k + 1 → getD counts′ i 0 ≡ count′
+              new-count i e =
+                  ap (λ (x : ℕ). getD counts′ x 0) e ∙ getD-set-same counts (k + 1) count′ 0 (omega (arith, f .roomCounts, few-jobs))
+
+              old-place : (i : ℕ) → i ≤ k → getD places′ i 0 ≡ getD places i 0
+              old-place i h = getD-set-other places (k + 1) i place′ 0 (omega arith)
+
+              old-count : (i : ℕ) → i ≤ k → getD counts′ i 0 ≡ getD counts i 0
+              old-count i h = getD-set-other counts (k + 1) i count′ 0 (omega arith)
+
+              lists-more : Lists P js (k + 1) places′ counts′ (place′ + count′) work′
+              lists-more = record {
+                held = λ i h. ⊎-elim (λ e. rw (new-place i e, e) next-held) (λ l. old-held i (omega arith)) (eq-or-lt-of-le h);
+                counted = λ i h. ⊎-elim
+                    (λ e. rw (new-count i e, e) next-counted)
+                    (λ l. old-counted i (omega arith)) (eq-or-lt-of-le h);
+                ends = λ i h. ⊎-elim
+                    (λ e. rw (new-place i e, new-count i e) (omega arith))
+                    (λ l. old-ends i (omega arith)) (eq-or-lt-of-le h);
+              }
+                where
+                  old-counted : (i : ℕ) → i ≤ k → getD counts′ i 0 ≡ length (extend P (take i js))
+                  old-counted i m = old-count i m ∙ f .lists .counted i m
+
+                  old-ends : (i : ℕ) → i ≤ k → getD places′ i 0 + getD counts′ i 0 ≤ place′ + count′
+                  old-ends i m = rw (old-place i m, old-count i m) (omega (arith, f .lists .ends i m, one .further))
+
+                  old-held : (i : ℕ) → i ≤ k → Held work′ (getD places′ i 0) (extend P (take i js))
+                  old-held i m =
+                      rw (old-place i m)
+                      (held-stays (place + many) (one .stays) (omega (arith, f .lists .ends i m, f .lists .counted i m))
+                      (f .lists .held i m))
+
+              pub filling-more : Filling bytes count work₀ (k + 1) place′ count′ (points + count′) (weight + w) places′ counts′ work′ pushed′
+              filling-more =
+                  let e : k + 1 ≡ suc k = omega arith in
+                  record {
+                    size = one .size ∙ f .size;
+                    lists = lists-more;
+                    held = next-held;
+                    counted = next-counted;
+                    room = next-room;
+                    total = rw e (ap₂ _+_ (f .total) (next-counted ∙ ap (λ (i : ℕ). length (extend P (take i js))) e));
+                    weighs = next-weighs;
+                    roomPlaces = omega (arith, length-set places (k + 1) place′, f .roomPlaces);
+                    roomCounts = omega (arith, length-set counts (k + 1) count′, f .roomCounts);
+                    buffer = one .buffer;
+                  }
+
+        -- All are filled.
+        pub filling-all : k ≡ n → Filled bytes n count work₀ (record { points = points; weight = weight }) places counts work
+        filling-all e =
+            record {
+              used = place + many;
+              small = room-fits k (lastWeight P + weight) (place + many) (f .room) (omega (arith, few-jobs)) reach-light;
+              lists = rw e at (f .lists);
+              total = rw e at (f .total);
+              weighs = f .weighs ∙ ap (λ (i : ℕ). weightOf (take i js)) (e ∙ all .jobs) ∙ ap weightOf (jobs-all bytes);
+            }
+
+        -- The sums stay small.
+        pub sums-small : (points ≤ 301 * k) × (weight ≤ 300)
+        sums-small = (rw (f .total) (total-few k), omega (arith, reach-light))
+          where
+            total-few : (i : ℕ) → pointsTo P js i ≤ 301 * i
+            total-few zero = omega arith
+            total-few (suc i) =
+                omega (
+                  arith,
+                  total-few i,
+                  extend-short (take (suc i) js) P-rises (jobs-take (suc i) js (jobs-fit bytes (all .order))),
+                  weight-up-to js (suc i),
+                  all .light,
+                )
 
 -- ---- what stands is read
 

@@ -8,7 +8,7 @@ use stepping::step;
 ghost use mathlib.Core.Path.{_≡_};
 ghost use mathlib.Core.Bool.{true};
 ghost use mathlib.Core.List.{[], _∷_};
-ghost use lib.ListN.{length};
+ghost use lib.ListN.{length, getD};
 ghost use Rattle.profile.specs.Profile.{lastWeight, startPoint};
 ghost use Rattle.profiles.specs.Numbers.{holdsProfile};
 ghost use Rattle.profiles.specs.Places.{pointsOf};
@@ -66,7 +66,7 @@ fn fill_one(
 }
 
 // A buffer for a pushed list: a number past all at its top.
-fn buffer() -> [i32; 303]
+pub fn buffer() -> [i32; 303]
     ensures { λ r. ⌜ Buffer r ⌝ }
 {
     [PAST; 303]
@@ -79,30 +79,28 @@ pub fn notes() -> [usize; 49]
     [0; 49]
 }
 
-// The lists after each of the n jobs, behind a first list at the front; their places and counts are noted, the first list's
-// at 0.
+// The lists after each of the n jobs, behind a first list at the front. Their places and counts are noted behind that of the first
+// list, which is noted at 0.
 pub fn fill_lists(
     work: &mut [i32],
     bytes: &[u8],
     n: usize,
-    count: usize,
     places: &mut [usize],
     counts: &mut [usize],
+    pushed: &mut [i32],
 ) -> Totals
-    requires { ⌜ CanFillLists (now bytes) n count (now work) (now places) (now counts) ⌝ }
+    requires { ⌜ CanFillLists (now bytes) n (now work) (now places) (now counts) (now pushed) ⌝ }
     ensures { λ r. ⌜
-        Filled (now (bytes .entry)) n count (now (work .entry)) r (now (places .exit)) (now (counts .exit)) (now (work .exit)) ⌝ }
+        Filled (now (bytes .entry)) n (getD (now (counts .entry)) 0 0) (now (work .entry)) r (now (places .exit))
+        (now (counts .exit)) (now (work .exit)) ⌝ }
 {
-    let mut pushed = buffer();
-    places[0] = 0;
-    counts[0] = count;
     let mut place = 0;
-    let mut many = count;
+    let mut many = counts[0];
     let mut points = 0;
     let mut weight = 0;
     let mut k = 0;
     while k < n {
-        let next = fill_one(work, bytes, k, place, many, &mut pushed);
+        let next = fill_one(work, bytes, k, place, many, pushed);
         place = next.place;
         many = next.count;
         points += many;
@@ -124,7 +122,10 @@ pub fn fill_last(work: &mut [i32], bytes: &[u8], n: usize, count: usize) -> Pref
 {
     let mut places = notes();
     let mut counts = notes();
-    fill_lists(work, bytes, n, count, &mut places, &mut counts);
+    let mut pushed = buffer();
+    places[0] = 0;
+    counts[0] = count;
+    fill_lists(work, bytes, n, &mut places, &mut counts, &mut pushed);
     let place = places[n];
     let many = counts[n];
     Prefix {

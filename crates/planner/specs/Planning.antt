@@ -4,7 +4,7 @@ use mathlib.Core.Path.{_≡_}
 use mathlib.Core.List.{List}
 use mathlib.Core.Option.{some}
 use lib.IntN.{ℤ}
-use lib.ListN.{length}
+use lib.ListN.{length, getD}
 use Rattle.seconds.specs.Limits.{mostJobs}
 use Rattle.order.specs.Job.{weightOf}
 use Rattle.order.specs.Choice.{mask}
@@ -28,9 +28,11 @@ pub record CanPlan (bytes : List ℕ) (header : Header) (starts work : List ℤ)
   pub places : header .count ≤ length starts
   pub room : area ≤ length work
 
--- The same with notes for the lists.
+-- The same with notes for the lists, the first of which has one point at the front.
 pub record CanPlanOver (bytes : List ℕ) (header : Header) (starts work : List ℤ) (places counts : List ℕ) : Type 0 where
   pub planning : CanPlan bytes header starts work
+  pub firstPlace : getD places 0 0 ≡ 0
+  pub firstCount : getD counts 0 0 ≡ 1
   pub roomPlaces : mostJobs < length places
   pub roomCounts : mostJobs < length counts
 

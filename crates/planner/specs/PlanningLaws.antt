@@ -26,12 +26,13 @@ use Rattle.fields.specs.Places.{jobs-count, weight-up-to}
 use Rattle.codes.specs.Code.{listAt}
 use Rattle.codes.specs.Held.{Held}
 use Rattle.codes.specs.HeldLaws.{held-read, held-within}
+use Rattle.stepping.specs.Stepping.{Buffer}
 use Rattle.reading.specs.declared.Found.the-variants.{Nothing, At}
 use Rattle.reading.specs.Reading.{Stands, found}
 use Rattle.reading.specs.ReadingLaws.{found-nothing, found-at, last-by-latest}
 use Rattle.filling.specs.declared.Totals.{Totals}
 use Rattle.filling.specs.Begin.{CanStart}
-use Rattle.filling.specs.Lists.{Lists, pointsTo, CanFillLists, Filled}
+use Rattle.filling.specs.Lists.{Lists, pointsTo, CanFill, CanFillLists, Filled}
 use Rattle.filling.specs.ListsLaws.{jobs-all, jobs-single, lists-read, lists-stand}
 use Rattle.walking.specs.declared.End.{End}
 use Rattle.walking.specs.Trail.{Walks, walkMask}
@@ -146,26 +147,33 @@ module _ {bytes : List ℕ} {header : Header} {old work : List ℤ} {places coun
     first-valid = valid-holds first (valid-start (t0Of bytes) (time-free (planning .order .header .timely)))
 
     -- and the lists of all jobs filled behind it.
-    pub can-fill : CanFillLists bytes n 1 begun places counts
-    can-fill = record {
-      filling =
-          record {
-            order = planning .order;
-            jobs = planning .read .count;
-            held = rw first-is (subst (λ (t : ℤ). Held begun 0 (startPoint t ∷ [])) (planning .read .t0) started);
-            valid = rw first-is first-valid;
-            light =
-                subst (λ (ps : List Point). lastWeight ps + weightOf (jobsIn bytes) ≤ mostWeight) (sym first-is)
-                (omega (arith, planning .order .light));
-            room = omega (arith, sized, planning .room);
-          };
-      roomPlaces = f .roomPlaces;
-      roomCounts = f .roomCounts;
-    }
+    pub can-fill : {pushed : List ℤ} → Buffer pushed → CanFillLists bytes n begun places counts pushed
+    can-fill buffer =
+        let one : CanFill bytes n 1 begun =
+        record {
+          order = planning .order;
+          jobs = planning .read .count;
+          held = rw first-is (subst (λ (t : ℤ). Held begun 0 (startPoint t ∷ [])) (planning .read .t0) started);
+          valid = rw first-is first-valid;
+          light =
+              subst (λ (ps : List Point). lastWeight ps + weightOf (jobsIn bytes) ≤ mostWeight) (sym first-is)
+              (omega (arith, planning .order .light));
+          room = omega (arith, sized, planning .room);
+        } in
+        record {
+          filling = rw (f .firstCount) one;
+          first = f .firstPlace;
+          roomPlaces = f .roomPlaces;
+          roomCounts = f .roomCounts;
+          buffer = buffer;
+        }
 
     module _ {totals : Totals} {places′ counts′ : List ℕ} {filled : List ℤ} (kept : length filled ≡ length begun)
-        (lists : Filled bytes n 1 begun totals places′ counts′ filled)
+        (made : Filled bytes n (getD counts 0 0) begun totals places′ counts′ filled)
       where
+        lists : Filled bytes n 1 begun totals places′ counts′ filled
+        lists = rw (f .firstCount) at made
+
         stand : Lists first (jobsIn bytes) n places′ counts′ (lists .used) filled
         stand = rw first-is at (lists .lists)
 

@@ -4,6 +4,7 @@ use area::clear;
 use fields::Header;
 use fields::header_at;
 use filling::Totals;
+use filling::buffer;
 use filling::fill_lists;
 use filling::notes;
 use filling::start_at;
@@ -78,8 +79,9 @@ fn plan_by_lists(
     ensures { λ r. ⌜ MadeIn (now (bytes .entry)) (now (starts .entry)) r (now (starts .exit)) ⌝ }
 {
     let n = header.count;
+    let mut pushed = buffer();
     start_at(work, header.t0);
-    let totals = fill_lists(work, bytes, n, 1, places, counts);
+    let totals = fill_lists(work, bytes, n, places, counts, &mut pushed);
     let place = places[n];
     let count = counts[n];
     match last_by(work, place, count, LATEST) {
@@ -95,13 +97,15 @@ fn plan_by_lists(
     }
 }
 
-// The same with notes for the lists.
+// The same with notes for the lists, the first of which has one point at the front.
 fn plan_within(bytes: &[u8], header: Header, starts: &mut [i32], work: &mut [i32]) -> Planned
     requires { ⌜ CanPlan (now bytes) header (now starts) (now work) ⌝ }
     ensures { λ r. ⌜ MadeIn (now (bytes .entry)) (now (starts .entry)) r (now (starts .exit)) ⌝ }
 {
     let mut places = notes();
     let mut counts = notes();
+    places[0] = 0;
+    counts[0] = 1;
     plan_by_lists(bytes, header, starts, work, &mut places, &mut counts)
 }
 

@@ -20,16 +20,18 @@ enum-told c = search needs
 
 plan-order-requires : tie.Need-plan-order-requires
 plan-order-requires c κs =
-    let e = c .before .before in
-    told-fine (orderChecks (now (e .before .before .before .before .args .bytes)))
-    (sym (e .before .before .judge-order .ensures) ∙ e .enum-told .given .1)
+    let told : tie.After-enum-told = c .before .before in
+    let judged : tie.After-judge-order = told .before .before in
+    let start : tie.Start = judged .before .before in
+    told-fine (orderChecks (now (start .args .bytes))) (sym (judged .judge-order .ensures) ∙ told .enum-told .given .1)
 
 returns : tie.Need-returns
 returns c =
-    let j = c .before .before .before in
-    let a = j .before .before .args in
+    let judged : tie.After-judge-order = c .before .before .before in
+    let start : tie.Start = judged .before .before in
+    let a = start .args in
     let r = c .before .refusal .given in
-    plan-stopped (now (a .bytes)) (now (a .starts)) (now (a .work)) (r .0 .0) (sym (j .judge-order .ensures) ∙ r .1)
+    plan-stopped (now (a .bytes)) (now (a .starts)) (now (a .work)) (r .0 .0) (sym (judged .judge-order .ensures) ∙ r .1)
 
 same-length : tie.Need-same-length
 same-length c = search needs

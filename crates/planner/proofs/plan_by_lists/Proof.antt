@@ -24,13 +24,13 @@ use Rattle.planner.proofs.plan_by_lists.Tie as tie
 -- ---- the stages of the code, each seen from a later one
 
 abbrev start : tie.After-struct-told → tie.Start
-start read = read .before .before .before .before .before
+start read = read .before .before .before .before .before .before
 
 abbrev begun : tie.After-work → tie.After-start-at
 begun back = back .before
 
 abbrev filled : tie.After-last-by-arg → tie.After-fill-lists
-filled read = read .before .before .before .before .before .before .before .before
+filled read = read .before .before .before .before .before .before .before .before .before
 
 -- ---- the first list is started
 
@@ -41,12 +41,18 @@ t0-back s =
     let fits : SFits w32 (s .args .header .t0) = rw (p .read .t0) (time-fits (p .order .header .timely)) in
     toZ-ofZ fits
 
+buffer-requires : tie.Need-buffer-requires
+buffer-requires c κs = search needs
+
 start-at-requires : tie.Need-start-at-requires
 start-at-requires c κs = let s = start c in rw (t0-back s) (can-start (s .pre))
 
 module _ (c : tie.After-start-at) where
   abbrev entry : tie.Start
   entry = start (c .before)
+
+  abbrev buffered : tie.After-buffer
+  buffered = c .before .before .before
 
   abbrev first : List ℤ
   first = c .start-at .last .0
@@ -59,14 +65,17 @@ module _ (c : tie.After-start-at) where
 
 -- ---- all lists are filled
 
+slice-aggregate-fill-lists : tie.Need-slice-aggregate-fill-lists
+slice-aggregate-fill-lists c = search needs
+
 fill-lists-requires : tie.Need-fill-lists-requires
 fill-lists-requires c κs =
-    let from : tie.After-start-at = begun (c .before .before .before) in
-    can-fill (entry from .pre) (sized from) (started from)
+    let from : tie.After-start-at = begun (c .before .before .before .before) in
+    can-fill (entry from .pre) (sized from) (started from) (buffered from .buffer .ensures)
 
 module _ (c : tie.After-fill-lists) where
   abbrev from : tie.After-start-at
-  from = begun (c .before .before .before .before)
+  from = begun (c .before .before .before .before .before)
 
   abbrev all : List ℤ
   all = c .fill-lists .last .0
@@ -74,17 +83,17 @@ module _ (c : tie.After-fill-lists) where
   kept : length all ≡ length (first from)
   kept = search needs
 
-  same-places : length (c .fill-lists .last .1 .1 .1 .1 .0) ≡ length (entry from .args .places .now)
+  same-places : length (c .fill-lists .last .1 .1 .1 .0) ≡ length (entry from .args .places .now)
   same-places = search needs
 
-  same-counts : length (c .fill-lists .last .1 .1 .1 .1 .1 .0) ≡ length (entry from .args .counts .now)
+  same-counts : length (c .fill-lists .last .1 .1 .1 .1 .0) ≡ length (entry from .args .counts .now)
   same-counts = search needs
 
   -- The last of them.
   abbrev last : List Point
   last =
-      listAt all (getD (c .fill-lists .last .1 .1 .1 .1 .0) (entry from .args .header .count) 0)
-      (getD (c .fill-lists .last .1 .1 .1 .1 .1 .0) (entry from .args .header .count) 0)
+      listAt all (getD (c .fill-lists .last .1 .1 .1 .0) (entry from .args .header .count) 0)
+      (getD (c .fill-lists .last .1 .1 .1 .1 .0) (entry from .args .header .count) 0)
 
 mul-place : tie.Need-mul-place
 mul-place c = search needs
@@ -192,7 +201,9 @@ pub plan-by-lists-spec : {M : Type 1} → statement M
 plan-by-lists-spec =
     tie.close
     (tie.spec
+    buffer-requires
     start-at-requires
+    slice-aggregate-fill-lists
     fill-lists-requires
     mul-place
     slice-read-place
