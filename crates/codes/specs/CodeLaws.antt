@@ -15,7 +15,7 @@ use Rattle.order.specs.Moves.{point-path}
 use Rattle.profile.specs.Rising.{Below}
 use Rattle.profile.specs.Closure.{PointWithin}
 use Rattle.better.specs.InTurn.{goesFirst}
-use Rattle.codes.specs.Code.{since, code, lightness, pointOf, limitOf, pastAll}
+use Rattle.codes.specs.Code.{since, perSecond, mostLight, code, lightness, pointOf, limitOf, pastAll}
 
 -- The seconds since the earliest time are a difference.
 pub since-is : {t : ℤ} → InFree t → since t + dn t ≡ up t + 100000
@@ -26,7 +26,7 @@ since-few {t} f = omega (signed, since-is f, rest-small, one-zero t)
 
 module _ {p : Point} (s : PointWithin p) where
   -- The weight is told,
-  pub light-is : lightness (code p) ≡ 511 - p .weight
+  pub light-is : lightness (code p) ≡ mostLight - p .weight
   light-is = omega (arith, s .weight)
 
   -- the number is one,
@@ -39,9 +39,9 @@ module _ {p : Point} (s : PointWithin p) where
   -- and the point is read back.
   pub point-back : pointOf (code p) ≡ p
   point-back =
-      let d : (since (p .time) * 512 + (511 - p .weight)) / 512 ≡ since (p .time) = omega (arith, s .weight) in
+      let d : (since (p .time) * perSecond + (mostLight - p .weight)) / perSecond ≡ since (p .time) = omega (arith, s .weight) in
       point-path
-      (omega (signed, d, since-is (s .time), sub-is (pos ((since (p .time) * 512 + (511 - p .weight)) / 512)) (pos 100000)))
+      (omega (signed, d, since-is (s .time), sub-is (pos ((since (p .time) * perSecond + (mostLight - p .weight)) / perSecond)) (pos 100000)))
       (omega (arith, light-is, s .weight))
 
 -- The order of numbers is who goes first.

@@ -1,5 +1,5 @@
-// Scheduling points in the lent work area, a point as one number: 512 for each second since the earliest, and 511 less the
-// weight. The smaller number is the earlier point and, at one time, the heavier. Assumes nothing.
+// Scheduling points in the lent work area, a point as one number: SECOND for each second since the earliest, and LIGHTEST less
+// the weight. The smaller number is the earlier point and, at one time, the heavier. Assumes nothing.
 ghost use mathlib.Core.Path.{_≡_};
 ghost use Prim.Native.Nat.{_≤_};
 ghost use lib.IntN.{pos};
@@ -9,16 +9,22 @@ ghost use Rattle.seconds.specs.Limits.{mostWeight};
 ghost use Rattle.codes.specs.Code.{since, codeOf, lightness, pointOf, limitOf};
 ghost use Rattle.codes.specs.Held.{Inside, After};
 
-// The numbers for each second, and the number of a point of no weight past its second's.
-const SECOND: usize = 512;
+// The numbers for each second, and how light a point of no weight is.
+pub const SECOND: usize = 512;
 
-const LIGHTEST: usize = 511;
+pub const LIGHTEST: usize = 511;
 
 // The seconds from the earliest time to 0.
 const BEFORE_ZERO: i32 = 100_000;
 
 // The greatest number is past every point.
 pub const PAST: i32 = 1_073_741_824;
+
+// A list of points in the work area or in a buffer: where it begins, and how many they are.
+pub struct Prefix {
+    pub place: usize,
+    pub count: usize,
+}
 
 // The seconds since the earliest time.
 fn since(time: i32) -> usize
@@ -44,7 +50,7 @@ pub fn limit_by(time: i32) -> i32
     (since(time) * SECOND + LIGHTEST) as i32
 }
 
-// How light a point is: 511 less its weight.
+// How light a point is: LIGHTEST less its weight.
 pub fn light_in(code: i32) -> usize
     requires { ⌜ pos 0 ≤ℤ code ⌝ }
     ensures { λ r. ⌜ r ≡ lightness code ⌝ }

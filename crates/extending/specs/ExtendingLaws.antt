@@ -23,7 +23,7 @@ use Rattle.profiles.specs.Places.{pointsOf}
 use Rattle.area.specs.Area.{area}
 use Rattle.codes.specs.Code.{listAt}
 use Rattle.codes.specs.HeldLaws.{held-read, list-length}
-use Rattle.stepping.specs.declared.Prefix.{Prefix}
+use Rattle.codes.specs.declared.Prefix.{Prefix}
 use Rattle.reading.specs.Reading.{CanWrite}
 use Rattle.filling.specs.Lists.{CanFill, FilledLast}
 use Rattle.filling.specs.Begin.{CanBegin, Begun}

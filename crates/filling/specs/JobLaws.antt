@@ -23,7 +23,9 @@ use Rattle.fields.specs.Facts.{JobFacts, JobFits, job-facts, facts-fit, mark-bi
 use Rattle.fields.specs.declared.Job.{Job as Numbers}
 use Rattle.points.specs.Steps.{listStep}
 use Rattle.codes.specs.Code.{listAt}
-use Rattle.stepping.specs.declared.Prefix.{Prefix}
+use Rattle.codes.specs.declared.Prefix.{Prefix}
+use Rattle.pushing.specs.declared.Rate.{Rate}
+use Rattle.stepping.specs.declared.Terms.{Terms}
 use Rattle.stepping.specs.Stepping.{stepped, CanStep, Stepped}
 use Rattle.stepping.specs.Cases.{any-number}
 use Rattle.filling.specs.Lists.{CanFillOne, FilledOne}
@@ -74,10 +76,20 @@ module _ (bytes : List ℕ) (k : ℕ) (order : OrderFine bytes) (there : k < cou
     pub long-casts : T (nonNeg (read (job .length))) × Fits w64 (natAbs (read (job .length)))
     long-casts = rw (toZ-ofZ (fits .long)) (omega (signed, abs-is (job .length), within .long))
 
+    -- Its terms, and its one rate.
+    abbrev terms : Terms
+    terms = record {
+      critical = eqb (ofZ w32 (job .critical)) 1;
+      ready = read (job .ready);
+      deadline = read (job .deadline);
+    }
+
+    abbrev rate : Rate
+    rate = record { takes = natAbs (read (job .length)); gain = natAbs (read (job .weight)) }
+
     -- A list can be stepped by the job,
     pub job-steps : (place count : ℕ) (work pushed : List ℤ) → CanFillOne bytes k place count work pushed
-        → CanStep (eqb (ofZ w32 (job .critical)) 1) (natAbs (read (job .weight))) (read (job .ready)) (natAbs (read (job .length)))
-        (read (job .deadline)) place count work pushed
+        → CanStep terms rate (record { place = place; count = count }) work pushed
     job-steps place count work pushed f =
         record {
           held = f .held;
@@ -95,18 +107,12 @@ module _ (bytes : List ℕ) (k : ℕ) (order : OrderFine bytes) (there : k < cou
           buffer = f .buffer;
         }
 
-    step-by : (ps : List Point) → listStep (jobIn bytes k) ps
-        ≡ stepped (eqb (ofZ w32 (job .critical)) 1) (natAbs (read (job .weight))) (read (job .ready)) (natAbs (read (job .length)))
-        (read (job .deadline)) ps
-    step-by ps =
-        ap (λ (j : Job). listStep j ps) job-is
-        ∙ any-number (natAbs (job .number)) (eqb (ofZ w32 (job .critical)) 1) (natAbs (read (job .weight))) (read (job .ready))
-        (natAbs (read (job .length))) (read (job .deadline)) ps
+    step-by : (ps : List Point) → listStep (jobIn bytes k) ps ≡ stepped terms rate ps
+    step-by ps = ap (λ (j : Job). listStep j ps) job-is ∙ any-number (natAbs (job .number)) terms rate ps
 
     -- and then the next list is that after the job.
     pub job-stepped : (place count : ℕ) (work : List ℤ) (r : Prefix) (work′ pushed′ : List ℤ)
-        → Stepped (eqb (ofZ w32 (job .critical)) 1) (natAbs (read (job .weight))) (read (job .ready)) (natAbs (read (job .length)))
-        (read (job .deadline)) place count work r work′ pushed′
+        → Stepped terms rate (record { place = place; count = count }) work r work′ pushed′
         → FilledOne bytes k place count work (r .place) (r .count) (natAbs (read (job .weight))) work′ pushed′
     job-stepped place count work r work′ pushed′ s =
         record {

@@ -16,7 +16,7 @@ use Rattle.packed.specs.Accepted.{OrderFine}
 use Rattle.area.specs.Area.{area}
 use Rattle.codes.specs.Code.{at0, listAt}
 use Rattle.codes.specs.Held.{Held}
-use Rattle.stepping.specs.declared.Prefix.{Prefix}
+use Rattle.codes.specs.declared.Prefix.{Prefix}
 use Rattle.stepping.specs.Stepping.{Buffer}
 use Rattle.reading.specs.Reading.{Stands}
 use Rattle.filling.specs.declared.Totals.{Totals}

@@ -1,9 +1,11 @@
 // The lists of an order in the lent work area: the list of points before its first job, from a bus-free time or a profile, and
 // behind it the list after each job of a packed order. Assumes nothing.
 use codes::PAST;
+use codes::Prefix;
 use codes::code_of;
 use fields::job_at;
-use stepping::Prefix;
+use pushing::Rate;
+use stepping::Terms;
 use stepping::step;
 ghost use mathlib.Core.Path.{_≡_};
 ghost use mathlib.Core.Bool.{true};
@@ -47,17 +49,20 @@ fn fill_one(
     let job = job_at(bytes, 4 + 8 * k);
     let weight = job.weight as usize;
     let takes = job.length as usize;
-    let next = step(
-        work,
-        place,
-        count,
-        job.critical == 1,
-        weight,
-        job.ready,
-        takes,
-        job.deadline,
-        pushed,
-    );
+    let list = Prefix {
+        place: place,
+        count: count,
+    };
+    let terms = Terms {
+        critical: job.critical == 1,
+        ready: job.ready,
+        deadline: job.deadline,
+    };
+    let rate = Rate {
+        takes: takes,
+        gain: weight,
+    };
+    let next = step(work, list, terms, rate, pushed);
     Next {
         place: next.place,
         count: next.count,

@@ -1,7 +1,7 @@
 -- Joining two lists of points: the front of the first is copied, the rest merged with the second, and behind the part in use
 -- stands the better of both.
 use Prim.Native.Nat.{ℕ, zero, suc, _+_, _-_, _≤_, _<_}
-use mathlib.Core.Path.{_≡_, sym, ap, _∙_}
+use mathlib.Core.Path.{_≡_, refl, sym, ap, _∙_}
 use mathlib.Core.Bool.{true, false}
 use mathlib.Core.List.{List, [], _∷_, _++_, map, List·Memᴰ as In, Memᴰ·append-right, List·Memᴰ·append-cases as in-either}
 use mathlib.Core.Logic.{⊎-elim}
@@ -22,7 +22,8 @@ use Rattle.profile.specs.Points.{profileOf-member}
 use Rattle.profiles.specs.OnePass.{belowAll}
 use Rattle.better.specs.InTurn.{firstGoes}
 use Rattle.better.specs.Heavier.{merge, merge-better}
-use Rattle.codes.specs.Code.{code, pointOf, at0, listAt, lightness, pastAll}
+use Rattle.codes.specs.declared.Prefix.{Prefix}
+use Rattle.codes.specs.Code.{perSecond, mostLight, code, lightness, pointOf, pastAll, at0, listAt, pointsAt, endOf}
 use Rattle.codes.specs.CodeLaws.{light-is, code-least, code-most, code-order}
 use Rattle.codes.specs.Held.{Held, held-none, held-more, After}
 use Rattle.codes.specs.HeldLaws.{held-stays, list-length, held-within, held-append, held-copied, held-point}
@@ -46,7 +47,7 @@ held-ended h d past = record {
 
 -- The last number of a list tells the last weight,
 last-told : {l : List ℤ} {i : ℕ} {p : Point} (fs : List Point) → Held l i (p ∷ fs)
-    → lightness (at0 l (i + length fs)) + up (lastAfter (pos (p .weight)) fs) ≡ 511 + dn (lastAfter (pos (p .weight)) fs)
+    → lightness (at0 l (i + length fs)) + up (lastAfter (pos (p .weight)) fs) ≡ mostLight + dn (lastAfter (pos (p .weight)) fs)
 last-told {i = i} [] (held-more s e h) =
     let here : i + 0 ≡ i = omega arith in
     rw (here, e) (omega (arith, light-is s, s .weight))
@@ -56,7 +57,7 @@ last-told {i = i} (q ∷ fs) (held-more s e h) =
 
 -- and so does the number before the place after it.
 before-told : {l : List ℤ} {i : ℕ} {fs : List Point} (z : ℕ) → Held l i fs → i + length fs ≡ z
-    → lightBefore l i z + up (lastAfter belowAll fs) ≡ 511 + dn (lastAfter belowAll fs)
+    → lightBefore l i z + up (lastAfter belowAll fs) ≡ mostLight + dn (lastAfter belowAll fs)
 before-told {i = i} z held-none d = let none-yet : ltb i z ≡ false = le-ltb i z (omega arith) in rw none-yet
 before-told z (held-more {i = i} {ps = fs} s e h) d =
     let some-yet : ltb i z ≡ true = lt-ltb i z (omega arith) in
@@ -78,57 +79,65 @@ goes-first {l} {i} (suc n) h (held-more t d k) {p} s e ps =
 abbrev marked : List ℤ → ℕ → List ℤ
 marked work used = set work used pastAll
 
-module _ {work : List ℤ} {place count : ℕ} {pushed : List ℤ} {from many : ℕ} (g : CanJoin work place count pushed from many) where
+module _ {work : List ℤ} {list : Prefix} {pushed : List ℤ} {other : Prefix} (g : CanJoin work list pushed other) where
   -- A list has at most 301 points.
-  pub join-few : count ≤ 301
+  pub join-few : list .count ≤ 301
   join-few =
       let few = rising-short mostWeight (g .rises) (λ q m. held-within (g .held) q m .weight) in
-      omega (arith, list-length work place count)
+      omega (arith, list-length work (list .place) (list .count))
 
   -- The number past all stands behind it.
-  stays : (k : ℕ) → k < place + count → at0 (marked work (place + count)) k ≡ at0 work k
-  stays k h = getD-set-other work (place + count) k pastAll (pos 0) (omega arith)
+  stays : (k : ℕ) → k < endOf list → at0 (marked work (endOf list)) k ≡ at0 work k
+  stays k h = getD-set-other work (endOf list) k pastAll (pos 0) (omega arith)
 
   -- The search from the back cuts the list before the first pushed point.
-  module _ {z : ℕ} (found : After (marked work (place + count)) place (place + count) (at0 pushed from) z) where
-    cutting : Cut (at0 pushed from) (marked work (place + count)) place z (listAt work place count)
+  module _ {z : ℕ} (found : After (marked work (endOf list)) (list .place) (endOf list) (at0 pushed (other .place)) z) where
+    cutting : Cut (at0 pushed (other .place)) (marked work (endOf list)) (list .place) z (pointsAt work list)
     cutting =
-        let n = list-length work place count in
-        cut z (held-stays (place + count) stays (omega arith) (g .held)) (g .rises) (rw n found)
+        let n = list-length work (list .place) (list .count) in
+        cut z (held-stays (endOf list) stays (omega arith) (g .held)) (g .rises) (rw n found)
 
-    module _ {copy : List ℤ} (c : Copied place (place + count + 1) (z - place) (marked work (place + count)) copy) where
+    -- The back of the list, from the place found on, ends where the list ends.
+    abbrev pub backOf : Prefix
+    backOf = record { place = z; count = endOf list - z }
+
+    back-ends : endOf backOf ≡ endOf list
+    back-ends = omega (arith, found .high)
+
+    module _ {copy : List ℤ} (c : Copied (list .place) (endOf list + 1) (z - list .place) (marked work (endOf list)) copy) where
       -- The number before the place found can be weighed, once the front is copied.
-      pub can-weigh : CanWeigh copy place z
+      pub can-weigh : CanWeigh copy (list .place) z
       can-weigh = record {
-        inside = omega (arith, found .high, g .room, c .size, length-set work (place + count) pastAll);
+        inside = omega (arith, found .high, g .room, c .size, length-set work (endOf list) pastAll);
         least = least;
       }
         where
-          least : place < z → pos 0 ≤ℤ at0 copy (z - 1)
+          least : list .place < z → pos 0 ≤ℤ at0 copy (z - 1)
           least h =
               let p = held-point (cutting .held) (z - 1) (omega arith) (omega (arith, cutting .count)) in
               let e : at0 copy (z - 1) ≡ code (p .0) = c .before (z - 1) (omega (arith, found .high)) ∙ p .2 in
               rw e (code-least (p .1))
 
       -- The front and the back are still there, and behind them a number past all.
-      front-held : Held copy place (cutting .front)
-      front-held = held-stays (place + count + 1) (c .before) (omega (arith, cutting .count, found .high)) (cutting .held)
+      front-held : Held copy (list .place) (cutting .front)
+      front-held = held-stays (endOf list + 1) (c .before) (omega (arith, cutting .count, found .high)) (cutting .held)
 
-      parts : length (cutting .front) + length (cutting .back) ≡ count
+      parts : length (cutting .front) + length (cutting .back) ≡ list .count
       parts =
           let sum = length-append (cutting .front) (cutting .back) in
-          omega (arith, ap length (cutting .whole), list-length work place count)
+          omega (arith, ap length (cutting .whole), list-length work (list .place) (list .count))
 
-      ends : z + length (cutting .back) ≡ place + count
+      ends : z + length (cutting .back) ≡ endOf list
       ends = omega (arith, parts, cutting .count)
 
       back-held : Held copy z (cutting .back)
-      back-held = held-stays (place + count + 1) (c .before) (omega (arith, ends)) (cutting .heldBack)
+      back-held = held-stays (endOf list + 1) (c .before) (omega (arith, ends)) (cutting .heldBack)
 
-      past : at0 copy (place + count) ≡ pastAll
+      past : at0 copy (endOf backOf) ≡ pastAll
       past =
-          c .before (place + count) (omega arith)
-          ∙ getD-set-same work (place + count) pastAll (pos 0) (omega (arith, g .room))
+          ap (at0 copy) back-ends
+          ∙ c .before (endOf list) (omega arith)
+          ∙ getD-set-same work (endOf list) pastAll (pos 0) (omega (arith, g .room))
 
       -- The front rises to a last weight,
       abbrev last : ℤ
@@ -137,13 +146,13 @@ module _ {work : List ℤ} {place count : ℕ} {pushed : List ℤ} {from many : 
       front-rises : Rising (cutting .front)
       front-rises = rising-front (cutting .front) (cutting .back) (rw (cutting .whole) at (g .rises))
 
-      module _ {lightest : ℕ} (l : lightest ≡ lightBefore copy place z) where
+      module _ {lightest : ℕ} (l : lightest ≡ lightBefore copy (list .place) z) where
         -- which the number before the place found tells:
-        told : lightest + up last ≡ 511 + dn last
+        told : lightest + up last ≡ mostLight + dn last
         told = rw l (before-told z front-held (cutting .count))
 
         -- the longer the front, the fewer points are still to come.
-        light : lightest + (z - place) ≤ 512
+        light : lightest + (z - list .place) ≤ perSecond
         light =
             let few = last-few belowAll front-rises (λ p m. omega signed) in
             omega (arith, told, cutting .count)
@@ -152,57 +161,54 @@ module _ {work : List ℤ} {place count : ℕ} {pushed : List ℤ} {from many : 
         heavy = omega (arith, told, last-light belowAll (cutting .front) (held-within (cutting .held)) (omega arith))
 
         -- The rest can be merged,
-        pub can-merge : CanMerge z (place + count - z + many) (place + count + 1 + (z - place)) lightest pushed from copy
+        pub can-merge : CanMerge copy backOf pushed other (endOf list + 1 + (z - list .place)) lightest
         can-merge = record {
-          end = place + count;
-          endPushed = from + many;
-          list = held-ended back-held ends past;
-          other = held-ended (g .heldToo) (omega (arith, list-length pushed from many)) (g .past);
-          all = omega (arith, found .high);
-          behind = omega arith;
+          here = held-ended back-held (omega (arith, ends, back-ends)) past;
+          there = held-ended (g .heldToo) (omega (arith, list-length pushed (other .place) (other .count))) (g .past);
+          behind = omega (arith, back-ends);
           low = heavy;
           light = omega (arith, light);
-          room = omega (arith, light, g .room, c .size, length-set work (place + count) pastAll);
+          room = omega (arith, light, g .room, c .size, length-set work (endOf list) pastAll);
           roomPushed = g .inside;
         }
 
         -- and then the better of both stands behind the part in use.
         module _ {r : ℕ} {after : List ℤ}
-            (m : Merged z (place + count - z + many) (place + count + 1 + (z - place)) lightest pushed from copy r after) where
+            (m : Merged copy backOf pushed other (endOf list + 1 + (z - list .place)) lightest r after) where
           -- What is merged,
           abbrev rest : List Point
-          rest = merge last (cutting .back) (listAt pushed from many)
+          rest = merge last (cutting .back) (pointsAt pushed other)
 
           -- behind the front, is the better of both;
-          better : betterOf (listAt work place count) (listAt pushed from many) ≡ cutting .front ++ rest
+          better : betterOf (pointsAt work list) (pointsAt pushed other) ≡ cutting .front ++ rest
           better =
               sym (merge-better (g .rises) (g .risesToo))
-              ∙ ap (λ (ps : List Point). merge belowAll ps (listAt pushed from many)) (cutting .whole)
-              ∙ front-kept belowAll (cutting .back) (listAt pushed from many) front-rises (λ p n. omega signed)
-              (λ p n. goes-first many (g .some) (g .heldToo) (held-within (cutting .held) p n) (cutting .early p n))
+              ∙ ap (λ (ps : List Point). merge belowAll ps (pointsAt pushed other)) (cutting .whole)
+              ∙ front-kept belowAll (cutting .back) (pointsAt pushed other) front-rises (λ p n. omega signed)
+              (λ p n. goes-first (other .count) (g .some) (g .heldToo) (held-within (cutting .held) p n) (cutting .early p n))
 
           -- it is within the limits,
           rest-within : (p : Point) → In p rest → PointWithin p
           rest-within p n =
               ⊎-elim (held-within (g .held) p) (held-within (g .heldToo) p)
-              (in-either (listAt work place count) (profileOf-member (listAt work place count ++ listAt pushed from many) listed))
+              (in-either (pointsAt work list) (profileOf-member (pointsAt work list ++ pointsAt pushed other) listed))
             where
-              listed : In p (betterOf (listAt work place count) (listAt pushed from many))
+              listed : In p (betterOf (pointsAt work list) (pointsAt pushed other))
               listed = rw better (Memᴰ·append-right (cutting .front) n)
 
           -- and its numbers are written.
-          numbers : merged z (place + count - z + many) lightest pushed from copy ≡ map code rest
+          numbers : merged copy backOf pushed other lightest ≡ map code rest
           numbers =
-              merged-are (place + count - z + many) lightest last past (g .past) back-held ends (g .heldToo)
-              (omega (arith, list-length pushed from many))
-              (rising-back (cutting .front) (cutting .back) (rw (cutting .whole) at (g .rises))) (g .risesToo)
-              (omega (arith, ends, list-length pushed from many)) told
+              merged-are backOf other lightest last past (g .past) back-held (omega (arith, ends)) (g .heldToo)
+              (list-length pushed (other .place) (other .count))
+              (rising-back (cutting .front) (cutting .back) (rw (cutting .whole) at (g .rises))) (g .risesToo) told
 
-          pub joins : Joined work place count pushed from many (r - (place + count + 1)) after
+          pub joins : Joined work list pushed other (record { place = endOf list + 1; count = r - (endOf list + 1) }) after
           joins = record {
-            size = m .size ∙ c .size ∙ length-set work (place + count) pastAll;
+            size = m .size ∙ c .size ∙ length-set work (endOf list) pastAll;
             stays = λ k h. m .before k (omega arith) ∙ c .before k (omega arith) ∙ stays k h;
-            held = rw better (held-append (place + count + 1 + (z - place)) front (omega (arith, cutting .count)) back);
+            behind = refl;
+            held = rw better (held-append (endOf list + 1 + (z - list .place)) front (omega (arith, cutting .count)) back);
             counted = omega (
               arith,
               m .count,
@@ -214,11 +220,11 @@ module _ {work : List ℤ} {place count : ℕ} {pushed : List ℤ} {from many : 
             );
           }
             where
-              front : Held after (place + count + 1) (cutting .front)
+              front : Held after (endOf list + 1) (cutting .front)
               front =
                   let n = cutting .count in
-                  held-copied (place + count + 1) (cutting .held)
-                  (λ k h. m .before (place + count + 1 + k) (omega arith) ∙ c .laid k (omega arith))
+                  held-copied (endOf list + 1) (cutting .held)
+                  (λ k h. m .before (endOf list + 1 + k) (omega arith) ∙ c .laid k (omega arith))
 
-              back : Held after (place + count + 1 + (z - place)) rest
-              back = held-codes (place + count + 1 + (z - place)) rest rest-within (rw numbers at (m .written))
+              back : Held after (endOf list + 1 + (z - list .place)) rest
+              back = held-codes (endOf list + 1 + (z - list .place)) rest rest-within (rw numbers at (m .written))

@@ -9,7 +9,8 @@ use lib.ListN.{length}
 use lib.Signed.{_≤ℤ_}
 use Rattle.profile.specs.Profile.{betterOf}
 use Rattle.profile.specs.Rising.{Rising}
-use Rattle.codes.specs.Code.{at0, listAt, lightness, pastAll}
+use Rattle.codes.specs.declared.Prefix.{Prefix}
+use Rattle.codes.specs.Code.{perSecond, lightness, pastAll, at0, pointsAt, endOf}
 use Rattle.codes.specs.Held.{Held}
 
 -- ---- numbers laid at a place
@@ -41,25 +42,26 @@ pub record CanWeigh (work : List ℤ) (place z : ℕ) : Type 0 where
   pub inside : z ≤ length work
   pub least : place < z → pos 0 ≤ℤ at0 work (z - 1)
 
--- How light it is, 512 where there is none.
+-- How light it is; lighter than every point where there is none.
 abbrev pub lightBefore : List ℤ → ℕ → ℕ → ℕ
-lightBefore work place z = cond (ltb place z) (lightness (at0 work (z - 1))) 512
+lightBefore work place z = cond (ltb place z) (lightness (at0 work (z - 1))) perSecond
 
 -- Two lists of points can be joined: both rise, the pushed one has a point and a number past all behind it, and there is
 -- room for a list of every weight and a number that is written and not kept.
-pub record CanJoin (work : List ℤ) (place count : ℕ) (pushed : List ℤ) (from many : ℕ) : Type 0 where
-  pub held : Held work place (listAt work place count)
-  pub rises : Rising (listAt work place count)
-  pub some : 1 ≤ many
-  pub heldToo : Held pushed from (listAt pushed from many)
-  pub risesToo : Rising (listAt pushed from many)
-  pub past : at0 pushed (from + many) ≡ pastAll
-  pub inside : from + many < length pushed
-  pub room : place + count + 303 < length work
+pub record CanJoin (work : List ℤ) (list : Prefix) (pushed : List ℤ) (other : Prefix) : Type 0 where
+  pub held : Held work (list .place) (pointsAt work list)
+  pub rises : Rising (pointsAt work list)
+  pub some : 1 ≤ other .count
+  pub heldToo : Held pushed (other .place) (pointsAt pushed other)
+  pub risesToo : Rising (pointsAt pushed other)
+  pub past : at0 pushed (endOf other) ≡ pastAll
+  pub inside : endOf other < length pushed
+  pub room : endOf list + 303 < length work
 
 -- The better of both stands behind the list and a number past all, and the part in use stays.
-pub record Joined (work : List ℤ) (place count : ℕ) (pushed : List ℤ) (from many r : ℕ) (after : List ℤ) : Type 0 where
+pub record Joined (work : List ℤ) (list : Prefix) (pushed : List ℤ) (other r : Prefix) (after : List ℤ) : Type 0 where
   pub size : length after ≡ length work
-  pub stays : (k : ℕ) → k < place + count → at0 after k ≡ at0 work k
-  pub held : Held after (place + count + 1) (betterOf (listAt work place count) (listAt pushed from many))
-  pub counted : r ≡ length (betterOf (listAt work place count) (listAt pushed from many))
+  pub stays : (k : ℕ) → k < endOf list → at0 after k ≡ at0 work k
+  pub behind : r .place ≡ endOf list + 1
+  pub held : Held after (r .place) (betterOf (pointsAt work list) (pointsAt pushed other))
+  pub counted : r .count ≡ length (betterOf (pointsAt work list) (pointsAt pushed other))

@@ -1,5 +1,5 @@
 -- Merging turn by turn: which number a turn takes, and what is then written.
-use Prim.Native.Nat.{ℕ, suc, _+_, _-_, _/_, _≤_, _<_, min}
+use Prim.Native.Nat.{ℕ, suc, _+_, _≤_, _<_, min}
 use mathlib.Core.Path.{_≡_, refl, sym, ap, _∙_}
 use mathlib.Core.Bool.{Bool, true, false, cond}
 use mathlib.Core.List.{List, [], _∷_, _++_, append-nil}
@@ -13,7 +13,8 @@ use lib.ListN.{length, set, take, length-append, length-set, List·getD-append}
 use lib.Seq.{length-take-le, append-snoc, getD-append-add, take-set-le, take-suc-set, getD-take}
 use lib.Signed.{leZ, _≤ℤ_}
 use Rattle.seconds.specs.Signed.{signed}
-use Rattle.codes.specs.Code.{at0, lightness, pastAll}
+use Rattle.codes.specs.declared.Prefix.{Prefix}
+use Rattle.codes.specs.Code.{perSecond, lightness, pastAll, at0, endOf}
 use Rattle.merging.specs.Turns.{turnsAt, keptOf, leastLight, Ended, CanMerge, merged, Merged}
 
 -- ---- what is written
@@ -21,13 +22,13 @@ use Rattle.merging.specs.Turns.{turnsAt, keptOf, leastLight, Ended, CanM
 -- All before the place and the numbers kept stand in front; what is kept of the rest is still to come.
 pub record Written (whole : List ℤ) (at lightest : ℕ) (was : List ℤ) (kept best : ℕ) (work rest : List ℤ) : Type 0 where
   pub lower : leastLight ≤ best
-  pub upper : best ≤ 512
+  pub upper : best ≤ perSecond
   pub few : kept + best ≤ lightest
   pub size : length work ≡ length was
   pub front : take at was ++ whole ≡ take (at + kept) work ++ keptOf best rest
 
 -- At the start nothing is kept.
-written-none : (at lightest : ℕ) (was rest : List ℤ) → leastLight ≤ lightest → lightest ≤ 512
+written-none : (at lightest : ℕ) (was rest : List ℤ) → leastLight ≤ lightest → lightest ≤ perSecond
     → Written (keptOf lightest rest) at lightest was 0 lightest was rest
 written-none at lightest was rest h l =
     let none-yet : at + 0 ≡ at = omega arith in
@@ -54,16 +55,15 @@ module _ {whole : List ℤ} {at lightest : ℕ} {was : List ℤ} {kept best : �
 -- One number more: it is written, and kept where it is less light than all before.
 written-more : {whole : List ℤ} {at lightest : ℕ} {was : List ℤ} {kept best : ℕ} {work : List ℤ} (x : ℤ) (xs : List ℤ)
     → Written whole at lightest was kept best work (x ∷ xs) → at + lightest < length was + leastLight → leastLight ≤ lightness x
-    → Written whole at lightest was (kept + (best + 511 - lightness x) / 512) (min (lightness x) best) (set work (at + kept) x) xs
+    → Written whole at lightest was (kept + cond (ltb (lightness x) best) 1 0) (min (lightness x) best) (set work (at + kept) x) xs
 written-more {whole} {at} {lightest} {was} {kept} {best} {work} x xs w room h = go (ltb (lightness x) best) refl
   where
     go : (b : Bool) → ltb (lightness x) best ≡ b
-        → Written whole at lightest was (kept + (best + 511 - lightness x) / 512) (min (lightness x) best)
-        (set work (at + kept) x) xs
+        → Written whole at lightest was (kept + cond b 1 0) (min (lightness x) best) (set work (at + kept) x) xs
     go true e =
         let less = ltb-true (lightness x) best e in
         let upper = w .upper in
-        let one-more : kept + (best + 511 - lightness x) / 512 ≡ suc kept = omega arith in
+        let one-more : kept + 1 ≡ suc kept = omega arith in
         let best-is : min (lightness x) best ≡ lightness x = omega arith in
         let next : at + suc kept ≡ suc (at + kept) = omega arith in
         let left : take at was ++ whole ≡ take (at + kept) work ++ x ∷ keptOf (lightness x) xs = rw e at (w .front) in
@@ -78,7 +78,7 @@ written-more {whole} {at} {lightest} {was} {kept} {best} {work} x xs w room h = 
     go false e =
         let more = ltb-false (lightness x) best e in
         let upper = w .upper in
-        let none-more : kept + (best + 511 - lightness x) / 512 ≡ kept = omega arith in
+        let none-more : kept + 0 ≡ kept = omega arith in
         let best-is : min (lightness x) best ≡ best = omega arith in
         let left : take at was ++ whole ≡ take (at + kept) work ++ keptOf best xs = rw e at (w .front) in
         rw (none-more, best-is) (record {
@@ -187,35 +187,33 @@ module _ {work : List ℤ} {place end : ℕ} {pushed : List ℤ} {from endPushed
 
 -- ---- between turns
 
--- What is kept of the numbers so far is written up to n.
-pub record Merging (place turns at lightest : ℕ) (pushed : List ℤ) (from : ℕ) (was work : List ℤ) (i j n best left : ℕ)
-    : Type 0 where
-  pub can : CanMerge place turns at lightest pushed from was
-  pub places : Places place (can .end) from (can .endPushed) i j left
+-- Of the numbers of two lists in turn, what is kept of those so far is written up to n.
+pub record Merging (whole : List ℤ) (at lightest : ℕ) (pushed was work : List ℤ) (i j n best left : ℕ) : Type 0 where
+  pub list : Prefix
+  pub other : Prefix
+  pub can : CanMerge was list pushed other at lightest
+  pub places : Places (list .place) (endOf list) (other .place) (endOf other) i j left
   pub kept : ℕ
   pub reached : n ≡ at + kept
-  pub written : Written (merged place turns lightest pushed from was) at lightest was kept best work (turnsAt left was i pushed j)
+  pub written : Written whole at lightest was kept best work (turnsAt left was i pushed j)
 
 -- At the start all is left.
-pub merging-start : {place turns at lightest : ℕ} {pushed : List ℤ} {from : ℕ} {was : List ℤ}
-    → CanMerge place turns at lightest pushed from was
-    → Merging place turns at lightest pushed from was was place from at lightest turns
-merging-start {place} {turns} {at} {lightest} {pushed} {from} {was} g = record {
+pub merging-start : {list : Prefix} {pushed : List ℤ} {other : Prefix} {at lightest : ℕ} {was : List ℤ}
+    → CanMerge was list pushed other at lightest
+    → Merging (merged was list pushed other lightest) at lightest pushed was was (list .place) (other .place) at lightest
+    (list .count + other .count)
+merging-start {list} {pushed} {other} {at} {lightest} {was} g = record {
+  list = list;
+  other = other;
   can = g;
-  places = record {
-    lowI = omega arith;
-    highI = g .list .order;
-    lowJ = omega arith;
-    highJ = g .other .order;
-    all = omega (arith, g .all);
-  };
+  places = record { lowI = omega arith; highI = omega arith; lowJ = omega arith; highJ = omega arith; all = omega arith };
   kept = 0;
   reached = omega arith;
-  written = written-none at lightest was (turnsAt turns was place pushed from) (g .low) (g .light);
+  written = written-none at lightest was (turnsAt (list .count + other .count) was (list .place) pushed (other .place)) (g .low) (g .light);
 }
 
-module _ {place turns at lightest : ℕ} {pushed : List ℤ} {from : ℕ} {was work : List ℤ} {i j n best left : ℕ}
-    (m : Merging place turns at lightest pushed from was work i j n best left) where
+module _ {whole : List ℤ} {at lightest : ℕ} {pushed was work : List ℤ} {i j n best left : ℕ}
+    (m : Merging whole at lightest pushed was work i j n best left) where
   -- The places are inside,
   pub inside-list : i < length work
   inside-list = omega (arith, m .places .highI, m .can .behind, written-room (m .written) (m .can .room))
@@ -232,38 +230,42 @@ module _ {place turns at lightest : ℕ} {pushed : List ℤ} {from : ℕ} {was w
 
   -- A turn with a and b at hand takes a point's number,
   module _ {a b : ℤ} (is-a : a ≡ at0 work i) (is-b : b ≡ at0 pushed j) {l : ℕ} (more : left ≡ suc l) where
-    taken : Turned was place (m .can .end) pushed from (m .can .endPushed) i j l (cond (leZ a b) a b)
+    taken : Turned was (m .list .place) (endOf (m .list)) pushed (m .other .place) (endOf (m .other)) i j l (cond (leZ a b) a b)
         (i + cond (leZ a b) 1 0) (j + cond (leZ a b) 0 1)
     taken =
         let a-was : a ≡ at0 was i = is-a ∙ list-stays in
-        rw (a-was, is-b) (turned (m .can .list) (m .can .other) (rw more at (m .places)))
+        rw (a-was, is-b) (turned (m .can .here) (m .can .there) (rw more at (m .places)))
 
     pub merging-least : pos 0 ≤ℤ cond (leZ a b) a b
     merging-least = taken .least
 
     -- and leaves one turn less.
-    pub merging-turn : (x : ℤ) (i′ j′ best′ : ℕ) → x ≡ cond (leZ a b) a b → i′ ≡ i + cond (leZ a b) 1 0
-        → j′ ≡ j + cond (leZ a b) 0 1 → best′ ≡ min (lightness x) best
-        → Merging place turns at lightest pushed from was (set work n x) i′ j′ (n + (best + 511 - lightness x) / 512) best′ l
-    merging-turn x i′ j′ best′ x-is i-is j-is best-is =
+    pub merging-turn : (x : ℤ) (i′ j′ n′ best′ : ℕ) → x ≡ cond (leZ a b) a b → i′ ≡ i + cond (leZ a b) 1 0
+        → j′ ≡ j + cond (leZ a b) 0 1 → n′ ≡ n + cond (ltb (lightness x) best) 1 0 → best′ ≡ min (lightness x) best
+        → Merging whole at lightest pushed was (set work n x) i′ j′ n′ best′ l
+    merging-turn x i′ j′ n′ best′ x-is i-is j-is n-is best-is =
         let t = rw (← x-is, ← i-is, ← j-is) at taken in
         let w = rw (more, t .takes) at (m .written) in
         let next = written-more x (turnsAt l was i′ pushed j′) w (m .can .room) (t .heavy) in
         record {
+          list = m .list;
+          other = m .other;
           can = m .can;
           places = t .places;
-          kept = m .kept + (best + 511 - lightness x) / 512;
-          reached = omega (arith, m .reached);
+          kept = m .kept + cond (ltb (lightness x) best) 1 0;
+          reached = omega (arith, n-is, m .reached);
           written = rw (best-is, m .reached) next;
         }
 
-  -- With no turn left all is merged.
-  pub merging-end : left ≡ 0 → Merged place turns at lightest pushed from was n work
-  merging-end e =
-      let d = written-all (rw e at (m .written)) (m .can .room) in
-      record {
-        size = m .written .size;
-        count = omega (arith, m .reached, d .0);
-        written = d .1;
-        before = written-before (m .written) (m .can .room);
-      }
+-- With no turn left all is merged.
+pub merging-end : {list : Prefix} {pushed : List ℤ} {other : Prefix} {at lightest : ℕ} {was work : List ℤ} {i j n best left : ℕ}
+    → Merging (merged was list pushed other lightest) at lightest pushed was work i j n best left → left ≡ 0
+    → Merged was list pushed other at lightest n work
+merging-end m e =
+    let d = written-all (rw e at (m .written)) (m .can .room) in
+    record {
+      size = m .written .size;
+      count = omega (arith, m .reached, d .0);
+      written = d .1;
+      before = written-before (m .written) (m .can .room);
+    }

@@ -16,7 +16,8 @@ use Rattle.profile.specs.Rising.{Rising}
 use Rattle.profile.specs.Closure.{PointWithin}
 use Rattle.better.specs.InTurn.{goesFirst, inTurn, among, Turns, no-more, first, second, turns}
 use Rattle.better.specs.Heavier.{heavier, merge}
-use Rattle.codes.specs.Code.{code, at0, lightness, pastAll}
+use Rattle.codes.specs.declared.Prefix.{Prefix}
+use Rattle.codes.specs.Code.{mostLight, code, lightness, pastAll, at0, endOf}
 use Rattle.codes.specs.CodeLaws.{light-is, code-most, code-order}
 use Rattle.codes.specs.Held.{Held, held-none, held-more}
 use Rattle.codes.specs.HeldLaws.{held-within}
@@ -69,7 +70,7 @@ turns-within (second a b t) f g p (tail m) = turns-within t f (λ q n. g q (tail
 -- ---- kept
 
 -- The numbers kept are the heavier points'; best and w tell the same last weight.
-kept-are : (ls : List Point) → ((p : Point) → In p ls → PointWithin p) → (best : ℕ) (w : ℤ) → best + up w ≡ 511 + dn w
+kept-are : (ls : List Point) → ((p : Point) → In p ls → PointWithin p) → (best : ℕ) (w : ℤ) → best + up w ≡ mostLight + dn w
     → keptOf best (map code ls) ≡ map code (heavier w ls)
 kept-are [] f best w e = refl
 kept-are (p ∷ ls) f best w e =
@@ -80,7 +81,7 @@ kept-are (p ∷ ls) f best w e =
     s : PointWithin p
     s = f p (head refl)
 
-    light : lightness (code p) ≡ 511 - p .weight
+    light : lightness (code p) ≡ mostLight - p .weight
     light = light-is s
 
     go : (b : Bool) → ltZ w (pos (p .weight)) ≡ b
@@ -96,13 +97,14 @@ kept-are (p ∷ ls) f best w e =
         rw (le-ltb (lightness (code p)) best more) y
 
 -- Two lists of points merged by their numbers are merged as points, after a last weight.
-pub merged-are : {place : ℕ} (left lightest : ℕ) {pushed : List ℤ} {from : ℕ} {work : List ℤ} {d e : ℕ} (w : ℤ)
-    {ps qs : List Point} → at0 work d ≡ pastAll → at0 pushed e ≡ pastAll → Held work place ps → place + length ps ≡ d
-    → Held pushed from qs → from + length qs ≡ e → Rising ps → Rising qs → left ≡ length ps + length qs
-    → lightest + up w ≡ 511 + dn w
-    → merged place left lightest pushed from work ≡ map code (merge w ps qs)
-merged-are left lightest w {ps} {qs} past past-too h a k b r s n l =
-    ap (keptOf lightest) (turns-are past past-too left h a k b n)
+pub merged-are : {work pushed : List ℤ} (list other : Prefix) (lightest : ℕ) (w : ℤ) {ps qs : List Point}
+    → at0 work (endOf list) ≡ pastAll → at0 pushed (endOf other) ≡ pastAll → Held work (list .place) ps
+    → length ps ≡ list .count → Held pushed (other .place) qs → length qs ≡ other .count → Rising ps → Rising qs
+    → lightest + up w ≡ mostLight + dn w
+    → merged work list pushed other lightest ≡ map code (merge w ps qs)
+merged-are list other lightest w {ps} {qs} past past-too h a k b r s l =
+    ap (keptOf lightest)
+    (turns-are past past-too (list .count + other .count) h (omega arith) k (omega arith) (omega arith))
     ∙ kept-are (inTurn ps qs) (turns-within (turns r qs s) (held-within h) (held-within k)) lightest w l
 
 -- Numbers that are points' hold the points.

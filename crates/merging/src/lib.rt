@@ -1,18 +1,19 @@
 // Two lists of points in the lent work area, merged behind the part in use: taken in turn, each kept where it is heavier
 // than all before. Only what stands behind the part in use is written, so the lists before it stay. Assumes nothing.
+use codes::LIGHTEST;
 use codes::PAST;
+use codes::Prefix;
 use codes::after;
 use codes::light_in;
 ghost use mathlib.Core.Path.{_≡_};
 ghost use mathlib.Core.Bool.{cond};
 ghost use Prim.Native.Nat.{min};
+ghost use lib.Dec.{ltb};
 ghost use Rattle.merging.specs.Turns.{CanMerge, Merged};
 ghost use Rattle.merging.specs.Joins.{CanCopy, Copied, CanLay, Laid, CanWeigh, lightBefore, CanJoin, Joined};
 
-// How light a point may be at most, and what is lighter than all.
-const LIGHTEST: usize = 511;
-
-const LIGHTER_THAN_ALL: usize = 512;
+// Lighter than every point.
+const LIGHTER_THAN_ALL: usize = LIGHTEST + 1;
 
 // One of two numbers.
 fn either(first: bool, x: i32, y: i32) -> i32
@@ -42,25 +43,32 @@ fn lesser(x: usize, y: usize) -> usize
     if x < y { x } else { y }
 }
 
-// The points left of two lists, past each of them a number past all, in turn; each is kept where it is less light than
-// all before. Returns the place after the last one kept. A number that is not kept is overwritten by the next.
+// One if a point is heavier than all before it, else none: if it is less light than the least light of them.
+fn one_if_heavier(light: usize, best: usize) -> usize
+    ensures { λ r. ⌜ r ≡ cond (ltb light best) 1 0 ⌝ }
+{
+    one_if(light < best)
+}
+
+// The points of two lists, past each of them a number past all, in turn; each is kept where it is heavier than all before: the
+// first of them where it is less light than `lightest`. Returns the place after the last one kept. A number that is not kept is
+// overwritten by the next.
 fn merge(
     work: &mut [i32],
-    place: usize,
-    turns: usize,
+    list: Prefix,
+    pushed: &[i32],
+    other: Prefix,
     at: usize,
     lightest: usize,
-    pushed: &[i32],
-    from: usize,
 ) -> usize
-    requires { ⌜ CanMerge place turns at lightest (now pushed) from (now work) ⌝ }
-    ensures { λ r. ⌜ Merged place turns at lightest (now (pushed .entry)) from (now (work .entry)) r (now (work .exit)) ⌝ }
+    requires { ⌜ CanMerge (now work) list (now pushed) other at lightest ⌝ }
+    ensures { λ r. ⌜ Merged (now (work .entry)) list (now (pushed .entry)) other at lightest r (now (work .exit)) ⌝ }
 {
-    let mut i = place;
-    let mut j = from;
+    let mut i = list.place;
+    let mut j = other.place;
     let mut n = at;
     let mut best = lightest;
-    let mut left = turns;
+    let mut left = list.count + other.count;
     while left > 0 {
         let a = work[i];
         let b = pushed[j];
@@ -70,7 +78,7 @@ fn merge(
         j += none_if(first);
         work[n] = x;
         let light = light_in(x);
-        n += (best + LIGHTEST - light) / 512;
+        n += one_if_heavier(light, best);
         best = lesser(light, best);
         left -= 1;
     }
@@ -112,34 +120,28 @@ fn light_before(work: &[i32], place: usize, z: usize) -> usize
     LIGHTER_THAN_ALL
 }
 
-// The list at a place and the pushed list, the better of both, behind the part in use and a number past all. Most of a list
-// stands before the first pushed point: that front is copied, and only the rest is merged. Returns how many points there are.
-pub fn join(
-    work: &mut [i32],
-    place: usize,
-    count: usize,
-    pushed: &[i32],
-    from: usize,
-    many: usize,
-) -> usize
-    requires { ⌜ CanJoin (now work) place count (now pushed) from many ⌝ }
-    ensures { λ r. ⌜ Joined (now (work .entry)) place count (now (pushed .entry)) from many r (now (work .exit)) ⌝ }
+// A list and a pushed list, the better of both, behind the part in use and a number past all. Most of a list stands before the
+// first pushed point: that front is copied, and only the rest is merged.
+pub fn join(work: &mut [i32], list: Prefix, pushed: &[i32], other: Prefix) -> Prefix
+    requires { ⌜ CanJoin (now work) list (now pushed) other ⌝ }
+    ensures { λ r. ⌜ Joined (now (work .entry)) list (now (pushed .entry)) other r (now (work .exit)) ⌝ }
 {
-    let used = place + count;
+    let place = list.place;
+    let used = place + list.count;
+    let from = other.place;
     work[used] = PAST;
     let first = pushed[from];
     let z = after(work, place, used, first);
     let front = z - place;
     copy(work, place, used + 1, front);
     let lightest = light_before(work, place, z);
-    let end = merge(
-        work,
-        z,
-        used - z + many,
-        used + 1 + front,
-        lightest,
-        pushed,
-        from,
-    );
-    end - (used + 1)
+    let back = Prefix {
+        place: z,
+        count: used - z,
+    };
+    let end = merge(work, back, pushed, other, used + 1 + front, lightest);
+    Prefix {
+        place: used + 1,
+        count: end - (used + 1),
+    }
 }

@@ -4,11 +4,11 @@ use mathlib.Core.Path.{_≡_, refl, sym, ap, _∙_, subst}
 use mathlib.Core.Bool.{Bool, true, false, cond}
 use mathlib.Core.List.{List, [], _∷_, _++_, List·Memᴰ as In, List·Memᴰ·head as head, List·Memᴰ·tail as tail}
 use native.Mathlib.Omega.{arith}
-use lib.IntN.{ℤ, pos, _+ℤ_, _-ℤ_}
+use lib.IntN.{ℤ, pos, _+ℤ_}
 use lib.ListN.{length, set, length-set, length-append}
 use lib.Seq.{getD-set-same, getD-set-other}
 use lib.Signed.{leZ, ltZ, _≤ℤ_, _<ℤ_}
-use Rattle.seconds.specs.Limits.{rest}
+use Rattle.seconds.specs.Limits.{rest, mostWeight}
 use Rattle.seconds.specs.Ranges.{InTime, InFree}
 use Rattle.seconds.specs.Signed.{signed, maxZ, max-is, add-is, sub-is}
 use Rattle.order.specs.Job.{Job, oneRate, Point}
@@ -20,23 +20,29 @@ use Rattle.better.specs.Heavier.{merge, merge-better}
 use Rattle.points.specs.Steps.{waited, waiting, whenReady, upToTime, laterBy, allLater, pushedBy, leaving, lastOf, tooLate, listStep}
 use Rattle.points.specs.StepLaws.{push-rises}
 use Rattle.points.specs.Clipping.{clip-first}
-use Rattle.codes.specs.Code.{code, pointOf, at0, listAt, limitOf}
+use Rattle.codes.specs.declared.Prefix.{Prefix}
+use Rattle.codes.specs.Code.{code, pointOf, limitOf, at0, listAt, pointsAt, endOf}
 use Rattle.codes.specs.CodeLaws.{point-back}
 use Rattle.codes.specs.Held.{Held, held-none, held-more, After}
 use Rattle.codes.specs.HeldLaws.{held-stays, held-read, held-within, held-append, held-copied, list-length, held-point}
 use Rattle.codes.specs.Cuts.{Cut, cut, cut-early, cut-late}
 use Rattle.merging.specs.Fronts.{rising-front}
 use Rattle.merging.specs.Joins.{CanLay, Laid, CanJoin, Joined}
-use Rattle.pushing.specs.Pushes.{top, Coded, rate, RateFits, deltaOf, waitedAs, pushedAt, CanPush, Pushed}
+use Rattle.pushing.specs.declared.Rate.{Rate}
+use Rattle.pushing.specs.Pushes.{Coded, RateFits, jobRate, deltaOf, waitedAs, pushedAt, CanPush, Pushed}
 use Rattle.pushing.specs.Numbers.{held-coded, waited-code}
-use Rattle.stepping.specs.declared.Prefix.{Prefix}
-use Rattle.stepping.specs.Stepping.{jobOf, stepped, Buffer, CanStep, Stepped, leftOut, CanAdd, Added, CanMerge}
+use Rattle.stepping.specs.declared.Terms.{Terms}
+use Rattle.stepping.specs.Stepping.{jobOf, stepped, lastStart, Buffer, CanStep, Stepped, leftOut, CanAdd, withOne, Added, CanMerge}
 
 -- The job's own number does not count.
-pub any-number : (n : ℕ) (critical : Bool) (weight : ℕ) (ready : ℤ) (takes : ℕ) (deadline : ℤ) (ps : List Point)
-    → listStep (oneRate n critical weight ready takes deadline) ps ≡ stepped critical weight ready takes deadline ps
-any-number n critical weight ready takes deadline [] = refl
-any-number n critical weight ready takes deadline (p ∷ ps) = refl
+pub any-number : (n : ℕ) (job : Terms) (rate : Rate) (ps : List Point)
+    → listStep (oneRate n (job .critical) (rate .gain) (job .ready) (rate .takes) (job .deadline)) ps ≡ stepped job rate ps
+any-number n job rate [] = refl
+any-number n job rate (p ∷ ps) = refl
+
+-- The front of a list, up to an end.
+abbrev pub frontOf : Prefix → ℕ → Prefix
+frontOf list end = record { place = list .place; count = end - list .place }
 
 -- ---- the tests of the cases, over numbers
 
@@ -59,30 +65,33 @@ upTo-front t (p ∷ fs) bs e l =
     rw test (ap (λ (x : List Point). p ∷ x) (upTo-front t fs bs (λ q m. e q (tail m)) l))
 
 -- A point waited and moved on stays within the limits where the job starts by its last start.
-moved-within : {ready deadline : ℤ} {takes weight : ℕ} → InTime ready → InTime deadline → RateFits takes weight
-    → ready ≤ℤ (deadline -ℤ pos takes) → {p : Point} → PointWithin p → p .time ≤ℤ (deadline -ℤ pos takes)
-    → p .weight + weight ≤ 300 → PointWithin (laterBy (rate takes weight) (waited ready p))
-moved-within {ready} {deadline} {takes} {weight} s e f h {p} w l light = record {
+moved-within : (job : Terms) {rate : Rate} → InTime (job .ready) → InTime (job .deadline) → RateFits rate
+    → job .ready ≤ℤ lastStart job rate → {p : Point} → PointWithin p → p .time ≤ℤ lastStart job rate
+    → p .weight + rate .gain ≤ mostWeight → PointWithin (laterBy (jobRate rate) (waited (job .ready) p))
+moved-within job {rate} s e f h {p} w l light = record {
   time =
       let t = w .time in
       let least = f .least in
       omega (
         signed,
-        max-is ready (p .time),
-        sub-is deadline (pos takes),
-        add-is (maxZ ready (p .time)) (pos takes),
-        add-is (maxZ ready (p .time) +ℤ pos takes) (pos rest),
+        max-is (job .ready) (p .time),
+        sub-is (job .deadline) (pos (rate .takes)),
+        add-is (maxZ (job .ready) (p .time)) (pos (rate .takes)),
+        add-is (maxZ (job .ready) (p .time) +ℤ pos (rate .takes)) (pos rest),
       );
   weight = light;
 }
 
 -- ---- a job, and a list that has a point
 
-module _ {critical : Bool} {weight : ℕ} {ready : ℤ} {takes : ℕ} {deadline : ℤ} {place m : ℕ} {work pushed : List ℤ}
-    (g : CanStep critical weight ready takes deadline place (suc m) work pushed)
+module _ {job : Terms} {rate : Rate} {place m : ℕ} {work pushed : List ℤ}
+    (g : CanStep job rate (record { place = place; count = suc m }) work pushed)
   where
+    abbrev here : Prefix
+    here = record { place = place; count = suc m }
+
     abbrev j : Job
-    j = jobOf critical weight ready takes deadline
+    j = jobOf job rate
 
     abbrev first : Point
     first = pointOf (at0 work place)
@@ -107,55 +116,54 @@ module _ {critical : Bool} {weight : ℕ} {ready : ℤ} {takes : ℕ} {deadline 
     -- ---- case 1
 
     -- The list after the job is what is left without it.
-    late-is : tooLate j (rate takes weight) first ≡ true → stepped critical weight ready takes deadline list ≡ leaving j list
+    late-is : tooLate j (jobRate rate) first ≡ true → stepped job rate list ≡ leaving j list
     late-is e = rw e
 
-    pub late-stepped : tooLate j (rate takes weight) first ≡ true
-        → Stepped critical weight ready takes deadline place (suc m) work
-        (leftOut critical place (place + suc m) (suc m)) work pushed
+    pub late-stepped : tooLate j (jobRate rate) first ≡ true
+        → Stepped job rate here work (leftOut (job .critical) (endOf here) here) work pushed
     late-stepped e = record {
       size = refl;
       stays = λ k h. refl;
-      held = rw (late-is e) (go critical);
-      counted = rw (late-is e) (counts critical);
-      further = ends critical .0;
-      few = ends critical .1;
+      held = rw (late-is e) (go (job .critical));
+      counted = rw (late-is e) (counts (job .critical));
+      further = ends (job .critical) .0;
+      few = ends (job .critical) .1;
       buffer = g .buffer;
     }
       where
-        go : (c : Bool) → Held work (cond c (place + suc m) place) (cond c [] list)
+        go : (c : Bool) → Held work (leftOut c (endOf here) here .place) (cond c [] list)
         go true = held-none
         go false = g .held
 
-        counts : (c : Bool) → cond c 0 (suc m) ≡ length (cond c [] list)
+        counts : (c : Bool) → leftOut c (endOf here) here .count ≡ length (cond c [] list)
         counts true = refl
         counts false = sym (list-length work place (suc m))
 
-        ends : (c : Bool) → (place + suc m ≤ cond c (place + suc m) place + cond c 0 (suc m))
-            × (cond c (place + suc m) place + cond c 0 (suc m) ≤ place + suc m + cond c 0 (suc m) + cond c 0 1)
+        ends : (c : Bool) → (endOf here ≤ endOf (leftOut c (endOf here) here))
+            × (endOf (leftOut c (endOf here) here) ≤ endOf here + leftOut c (endOf here) here .count + cond c 0 1)
         ends true = omega arith
         ends false = omega arith
 
     -- ---- the job can start
 
-    module _ (can : tooLate j (rate takes weight) first ≡ false) where
-      in-time : (ready ≤ℤ (deadline -ℤ pos takes)) × (first .time ≤ℤ (deadline -ℤ pos takes))
-      in-time = omega (signed, max-is ready (first .time))
+    module _ (can : tooLate j (jobRate rate) first ≡ false) where
+      in-time : (job .ready ≤ℤ lastStart job rate) × (first .time ≤ℤ lastStart job rate)
+      in-time = omega (signed, max-is (job .ready) (first .time))
 
       -- A point of the list up to the last start, waited and moved on, is within the limits.
-      pub moves-within : (p : Point) → In p list → p .time ≤ℤ (deadline -ℤ pos takes)
-          → PointWithin (laterBy (rate takes weight) (waited ready p))
+      pub moves-within : (p : Point) → In p list → p .time ≤ℤ (lastStart job rate)
+          → PointWithin (laterBy (jobRate rate) (waited (job .ready) p))
       moves-within p n l =
-          moved-within (g .starts) (g .ends) (g .fits) (in-time .0) (held-within (g .held) p n) l (g .light p n)
+          moved-within job (g .starts) (g .ends) (g .fits) (in-time .0) (held-within (g .held) p n) l (g .light p n)
 
       -- ---- case 3
 
-      module _ (early : ltZ (last .time) ready ≡ true) where
+      module _ (early : ltZ (last .time) (job .ready) ≡ true) where
         abbrev new : Point
-        new = laterBy (rate takes weight) (waited ready last)
+        new = laterBy (jobRate rate) (waited (job .ready) last)
 
-        more-is : stepped critical weight ready takes deadline list ≡ leaving j list ++ (new ∷ [])
-        more-is = let t : ltZ (lastOf first (listAt work (suc place) m) .time) ready ≡ true = rw last-is early in
+        more-is : stepped job rate list ≡ leaving j list ++ (new ∷ [])
+        more-is = let t : ltZ (lastOf first (listAt work (suc place) m) .time) (job .ready) ≡ true = rw last-is early in
             rw (can, t, last-is)
 
         -- The last point is one that waits.
@@ -170,12 +178,12 @@ module _ {critical : Bool} {weight : ℕ} {ready : ℤ} {takes : ℕ} {deadline 
             let f = held-point (g .held) (place + m) (omega arith) (omega (arith, list-length work place (suc m))) in
             ap code (ap pointOf (f .2) ∙ point-back (f .1)) ∙ sym (f .2)
 
-        new-code : code new ≡ waitedAs ready (deltaOf takes weight) (at0 work (place + m))
+        new-code : code new ≡ waitedAs (job .ready) (deltaOf rate) (at0 work (place + m))
         new-code =
             waited-code (g .fits) (g .starts) last-within (omega signed) new-within
-            ∙ ap (waitedAs ready (deltaOf takes weight)) last-code
+            ∙ ap (waitedAs (job .ready) (deltaOf rate)) last-code
 
-        module _ (x : ℤ) (is : x ≡ waitedAs ready (deltaOf takes weight) (at0 work (place + m))) where
+        module _ (x : ℤ) (is : x ≡ waitedAs (job .ready) (deltaOf rate) (at0 work (place + m))) where
           abbrev after : List ℤ
           after = set work (place + suc m) x
 
@@ -193,68 +201,67 @@ module _ {critical : Bool} {weight : ℕ} {ready : ℤ} {takes : ℕ} {deadline 
               (held-stays (place + suc m) stays (omega (arith, list-length work place (suc m))) (g .held))
               (omega (arith, list-length work place (suc m))) new-held
 
-          pub more-stepped : Stepped critical weight ready takes deadline place (suc m) work
-              (record { place = cond critical (place + suc m) place; count = cond critical 1 (suc m + 1) }) after pushed
+          pub more-stepped : Stepped job rate here work (withOne (job .critical) here) after pushed
           more-stepped = record {
             size = length-set work (place + suc m) x;
             stays = stays;
-            held = rw more-is (go critical);
-            counted = rw more-is (counts critical);
-            further = ends critical .0;
-            few = ends critical .1;
+            held = rw more-is (go (job .critical));
+            counted = rw more-is (counts (job .critical));
+            further = ends (job .critical) .0;
+            few = ends (job .critical) .1;
             buffer = g .buffer;
           }
             where
-              go : (c : Bool) → Held after (cond c (place + suc m) place) (cond c [] list ++ (new ∷ []))
+              go : (c : Bool) → Held after (withOne c here .place) (cond c [] list ++ (new ∷ []))
               go true = new-held
               go false = list-held
 
-              counts : (c : Bool) → cond c 1 (suc m + 1) ≡ length (cond c [] list ++ (new ∷ []))
+              counts : (c : Bool) → withOne c here .count ≡ length (cond c [] list ++ (new ∷ []))
               counts true = refl
               counts false = omega (arith, length-append list (new ∷ []), list-length work place (suc m))
 
-              ends : (c : Bool) → (place + suc m ≤ cond c (place + suc m) place + cond c 1 (suc m + 1))
-                  × (cond c (place + suc m) place + cond c 1 (suc m + 1) ≤ place + suc m + cond c 1 (suc m + 1) + cond c 0 1)
+              ends : (c : Bool) → (endOf here ≤ endOf (withOne c here))
+                  × (endOf (withOne c here) ≤ endOf here + withOne c here .count + cond c 0 1)
               ends true = omega arith
               ends false = omega arith
 
       -- ---- case 2
 
-      module _ (not-early : ltZ (last .time) ready ≡ false) where
-        both-is : stepped critical weight ready takes deadline list
-            ≡ cond critical (pushedBy j (rate takes weight) list) (merge belowAll list (pushedBy j (rate takes weight) list))
-        both-is = let t : ltZ (lastOf first (listAt work (suc place) m) .time) ready ≡ false = rw last-is not-early in
+      module _ (not-early : ltZ (last .time) (job .ready) ≡ false) where
+        both-is : stepped job rate list
+            ≡ cond (job .critical) (pushedBy j (jobRate rate) list) (merge belowAll list (pushedBy j (jobRate rate) list))
+        both-is = let t : ltZ (lastOf first (listAt work (suc place) m) .time) (job .ready) ≡ false = rw last-is not-early in
             rw (can, t)
 
-        last-free : InFree (deadline -ℤ pos takes)
+        last-free : InFree (lastStart job rate)
         last-free =
             let s = g .starts in
             let e = g .ends in
             let h = in-time .0 in
-            omega (signed, sub-is deadline (pos takes))
+            omega (signed, sub-is (job .deadline) (pos (rate .takes)))
 
-        module _ {end : ℕ} (found : After work place (place + suc m) (limitOf (deadline -ℤ pos takes)) end) where
-          cuts : Cut (limitOf (deadline -ℤ pos takes)) work place end list
+        module _ {end : ℕ} (found : After work place (place + suc m) (limitOf (lastStart job rate)) end) where
+          cuts : Cut (limitOf (lastStart job rate)) work place end list
           cuts =
               let e : place + suc m ≡ place + length list = omega (arith, list-length work place (suc m)) in
               cut end (g .held) (g .rises) (rw e at found)
 
           -- What the push finds is the list up to the last start,
-          front-is : listAt work place (end - place) ≡ cuts .front
+          front-is : pointsAt work (frontOf here end) ≡ cuts .front
           front-is =
               let e : end - place ≡ length (cuts .front) = omega (arith, cuts .count) in
               rw e (held-read (cuts .held))
 
-          front-upTo : upToTime (deadline -ℤ pos takes) list ≡ cuts .front
+          front-upTo : upToTime (lastStart job rate) list ≡ cuts .front
           front-upTo =
-              ap (upToTime (deadline -ℤ pos takes)) (cuts .whole)
-              ∙ upTo-front (deadline -ℤ pos takes) (cuts .front) (cuts .back) (cut-early last-free cuts) (cut-late last-free cuts)
+              ap (upToTime (lastStart job rate)) (cuts .whole)
+              ∙ upTo-front (lastStart job rate) (cuts .front) (cuts .back) (cut-early last-free cuts) (cut-late last-free cuts)
 
           -- so what it leaves is the list pushed by the job.
-          pub pushed-is : pushedAt work place end ready takes weight ≡ pushedBy j (rate takes weight) list
+          pub pushed-is : pushedAt work (frontOf here end) (job .ready) rate ≡ pushedBy j (jobRate rate) list
           pushed-is =
-              ap (λ (ps : List Point). allLater (rate takes weight) (whenReady ready ps)) (front-is ∙ sym front-upTo)
-              ∙ ap (allLater (rate takes weight)) (sym (clip-first ready (deadline -ℤ pos takes) (in-time .0) (g .rises)))
+              ap (λ (ps : List Point). allLater (jobRate rate) (whenReady (job .ready) ps)) (front-is ∙ sym front-upTo)
+              ∙ ap (allLater (jobRate rate)) (sym (clip-first (job .ready) (lastStart job rate) (in-time .0) (g .rises)))
 
           front-in : (p : Point) → In p (cuts .front) → In p list
           front-in p n = subst (λ (ps : List Point). In p ps) (sym (cuts .whole)) (in-left (cuts .front) n)
@@ -266,15 +273,14 @@ module _ {critical : Bool} {weight : ℕ} {ready : ℤ} {takes : ℕ} {deadline 
           few-points : suc m ≤ 301
           few-points = omega (
             arith,
-            rising-short 300 (g .rises) (λ p n. held-within (g .held) p n .weight),
+            rising-short mostWeight (g .rises) (λ p n. held-within (g .held) p n .weight),
             list-length work place (suc m),
           )
 
-          pub can-push : CanPush work place end ready takes weight pushed
+          pub can-push : CanPush work (frontOf here end) (job .ready) rate pushed
           can-push = record {
-            order = found .low;
             few = omega (arith, found .high, few-points);
-            room = omega (arith, found .high, g .room);
+            room = omega (arith, found .low, found .high, g .room);
             held = rw front-is (cuts .held);
             rises = rw front-is (rising-front (cuts .front) (cuts .back) (rw (cuts .whole) at (g .rises)));
             starts = g .starts;
@@ -288,31 +294,31 @@ module _ {critical : Bool} {weight : ℕ} {ready : ℤ} {takes : ℕ} {deadline 
           front-some : 1 ≤ length (cuts .front)
           front-some = go (cuts .front) (cuts .back) (cuts .whole) (cut-late last-free cuts)
             where
-              go : (fs bs : List Point) → list ≡ fs ++ bs → ((p : Point) → In p bs → (deadline -ℤ pos takes) <ℤ p .time)
+              go : (fs bs : List Point) → list ≡ fs ++ bs → ((p : Point) → In p bs → (lastStart job rate) <ℤ p .time)
                   → 1 ≤ length fs
               go [] bs e l =
                   let late = l first (subst (λ (ps : List Point). In first ps) e (head refl)) in
                   absurd (omega (signed, in-time .1))
               go (p ∷ fs) bs e l = omega arith
 
-          waiting-some : (ps : List Point) → 1 ≤ length ps → 1 ≤ length (allLater (rate takes weight) (whenReady ready ps))
+          waiting-some : (ps : List Point) → 1 ≤ length ps → 1 ≤ length (allLater (jobRate rate) (whenReady (job .ready) ps))
           waiting-some [] h = absurd (omega arith)
           waiting-some (p ∷ ps) h = go p ps
             where
-              go : (p : Point) (ps : List Point) → 1 ≤ length (allLater (rate takes weight) (waiting ready p ps))
+              go : (p : Point) (ps : List Point) → 1 ≤ length (allLater (jobRate rate) (waiting (job .ready) p ps))
               go p [] = omega arith
-              go p (q ∷ qs) = by (leZ (q .time) ready) (go q qs)
+              go p (q ∷ qs) = by (leZ (q .time) (job .ready)) (go q qs)
                 where
-                  by : (c : Bool) → 1 ≤ length (allLater (rate takes weight) (waiting ready q qs))
-                      → 1 ≤ length (allLater (rate takes weight) (cond c (waiting ready q qs) (waited ready p ∷ q ∷ qs)))
+                  by : (c : Bool) → 1 ≤ length (allLater (jobRate rate) (waiting (job .ready) q qs))
+                      → 1 ≤ length (allLater (jobRate rate) (cond c (waiting (job .ready) q qs) (waited (job .ready) p ∷ q ∷ qs)))
                   by true h = h
                   by false h = omega arith
 
-          pushed-some : 1 ≤ length (pushedAt work place end ready takes weight)
+          pushed-some : 1 ≤ length (pushedAt work (frontOf here end) (job .ready) rate)
           pushed-some = waiting-some (listAt work place (end - place)) (omega (arith, list-length work place (end - place), cuts .count, front-some))
 
           -- and no more than the list.
-          pushed-few : length (pushedAt work place end ready takes weight) ≤ suc m
+          pushed-few : length (pushedAt work (frontOf here end) (job .ready) rate) ≤ suc m
           pushed-few =
               omega (
                 arith,
@@ -322,168 +328,162 @@ module _ {critical : Bool} {weight : ℕ} {ready : ℤ} {takes : ℕ} {deadline 
                 found .low,
               )
             where
-              waiting-few : (ps : List Point) → length (allLater (rate takes weight) (whenReady ready ps)) ≤ length ps
+              waiting-few : (ps : List Point) → length (allLater (jobRate rate) (whenReady (job .ready) ps)) ≤ length ps
               waiting-few [] = omega arith
               waiting-few (p ∷ ps) = go p ps
                 where
-                  go : (p : Point) (ps : List Point) → length (allLater (rate takes weight) (waiting ready p ps)) ≤ suc (length ps)
+                  go : (p : Point) (ps : List Point) → length (allLater (jobRate rate) (waiting (job .ready) p ps)) ≤ suc (length ps)
                   go p [] = omega arith
-                  go p (q ∷ qs) = by (leZ (q .time) ready) (go q qs)
+                  go p (q ∷ qs) = by (leZ (q .time) (job .ready)) (go q qs)
                     where
-                      later-length : (xs : List Point) → length (allLater (rate takes weight) xs) ≡ length xs
+                      later-length : (xs : List Point) → length (allLater (jobRate rate) xs) ≡ length xs
                       later-length [] = refl
                       later-length (x ∷ xs) = ap suc (later-length xs)
 
-                      by : (c : Bool) → length (allLater (rate takes weight) (waiting ready q qs)) ≤ suc (length qs)
-                          → length (allLater (rate takes weight) (cond c (waiting ready q qs) (waited ready p ∷ q ∷ qs))) ≤ suc (suc (length qs))
+                      by : (c : Bool) → length (allLater (jobRate rate) (waiting (job .ready) q qs)) ≤ suc (length qs)
+                          → length (allLater (jobRate rate) (cond c (waiting (job .ready) q qs) (waited (job .ready) p ∷ q ∷ qs))) ≤ suc (suc (length qs))
                       by true h = omega (arith, h)
                       by false h = omega (arith, later-length qs)
 
-          module _ {from : ℕ} {pushed′ : List ℤ} (sized : length pushed′ ≡ length pushed)
-              (p : Pushed work place end ready takes weight from pushed′)
+          module _ {other : Prefix} {pushed′ : List ℤ} (sized : length pushed′ ≡ length pushed)
+              (p : Pushed work (frontOf here end) (job .ready) rate other pushed′)
             where
               still : Buffer pushed′
               still = record { room = omega (arith, sized, g .buffer .room); past = p .past }
 
-              pub many-few : (from ≤ top) × (1 ≤ top - from) × (top - from ≤ suc m)
+              many-few : (1 ≤ other .count) × (other .count ≤ suc m)
               many-few = omega (arith, p .counted, pushed-some, pushed-few)
 
-              there : listAt pushed′ from (top - from) ≡ pushedAt work place end ready takes weight
-              there =
-                  let e : top - from ≡ length (pushedAt work place end ready takes weight) = omega (arith, p .counted) in
-                  rw e (held-read (p .held))
+              there : pointsAt pushed′ other ≡ pushedAt work (frontOf here end) (job .ready) rate
+              there = ap (listAt pushed′ (other .place)) (p .counted) ∙ held-read (p .held)
 
-              pushes-rise : Rising (pushedAt work place end ready takes weight)
-              pushes-rise = rw pushed-is (push-rises j (rate takes weight) (g .rises))
+              pushes-rise : Rising (pushedAt work (frontOf here end) (job .ready) rate)
+              pushes-rise = rw pushed-is (push-rises j (jobRate rate) (g .rises))
 
               -- Of a critical job the pushed list stands behind the list.
-              pub can-lay : CanLay (place + suc m) pushed′ from (top - from) work
+              pub can-lay : CanLay (endOf here) pushed′ (other .place) (other .count) work
               can-lay =
                   let h = many-few in
-                  record { inside = omega (arith, still .room); room = omega (arith, g .room) }
+                  record { inside = omega (arith, p .ends, still .room); room = omega (arith, g .room) }
 
-              module _ (kept : critical ≡ true) {after : List ℤ} (l : Laid (place + suc m) pushed′ from (top - from) work after) where
-                laid-is : stepped critical weight ready takes deadline list ≡ pushedAt work place end ready takes weight
-                laid-is = both-is ∙ rw (kept, pushed-is)
-
-                pub laid-stepped : Stepped critical weight ready takes deadline place (suc m) work
-                    (record { place = place + suc m; count = top - from }) after pushed′
-                laid-stepped =
-                    let h = many-few in
-                    record {
-                      size = l .size;
-                      stays = l .before;
-                      held = rw laid-is (held-copied (place + suc m) (p .held) (λ k n. l .laid k (omega (arith, p .counted))));
-                      counted = rw laid-is (omega (arith, p .counted));
-                      further = omega arith;
-                      few = omega arith;
-                      buffer = still;
-                    }
-
-              -- Of any other it is joined with the list as it was.
-              pub can-join : critical ≡ false → CanJoin work place (suc m) pushed′ from (top - from)
-              can-join free =
-                  let h = many-few in
-                  let ends : from + (top - from) ≡ top = omega arith in
-                  record {
-                    held = g .held;
-                    rises = g .rises;
-                    some = h .1;
-                    heldToo = rw there (p .held);
-                    risesToo = rw there pushes-rise;
-                    past = rw ends (p .past);
-                    inside = omega (arith, still .room);
-                    room = g .roomMore free;
-                  }
-
-              module _ (free : critical ≡ false) {r : ℕ} {after : List ℤ}
-                  (o : Joined work place (suc m) pushed′ from (top - from) r after)
+              module _ (kept : job .critical ≡ true) {after : List ℤ}
+                  (l : Laid (endOf here) pushed′ (other .place) (other .count) work after)
                 where
-                  joined-is : stepped critical weight ready takes deadline list ≡ betterOf list (listAt pushed′ from (top - from))
-                  joined-is =
+                  laid-is : stepped job rate list ≡ pushedAt work (frontOf here end) (job .ready) rate
+                  laid-is =
                       both-is
-                      ∙ ap (λ (c : Bool). cond c (pushedBy j (rate takes weight) list) (merge belowAll list (pushedBy j (rate takes weight) list))) free
-                      ∙ merge-better (g .rises) (push-rises j (rate takes weight) (g .rises))
-                      ∙ ap (betterOf list) (sym (there ∙ pushed-is))
+                      ∙ ap (λ (c : Bool). cond c (pushedBy j (jobRate rate) list) (merge belowAll list (pushedBy j (jobRate rate) list))) kept
+                      ∙ sym pushed-is
 
-                  pub joined-stepped : Stepped critical weight ready takes deadline place (suc m) work
-                      (record { place = place + suc m + 1; count = r }) after pushed′
-                  joined-stepped =
-                      let one : _≡_ {A = ℕ} (cond critical 0 1) 1 = rw free in
+                  pub laid-stepped : Stepped job rate here work (record { place = endOf here; count = other .count }) after pushed′
+                  laid-stepped =
+                      let h = many-few in
                       record {
-                        size = o .size;
-                        stays = o .stays;
-                        held = rw joined-is (o .held);
-                        counted = rw joined-is (o .counted);
+                        size = l .size;
+                        stays = l .before;
+                        held = rw laid-is (held-copied (endOf here) (p .held) (λ k n. l .laid k (omega (arith, p .counted))));
+                        counted = rw laid-is (p .counted);
                         further = omega arith;
                         few = omega arith;
                         buffer = still;
                       }
 
--- ---- the cases told by any count
+              -- Of any other it is joined with the list as it was.
+              pub can-join : job .critical ≡ false → CanJoin work here pushed′ other
+              can-join free = record {
+                held = g .held;
+                rises = g .rises;
+                some = many-few .0;
+                heldToo = rw there (p .held);
+                risesToo = rw there pushes-rise;
+                past = ap (at0 pushed′) (p .ends) ∙ p .past;
+                inside = omega (arith, p .ends, still .room);
+                room = g .roomMore free;
+              }
+
+              module _ (free : job .critical ≡ false) {r : Prefix} {after : List ℤ} (o : Joined work here pushed′ other r after) where
+                joined-is : stepped job rate list ≡ betterOf list (pointsAt pushed′ other)
+                joined-is =
+                    both-is
+                    ∙ ap (λ (c : Bool). cond c (pushedBy j (jobRate rate) list) (merge belowAll list (pushedBy j (jobRate rate) list))) free
+                    ∙ merge-better (g .rises) (push-rises j (jobRate rate) (g .rises))
+                    ∙ ap (betterOf list) (sym (there ∙ pushed-is))
+
+                pub joined-stepped : Stepped job rate here work r after pushed′
+                joined-stepped =
+                    let one : _≡_ {A = ℕ} (cond (job .critical) 0 1) 1 = ap (λ (c : Bool). cond c 0 1) free in
+                    record {
+                      size = o .size;
+                      stays = o .stays;
+                      held = rw joined-is (o .held);
+                      counted = rw joined-is (o .counted);
+                      further = omega (arith, o .behind);
+                      few = omega (arith, o .behind);
+                      buffer = still;
+                    }
+
+-- ---- the cases told by any list
 
 -- Case 2, as the code does it: the points up to the last start are found and pushed; then they are laid behind the list, or
 -- joined with it.
-pub record Merges (critical : Bool) (weight : ℕ) (ready : ℤ) (takes : ℕ) (deadline : ℤ) (place count : ℕ) (work pushed : List ℤ)
-    : Type 0 where
-  pub last : InFree (deadline -ℤ pos takes)
-  pub push : (end : ℕ) → After work place (place + count) (limitOf (deadline -ℤ pos takes)) end
-      → CanPush work place end ready takes weight pushed
-  pub few : (end from : ℕ) (pushed′ : List ℤ) → After work place (place + count) (limitOf (deadline -ℤ pos takes)) end
-      → length pushed′ ≡ length pushed → Pushed work place end ready takes weight from pushed′ → from ≤ top
-  pub lay : (end from : ℕ) (pushed′ : List ℤ) → After work place (place + count) (limitOf (deadline -ℤ pos takes)) end
-      → length pushed′ ≡ length pushed → Pushed work place end ready takes weight from pushed′
-      → CanLay (place + count) pushed′ from (top - from) work
-  pub laid : (end from : ℕ) (pushed′ after : List ℤ) → After work place (place + count) (limitOf (deadline -ℤ pos takes)) end
-      → length pushed′ ≡ length pushed → Pushed work place end ready takes weight from pushed′
-      → critical ≡ true → Laid (place + count) pushed′ from (top - from) work after
-      → Stepped critical weight ready takes deadline place count work (record { place = place + count; count = top - from }) after pushed′
-  pub join : (end from : ℕ) (pushed′ : List ℤ) → After work place (place + count) (limitOf (deadline -ℤ pos takes)) end
-      → length pushed′ ≡ length pushed → Pushed work place end ready takes weight from pushed′
-      → critical ≡ false → CanJoin work place count pushed′ from (top - from)
-  pub joined : (end from r : ℕ) (pushed′ after : List ℤ) → After work place (place + count) (limitOf (deadline -ℤ pos takes)) end
-      → length pushed′ ≡ length pushed → Pushed work place end ready takes weight from pushed′
-      → critical ≡ false → Joined work place count pushed′ from (top - from) r after
-      → Stepped critical weight ready takes deadline place count work (record { place = place + count + 1; count = r }) after pushed′
+pub record Merges (job : Terms) (rate : Rate) (list : Prefix) (work pushed : List ℤ) : Type 0 where
+  pub last : InFree (lastStart job rate)
+  pub push : (end : ℕ) → After work (list .place) (endOf list) (limitOf (lastStart job rate)) end
+      → CanPush work (frontOf list end) (job .ready) rate pushed
+  pub lay : (end : ℕ) (other : Prefix) (pushed′ : List ℤ) → After work (list .place) (endOf list) (limitOf (lastStart job rate)) end
+      → length pushed′ ≡ length pushed → Pushed work (frontOf list end) (job .ready) rate other pushed′
+      → CanLay (endOf list) pushed′ (other .place) (other .count) work
+  pub laid : (end : ℕ) (other : Prefix) (pushed′ after : List ℤ)
+      → After work (list .place) (endOf list) (limitOf (lastStart job rate)) end → length pushed′ ≡ length pushed
+      → Pushed work (frontOf list end) (job .ready) rate other pushed′ → job .critical ≡ true
+      → Laid (endOf list) pushed′ (other .place) (other .count) work after
+      → Stepped job rate list work (record { place = endOf list; count = other .count }) after pushed′
+  pub join : (end : ℕ) (other : Prefix) (pushed′ : List ℤ) → After work (list .place) (endOf list) (limitOf (lastStart job rate)) end
+      → length pushed′ ≡ length pushed → Pushed work (frontOf list end) (job .ready) rate other pushed′
+      → job .critical ≡ false → CanJoin work list pushed′ other
+  pub joined : (end : ℕ) (other r : Prefix) (pushed′ after : List ℤ)
+      → After work (list .place) (endOf list) (limitOf (lastStart job rate)) end → length pushed′ ≡ length pushed
+      → Pushed work (frontOf list end) (job .ready) rate other pushed′ → job .critical ≡ false → Joined work list pushed′ other r after
+      → Stepped job rate list work r after pushed′
 
 -- The cases of a list that has a point: what the tests read, and what each case asks and gives.
-pub record Starts (critical : Bool) (weight : ℕ) (ready : ℤ) (takes : ℕ) (deadline : ℤ) (place count : ℕ) (work pushed : List ℤ)
-    : Type 0 where
-  pub first-least : pos 0 ≤ℤ at0 work place
-  pub last-least : pos 0 ≤ℤ at0 work (place + count - 1)
-  pub late : tooLate (jobOf critical weight ready takes deadline) (rate takes weight) (pointOf (at0 work place)) ≡ true
-      → Stepped critical weight ready takes deadline place count work (leftOut critical place (place + count) count) work pushed
-  pub add : CanAdd place count weight ready takes work
-  pub added : tooLate (jobOf critical weight ready takes deadline) (rate takes weight) (pointOf (at0 work place)) ≡ false
-      → ltZ (pointOf (at0 work (place + count - 1)) .time) ready ≡ true
-      → (r : Prefix) (work′ : List ℤ) → Added place count critical weight ready takes work r work′
-      → Stepped critical weight ready takes deadline place count work r work′ pushed
-  pub merge : tooLate (jobOf critical weight ready takes deadline) (rate takes weight) (pointOf (at0 work place)) ≡ false
-      → ltZ (pointOf (at0 work (place + count - 1)) .time) ready ≡ false
-      → CanMerge critical weight ready takes deadline place count work pushed
+pub record Starts (job : Terms) (rate : Rate) (list : Prefix) (work pushed : List ℤ) : Type 0 where
+  pub first-least : pos 0 ≤ℤ at0 work (list .place)
+  pub last-least : pos 0 ≤ℤ at0 work (endOf list - 1)
+  pub late : tooLate (jobOf job rate) (jobRate rate) (pointOf (at0 work (list .place))) ≡ true
+      → Stepped job rate list work (leftOut (job .critical) (endOf list) list) work pushed
+  pub add : CanAdd job rate list work
+  pub added : tooLate (jobOf job rate) (jobRate rate) (pointOf (at0 work (list .place))) ≡ false
+      → ltZ (pointOf (at0 work (endOf list - 1)) .time) (job .ready) ≡ true
+      → (r : Prefix) (work′ : List ℤ) → Added job rate list work r work′ → Stepped job rate list work r work′ pushed
+  pub merge : tooLate (jobOf job rate) (jobRate rate) (pointOf (at0 work (list .place))) ≡ false
+      → ltZ (pointOf (at0 work (endOf list - 1)) .time) (job .ready) ≡ false → CanMerge job rate list work pushed
 
-module _ {critical : Bool} {weight : ℕ} {ready : ℤ} {takes : ℕ} {deadline : ℤ} {place : ℕ} {work pushed : List ℤ} where
-  pub merges : (count : ℕ) → CanMerge critical weight ready takes deadline place count work pushed
-      → Merges critical weight ready takes deadline place count work pushed
-  merges zero c = absurd (omega (arith, c .some))
-  merges (suc m) c =
+module _ {job : Terms} {rate : Rate} {work pushed : List ℤ} where
+  merges-at : (place count : ℕ) → CanMerge job rate (record { place = place; count = count }) work pushed
+      → Merges job rate (record { place = place; count = count }) work pushed
+  merges-at place zero c = absurd (omega (arith, c .some))
+  merges-at place (suc m) c =
       let g = c .step in
       let at-last : place + suc m - 1 ≡ place + m = omega arith in
-      let late : ltZ (pointOf (at0 work (place + m)) .time) ready ≡ false = rw at-last at (c .late) in
+      let late : ltZ (pointOf (at0 work (place + m)) .time) (job .ready) ≡ false = rw at-last at (c .late) in
       record {
         last = last-free g (c .can) late;
         push = λ end a. can-push g (c .can) late a;
-        few = λ end from pushed′ a s p. many-few g (c .can) late a s p .0;
-        lay = λ end from pushed′ a s p. can-lay g (c .can) late a s p;
-        laid = λ end from pushed′ after a s p k l. laid-stepped g (c .can) late a s p k l;
-        join = λ end from pushed′ a s p f. can-join g (c .can) late a s p f;
-        joined = λ end from r pushed′ after a s p f o. joined-stepped g (c .can) late a s p f o;
+        lay = λ end other pushed′ a s p. can-lay g (c .can) late a s p;
+        laid = λ end other pushed′ after a s p k l. laid-stepped g (c .can) late a s p k l;
+        join = λ end other pushed′ a s p f. can-join g (c .can) late a s p f;
+        joined = λ end other r pushed′ after a s p f o. joined-stepped g (c .can) late a s p f o;
       }
 
+  pub merges : {list : Prefix} → CanMerge job rate list work pushed → Merges job rate list work pushed
+  merges {list} c = merges-at (list .place) (list .count) c
+
   -- An empty list stays empty.
-  pub empty-stepped : CanStep critical weight ready takes deadline place 0 work pushed
-      → Stepped critical weight ready takes deadline place 0 work (record { place = place; count = 0 }) work pushed
-  empty-stepped g = record {
+  empty-at : (place count : ℕ) → count ≡ 0 → CanStep job rate (record { place = place; count = count }) work pushed
+      → Stepped job rate (record { place = place; count = count }) work (record { place = place; count = count }) work pushed
+  empty-at place (suc m) e g = absurd (omega arith)
+  empty-at place zero e g = record {
     size = refl;
     stays = λ k h. refl;
     held = held-none;
@@ -493,10 +493,13 @@ module _ {critical : Bool} {weight : ℕ} {ready : ℤ} {takes : ℕ} {deadline 
     buffer = g .buffer;
   }
 
-  pub starts : (count : ℕ) → 1 ≤ count → CanStep critical weight ready takes deadline place count work pushed
-      → Starts critical weight ready takes deadline place count work pushed
-  starts zero h g = absurd (omega arith)
-  starts (suc m) h g =
+  pub empty-stepped : {list : Prefix} → list .count ≡ 0 → CanStep job rate list work pushed → Stepped job rate list work list work pushed
+  empty-stepped {list} e g = empty-at (list .place) (list .count) e g
+
+  starts-at : (place count : ℕ) → 1 ≤ count → CanStep job rate (record { place = place; count = count }) work pushed
+      → Starts job rate (record { place = place; count = count }) work pushed
+  starts-at place zero h g = absurd (omega arith)
+  starts-at place (suc m) h g =
       let at-last : place + suc m - 1 ≡ place + m = omega arith in
       let last-coded : Coded (at0 work (place + suc m - 1)) =
       held-coded (g .held) (place + suc m - 1) (omega arith) (omega (arith, list-length work place (suc m))) in
@@ -507,10 +510,13 @@ module _ {critical : Bool} {weight : ℕ} {ready : ℤ} {takes : ℕ} {deadline 
         late = late-stepped g;
         add = record { some = h; room = omega (arith, g .room); starts = g .starts; fits = g .fits; coded = last-coded };
         added = λ can early r work′ a.
-            let soon : ltZ (pointOf (at0 work (place + m)) .time) ready ≡ true = rw at-last at early in
-            let is : waitedAs ready (deltaOf takes weight) (at0 work (place + suc m - 1))
-            ≡ waitedAs ready (deltaOf takes weight) (at0 work (place + m)) =
-            ap (λ (k : ℕ). waitedAs ready (deltaOf takes weight) (at0 work k)) at-last in
-            rw (a .list, a .written) (more-stepped g can soon _ is);
+            let soon : ltZ (pointOf (at0 work (place + m)) .time) (job .ready) ≡ true = rw at-last at early in
+            let is : waitedAs (job .ready) (deltaOf rate) (at0 work (place + suc m - 1))
+            ≡ waitedAs (job .ready) (deltaOf rate) (at0 work (place + m)) =
+            ap (λ (k : ℕ). waitedAs (job .ready) (deltaOf rate) (at0 work k)) at-last in
+            rw (a .told, a .written) (more-stepped g can soon _ is);
         merge = λ can late. record { step = g; some = h; can = can; late = late };
       }
+
+  pub starts : {list : Prefix} → 1 ≤ list .count → CanStep job rate list work pushed → Starts job rate list work pushed
+  starts {list} h g = starts-at (list .place) (list .count) h g

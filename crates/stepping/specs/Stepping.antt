@@ -3,7 +3,7 @@ use Prim.Native.Nat.{ℕ, _+_, _-_, _≤_, _<_}
 use mathlib.Core.Path.{_≡_}
 use mathlib.Core.Bool.{Bool, false, cond}
 use mathlib.Core.List.{List, List·Memᴰ as In}
-use lib.IntN.{ℤ}
+use lib.IntN.{ℤ, pos, _-ℤ_}
 use lib.Signed.{ltZ}
 use lib.ListN.{length, set}
 use Rattle.seconds.specs.Limits.{longest, mostWeight}
@@ -11,77 +11,84 @@ use Rattle.seconds.specs.Ranges.{InTime}
 use Rattle.order.specs.Job.{Job, oneRate, Point}
 use Rattle.profile.specs.Rising.{Rising}
 use Rattle.points.specs.Steps.{tooLate, stepBy}
-use Rattle.codes.specs.Code.{at0, pointOf, listAt, pastAll}
+use Rattle.codes.specs.declared.Prefix.{Prefix}
+use Rattle.codes.specs.Code.{pointOf, pastAll, at0, pointsAt, endOf}
 use Rattle.codes.specs.Held.{Held}
-use Rattle.pushing.specs.Pushes.{top, Coded, RateFits, rate, deltaOf, waitedAs}
-use Rattle.stepping.specs.declared.Prefix.{Prefix}
+use Rattle.pushing.specs.declared.Rate.{Rate}
+use Rattle.pushing.specs.Pushes.{top, Coded, RateFits, jobRate, deltaOf, waitedAs}
+use Rattle.stepping.specs.declared.Terms.{Terms}
 
--- A job by its numbers; its own number does not count here.
-abbrev pub jobOf : Bool → ℕ → ℤ → ℕ → ℤ → Job
-jobOf critical weight ready takes deadline = oneRate 0 critical weight ready takes deadline
+-- A job by its terms, at one rate; its own number does not count here.
+abbrev pub jobOf : Terms → Rate → Job
+jobOf job rate = oneRate 0 (job .critical) (rate .gain) (job .ready) (rate .takes) (job .deadline)
 
 -- The list after the job.
-abbrev pub stepped : Bool → ℕ → ℤ → ℕ → ℤ → List Point → List Point
-stepped critical weight ready takes deadline ps = stepBy (jobOf critical weight ready takes deadline) (rate takes weight) ps
+abbrev pub stepped : Terms → Rate → List Point → List Point
+stepped job rate ps = stepBy (jobOf job rate) (jobRate rate) ps
+
+-- The last start of the job.
+abbrev pub lastStart : Terms → Rate → ℤ
+lastStart job rate = job .deadline -ℤ pos (rate .takes)
 
 -- The buffer of a pushed list: a number past all stands at its top.
 pub record Buffer (pushed : List ℤ) : Type 0 where
   pub room : top < length pushed
   pub past : at0 pushed top ≡ pastAll
 
--- A list of points stands at a place, and the job is within the limits with each of them.
-pub record CanStep (critical : Bool) (weight : ℕ) (ready : ℤ) (takes : ℕ) (deadline : ℤ) (place count : ℕ)
-    (work pushed : List ℤ) : Type 0 where
-  pub held : Held work place (listAt work place count)
-  pub rises : Rising (listAt work place count)
-  pub starts : InTime ready
-  pub ends : InTime deadline
-  pub fits : RateFits takes weight
-  pub light : (p : Point) → In p (listAt work place count) → p .weight + weight ≤ mostWeight
-  pub room : place + count + count ≤ length work
-  pub roomMore : critical ≡ false → place + count + 303 < length work
+-- A list of points stands there, and the job is within the limits with each of them.
+pub record CanStep (job : Terms) (rate : Rate) (list : Prefix) (work pushed : List ℤ) : Type 0 where
+  pub held : Held work (list .place) (pointsAt work list)
+  pub rises : Rising (pointsAt work list)
+  pub starts : InTime (job .ready)
+  pub ends : InTime (job .deadline)
+  pub fits : RateFits rate
+  pub light : (p : Point) → In p (pointsAt work list) → p .weight + rate .gain ≤ mostWeight
+  pub room : endOf list + list .count ≤ length work
+  pub roomMore : job .critical ≡ false → endOf list + 303 < length work
   pub buffer : Buffer pushed
 
 -- The list after the job stands behind or in place of the list before it; the part in use stays, and grows by no more than
 -- the list after the job, and one number where the job is not critical.
-pub record Stepped (critical : Bool) (weight : ℕ) (ready : ℤ) (takes : ℕ) (deadline : ℤ) (place count : ℕ) (work : List ℤ)
-    (r : Prefix) (work′ pushed′ : List ℤ) : Type 0 where
+pub record Stepped (job : Terms) (rate : Rate) (list : Prefix) (work : List ℤ) (r : Prefix) (work′ pushed′ : List ℤ) : Type 0 where
   pub size : length work′ ≡ length work
-  pub stays : (k : ℕ) → k < place + count → at0 work′ k ≡ at0 work k
-  pub held : Held work′ (r .place) (stepped critical weight ready takes deadline (listAt work place count))
-  pub counted : r .count ≡ length (stepped critical weight ready takes deadline (listAt work place count))
-  pub further : place + count ≤ r .place + r .count
-  pub few : r .place + r .count ≤ place + count + r .count + cond critical 0 1
+  pub stays : (k : ℕ) → k < endOf list → at0 work′ k ≡ at0 work k
+  pub held : Held work′ (r .place) (stepped job rate (pointsAt work list))
+  pub counted : r .count ≡ length (stepped job rate (pointsAt work list))
+  pub further : endOf list ≤ endOf r
+  pub few : endOf r ≤ endOf list + r .count + cond (job .critical) 0 1
   pub buffer : Buffer pushed′
 
 -- ---- the cases
 
 -- A last start can be told.
-pub record CanEnd (deadline : ℤ) (takes : ℕ) : Type 0 where
-  pub ends : InTime deadline
-  pub most : takes ≤ longest
+pub record CanEnd (job : Terms) (rate : Rate) : Type 0 where
+  pub ends : InTime (job .deadline)
+  pub most : rate .takes ≤ longest
 
--- Case 1: the list that is left without the job.
-abbrev pub leftOut : Bool → ℕ → ℕ → ℕ → Prefix
-leftOut critical place used count = record { place = cond critical used place; count = cond critical 0 count }
+-- Case 1: the list that is left without the job; where the part in use ends, if the job is critical.
+abbrev pub leftOut : Bool → ℕ → Prefix → Prefix
+leftOut critical used list = cond critical (record { place = used; count = 0 }) list
 
 -- Case 3: one number can be added behind a list, by its last number.
-pub record CanAdd (place count weight : ℕ) (ready : ℤ) (takes : ℕ) (work : List ℤ) : Type 0 where
-  pub some : 1 ≤ count
-  pub room : place + count < length work
-  pub starts : InTime ready
-  pub fits : RateFits takes weight
-  pub coded : Coded (at0 work (place + count - 1))
+pub record CanAdd (job : Terms) (rate : Rate) (list : Prefix) (work : List ℤ) : Type 0 where
+  pub some : 1 ≤ list .count
+  pub room : endOf list < length work
+  pub starts : InTime (job .ready)
+  pub fits : RateFits rate
+  pub coded : Coded (at0 work (endOf list - 1))
 
-pub record Added (place count : ℕ) (critical : Bool) (weight : ℕ) (ready : ℤ) (takes : ℕ) (work : List ℤ) (r : Prefix) (work′ : List ℤ)
-    : Type 0 where
-  pub list : r ≡ record { place = cond critical (place + count) place; count = cond critical 1 (count + 1) }
-  pub written : work′ ≡ set work (place + count) (waitedAs ready (deltaOf takes weight) (at0 work (place + count - 1)))
+-- The list with the number, or the number alone if the job is critical.
+abbrev pub withOne : Bool → Prefix → Prefix
+withOne critical list =
+    cond critical (record { place = endOf list; count = 1 }) (record { place = list .place; count = list .count + 1 })
+
+pub record Added (job : Terms) (rate : Rate) (list : Prefix) (work : List ℤ) (r : Prefix) (work′ : List ℤ) : Type 0 where
+  pub told : r ≡ withOne (job .critical) list
+  pub written : work′ ≡ set work (endOf list) (waitedAs (job .ready) (deltaOf rate) (at0 work (endOf list - 1)))
 
 -- Case 2: the list has a point, the job can start from it, and the last point is not before the job is ready.
-pub record CanMerge (critical : Bool) (weight : ℕ) (ready : ℤ) (takes : ℕ) (deadline : ℤ) (place count : ℕ)
-    (work pushed : List ℤ) : Type 0 where
-  pub step : CanStep critical weight ready takes deadline place count work pushed
-  pub some : 1 ≤ count
-  pub can : tooLate (jobOf critical weight ready takes deadline) (rate takes weight) (pointOf (at0 work place)) ≡ false
-  pub late : ltZ (pointOf (at0 work (place + count - 1)) .time) ready ≡ false
+pub record CanMerge (job : Terms) (rate : Rate) (list : Prefix) (work pushed : List ℤ) : Type 0 where
+  pub step : CanStep job rate list work pushed
+  pub some : 1 ≤ list .count
+  pub can : tooLate (jobOf job rate) (jobRate rate) (pointOf (at0 work (list .place))) ≡ false
+  pub late : ltZ (pointOf (at0 work (endOf list - 1)) .time) (job .ready) ≡ false

@@ -24,7 +24,7 @@ use Rattle.area.specs.Area.{area}
 use Rattle.codes.specs.Code.{listAt}
 use Rattle.codes.specs.Held.{Held}
 use Rattle.codes.specs.HeldLaws.{held-read}
-use Rattle.stepping.specs.declared.Prefix.{Prefix}
+use Rattle.codes.specs.declared.Prefix.{Prefix}
 use Rattle.reading.specs.Reading.{found, pointIn}
 use Rattle.reading.specs.declared.Found.{Found}
 use Rattle.reading.specs.declared.Found.the-variants.{Nothing, At}

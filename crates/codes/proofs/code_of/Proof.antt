@@ -7,7 +7,7 @@ use mir.Syntax.{w32}
 use mir.Facts.{toZ-ofZ, toZ-pos}
 use borrow.Author.Needs.{needs}
 use Rattle.seconds.specs.Signed.{signed}
-use Rattle.codes.specs.Code.{since}
+use Rattle.codes.specs.Code.{since, perSecond, mostLight}
 use Rattle.codes.specs.CodeLaws.{since-few}
 use Rattle.codes.proofs.code_of.Statement.{statement}
 use Rattle.codes.proofs.code_of.Tie as tie
@@ -37,7 +37,7 @@ cast-result c = let h = few c in omega signed
 returns : tie.Need-returns
 returns c =
     let h = few c in
-    toZ-pos w32 (omega signed) ∙ ap (λ (n : ℕ). pos (n * 512 + (511 - c .before .args .weight))) (is c)
+    toZ-pos w32 (omega signed) ∙ ap (λ (n : ℕ). pos (n * perSecond + (mostLight - c .before .args .weight))) (is c)
 
 pub code-of-spec : {M : Type 1} → statement M
 code-of-spec = tie.close (tie.spec since-requires mul-result sub-result add-result cast-result returns)

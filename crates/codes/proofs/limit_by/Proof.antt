@@ -7,7 +7,7 @@ use mir.Syntax.{w32}
 use mir.Facts.{toZ-ofZ, toZ-pos}
 use borrow.Author.Needs.{needs}
 use Rattle.seconds.specs.Signed.{signed}
-use Rattle.codes.specs.Code.{since}
+use Rattle.codes.specs.Code.{since, perSecond, mostLight}
 use Rattle.codes.specs.CodeLaws.{since-few}
 use Rattle.codes.proofs.limit_by.Statement.{statement}
 use Rattle.codes.proofs.limit_by.Tie as tie
@@ -34,7 +34,7 @@ cast-result c = let h = few c in omega signed
 returns : tie.Need-returns
 returns c =
     let h = few c in
-    toZ-pos w32 (omega signed) ∙ ap (λ (n : ℕ). pos (n * 512 + 511)) (is c)
+    toZ-pos w32 (omega signed) ∙ ap (λ (n : ℕ). pos (n * perSecond + mostLight)) (is c)
 
 pub limit-by-spec : {M : Type 1} → statement M
 limit-by-spec = tie.close (tie.spec since-requires mul-result add-result cast-result returns)

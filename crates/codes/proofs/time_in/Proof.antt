@@ -6,12 +6,13 @@ use mir.Syntax.{w32}
 use mir.Val.{SFits, toZ, ofZ}
 use mir.Facts.{toZ-ofZ, toZ-pos}
 use Rattle.seconds.specs.Signed.{signed, abs-is, mag-is, sub-is}
+use Rattle.codes.specs.Code.{perSecond}
 use Rattle.codes.proofs.time_in.Statement.{statement}
 use Rattle.codes.proofs.time_in.Tie as tie
 
 module _ (c : tie.Start) where
   abbrev seconds : ℕ
-  seconds = natAbs (toZ w32 (ofZ w32 (c .args .code))) / 512
+  seconds = natAbs (toZ w32 (ofZ w32 (c .args .code))) / perSecond
 
   few : seconds ≤ 4194304
   few =
@@ -41,7 +42,7 @@ sub-result c = less-fits c
 returns : tie.Need-returns
 returns c =
     toZ-ofZ (less-fits c)
-    ∙ ap (λ (z : ℤ). z -ℤ pos 100000) (back c ∙ ap (λ (z : ℤ). pos (natAbs z / 512)) (toZ-ofZ (c .fits .code)))
+    ∙ ap (λ (z : ℤ). z -ℤ pos 100000) (back c ∙ ap (λ (z : ℤ). pos (natAbs z / perSecond)) (toZ-ofZ (c .fits .code)))
 
 pub time-in-spec : {M : Type 1} → statement M
 time-in-spec = tie.close (tie.spec cast-result cast-result-2 sub-result returns)

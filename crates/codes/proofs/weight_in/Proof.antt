@@ -3,7 +3,7 @@ use Prim.Native.Nat.{ℕ, _-_}
 use mathlib.Core.Path.{ap, _∙_}
 use mir.Facts.{toZ-ofZ}
 use borrow.Author.Needs.{needs}
-use Rattle.codes.specs.Code.{lightness}
+use Rattle.codes.specs.Code.{mostLight, lightness}
 use Rattle.codes.proofs.weight_in.Statement.{statement}
 use Rattle.codes.proofs.weight_in.Tie as tie
 
@@ -15,7 +15,7 @@ sub-result c = search needs
 
 returns : tie.Need-returns
 returns c =
-    ap (λ (n : ℕ). 511 - n) (c .light-in .ensures ∙ ap lightness (toZ-ofZ (c .before .fits .code)))
+    ap (λ (n : ℕ). mostLight - n) (c .light-in .ensures ∙ ap lightness (toZ-ofZ (c .before .fits .code)))
 
 pub weight-in-spec : {M : Type 1} → statement M
 weight-in-spec = tie.close (tie.spec light-in-requires sub-result returns)

@@ -27,7 +27,7 @@ cast-takes c =
 
 step-requires : tie.Need-step-requires
 step-requires c κs =
-    let d = c .before .before .before .before .before .before .before .before .before .before in
+    let d = c .before .before .before .before .before .before .before .before .before in
     let s = d .before .before in
     job-steps (s .args .bytes .now) (s .args .k) (s .pre .order) (s .pre .there) (d .job-at .result) (d .job-at .ensures)
     (s .args .place) (s .args .count) (s .args .work .now) (s .args .pushed .now) (s .pre)
@@ -40,7 +40,7 @@ same-length-2 c = search needs
 
 returns : tie.Need-returns
 returns c =
-    let d = c .before .before .before .before .before .before .before .before .before .before .before .before .before in
+    let d = c .before .before .before .before .before .before .before .before .before .before .before .before in
     let s = d .before .before in
     job-stepped (s .args .bytes .now) (s .args .k) (s .pre .order) (s .pre .there) (d .job-at .result) (d .job-at .ensures)
     (s .args .place) (s .args .count) (s .args .work .now) _ _ _ (c .before .before .step .ensures)

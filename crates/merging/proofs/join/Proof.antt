@@ -1,12 +1,11 @@
 -- `merging::join` meets its contract. Assumes nothing.
-use Prim.Native.Nat.{_+_}
 use mathlib.Core.Path.{_≡_}
 use native.Mathlib.Omega.{arith}
 use borrow.Author.Needs.{needs}
 use lib.ListN.{set, length-set}
 use mir.Syntax.{w32}
 use mir.Val.{toZ, ofZ}
-use Rattle.codes.specs.Code.{at0, pastAll}
+use Rattle.codes.specs.Code.{pastAll, at0, endOf}
 use Rattle.seconds.specs.Signed.{read-back}
 use Rattle.codes.specs.Held.{After}
 use Rattle.merging.specs.JoinLaws.{join-few, can-weigh, can-merge, joins}
@@ -30,18 +29,18 @@ shared-slice-copy-out-first c = search needs
 
 after-requires : tie.Need-after-requires
 after-requires c κs =
-    let a = c .before .before .args in
-    record { order = omega arith; room = omega (arith, length-set (a .work .now) (a .place + a .count) pastAll) }
+    let a = c .before .before .before .args in
+    record { order = omega arith; room = omega (arith, length-set (a .work .now) (endOf (a .list)) pastAll) }
 
 -- The place found.
 module _ (c : tie.After-after) where
   abbrev begun : tie.Start
-  begun = c .before .before .before
+  begun = c .before .before .before .before
 
-  found : After (set (begun .args .work .now) (begun .args .place + begun .args .count) pastAll) (begun .args .place)
-      (begun .args .place + begun .args .count) (at0 (begun .args .pushed .now) (begun .args .from)) (c .after .result)
+  found : After (set (begun .args .work .now) (endOf (begun .args .list)) pastAll) (begun .args .list .place)
+      (endOf (begun .args .list)) (at0 (begun .args .pushed .now) (begun .args .other .place)) (c .after .result)
   found =
-      let first = at0 (begun .args .pushed .now) (begun .args .from) in
+      let first = at0 (begun .args .pushed .now) (begun .args .other .place) in
       let back : toZ w32 (ofZ w32 first) ≡ first = read-back first (c .before .before .first .given) in
       rw back at (c .after .ensures)
 
@@ -56,7 +55,7 @@ copy-requires c κs =
     let s = begun (c .before) in
     let f = found (c .before) in
     let few = join-few (s .pre) in
-    let long = length-set (s .args .work .now) (s .args .place + s .args .count) pastAll in
+    let long = length-set (s .args .work .now) (endOf (s .args .list)) pastAll in
     record { apart = omega arith; room = omega arith }
 
 light-before-requires : tie.Need-light-before-requires
@@ -73,19 +72,19 @@ add-merge c = search needs
 add-merge-2 : tie.Need-add-merge-2
 add-merge-2 c = search needs
 
-add-merge-3 : tie.Need-add-merge-3
-add-merge-3 c = search needs
-
 merge-requires : tie.Need-merge-requires
 merge-requires c κs =
     let a = c .before .before .before .before .before .before in
     can-merge (begun a .pre) (found a) (c .before .before .before .before .copy .ensures) (c .before .light-before .ensures)
 
-add-result : tie.Need-add-result
-add-result c = search needs
+add-t14 : tie.Need-add-t14
+add-t14 c = search needs
 
-sub-result : tie.Need-sub-result
-sub-result c = search needs
+add-t27 : tie.Need-add-t27
+add-t27 c = search needs
+
+sub-t28 : tie.Need-sub-t28
+sub-t28 c = search needs
 
 returns : tie.Need-returns
 returns c =
@@ -114,9 +113,9 @@ join-spec =
     sub-merge
     add-merge
     add-merge-2
-    add-merge-3
     merge-requires
-    add-result
-    sub-result
+    add-t14
+    add-t27
+    sub-t28
     same-length
     returns)

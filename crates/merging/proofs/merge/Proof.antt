@@ -1,25 +1,27 @@
 -- `merging::merge` meets its contract: between turns, what is kept of the numbers so far is written. Assumes nothing.
-use Prim.Native.Nat.{ℕ, suc, _+_, _-_, _/_, _≤_, min}
+use Prim.Native.Nat.{ℕ, suc, _+_, _-_, _≤_, min}
 use mathlib.Core.Path.{_≡_, refl, ap, _∙_}
 use mathlib.Core.Bool.{Bool, true, false, cond}
 use native.Mathlib.Omega.{arith}
+use lib.Dec.{ltb}
 use lib.IntN.{ℤ, pos}
 use lib.Signed.{leZ, _≤ℤ_}
 use mir.Syntax.{w32}
 use mir.Val.{toZ, ofZ}
 use Rattle.codes.specs.Code.{at0, lightness}
 use Rattle.seconds.specs.Signed.{read-back}
+use Rattle.merging.specs.Turns.{turnsAt, keptOf}
 use Rattle.merging.specs.TurnLaws.{Merging, merging-start, inside-list, inside-pushed, inside-merged, merging-least}
 use Rattle.merging.specs.TurnLaws.{merging-turn, merging-end}
 use Rattle.merging.proofs.merge.Statement.{statement}
 use Rattle.merging.proofs.merge.Tie as tie
 
 abbrev Inv-loop : tie.InvT-loop
-Inv-loop work₀ place turns at lightest pushed from i₀ j₀ n₀ best₀ left₀ work i j n best left =
-    Merging place turns at lightest pushed from work₀ work i j n best left
+Inv-loop work₀ pushed at lightest i₀ j₀ n₀ best₀ left₀ work i j n best left =
+    Merging (keptOf lightest (turnsAt left₀ work₀ i₀ pushed j₀)) at lightest pushed work₀ work i j n best left
 
 abbrev μ-loop : tie.MeasureT-loop
-μ-loop work₀ place turns at lightest pushed from i₀ j₀ n₀ best₀ left₀ work i j n best left = left
+μ-loop work₀ pushed at lightest i₀ j₀ n₀ best₀ left₀ work i j n best left = left
 
 -- One or none is at most one.
 at-most-one : (b : Bool) (x y : ℕ) → x + y ≡ 1 → cond b x y ≤ 1
@@ -29,7 +31,7 @@ at-most-one false x y e = omega arith
 -- Both numbers are read.
 module _ (c : tie.After-b Inv-loop μ-loop) where
   abbrev begun : tie.Start Inv-loop μ-loop
-  begun = c .before .before .before .before
+  begun = c .before .before .before .before .before .before
 
   abbrev turn : tie.In-loop Inv-loop μ-loop
   turn = c .before .before
@@ -71,11 +73,11 @@ module _ (c : tie.After-light-in Inv-loop μ-loop) where
   light-told : c .light-in .result ≡ lightness (x-read (c .before))
   light-told = c .light-in .ensures
 
-  best-small : turn (both (c .before)) .before .loop .best ≤ 512
-  best-small = turn (both (c .before)) .before .loop .inv .written .upper
+add-left : tie.Need-add-left Inv-loop μ-loop
+add-left c = let g = c .before .before .pre in omega (arith, g .behind, g .room, g .low, g .light, g .roomPushed)
 
 loop-holds : tie.Need-loop-holds Inv-loop μ-loop
-loop-holds c = merging-start (c .pre)
+loop-holds c = merging-start (c .before .before .pre)
 
 mul-a : tie.Need-mul-a Inv-loop μ-loop
 mul-a c = omega (arith, inside-list (c .before .loop .inv))
@@ -119,14 +121,14 @@ slice-set-from-x c = inside-merged (turn (both c) .before .loop .inv)
 light-in-requires : tie.Need-light-in-requires Inv-loop μ-loop
 light-in-requires c κs = x-least c
 
+one-if-heavier-requires : tie.Need-one-if-heavier-requires Inv-loop μ-loop
+one-if-heavier-requires c κs = tt
+
 add-n : tie.Need-add-n Inv-loop μ-loop
-add-n c = omega (arith, best-small c)
-
-sub-n : tie.Need-sub-n Inv-loop μ-loop
-sub-n c = omega (arith, light-told c)
-
-add-n-2 : tie.Need-add-n-2 Inv-loop μ-loop
-add-n-2 c = omega (arith, best-small c, inside-merged (turn (both (c .before)) .before .loop .inv))
+add-n c =
+    let l = turn (both (c .before .before)) .before .loop in
+    let small = at-most-one (ltb (c .before .light-in .result) (l .best)) 1 0 refl in
+    omega (arith, inside-merged (l .inv), c .one-if-heavier .ensures)
 
 lesser-requires : tie.Need-lesser-requires Inv-loop μ-loop
 lesser-requires c κs = tt
@@ -139,21 +141,16 @@ loop-less c = omega arith
 
 loop-again : tie.Need-loop-again Inv-loop μ-loop
 loop-again c =
-    let d = c .before .before in
+    let h = c .before .before in
+    let d = h .before in
     let b = both d in
     let l = turn b .before .loop in
-    let light = light-told (c .before) in
+    let light = light-told h in
     let i-is = ap (λ (k : ℕ). l .i + k) (d .before .one-if .ensures) in
     let j-is = ap (λ (k : ℕ). l .j + k) (d .none-if .ensures) in
+    let n-is = ap (λ (k : ℕ). l .n + k) (c .before .one-if-heavier .ensures ∙ ap (λ (k : ℕ). cond (ltb k (l .best)) 1 0) light) in
     let best-is = c .lesser .ensures ∙ ap (λ (k : ℕ). min k (l .best)) light in
-    let m = merging-turn (l .inv) (a-is b) (b-is b) (one-left b) _ _ _ _ (x-is d) i-is j-is best-is in
-    record {
-      can = m .can;
-      places = m .places;
-      kept = m .kept;
-      reached = ap (λ (k : ℕ). l .n + (l .best + 511 - k) / 512) light ∙ m .reached;
-      written = m .written;
-    }
+    merging-turn (l .inv) (a-is b) (b-is b) (one-left b) _ _ _ _ _ (x-is d) i-is j-is n-is best-is
 
 same-length : tie.Need-same-length Inv-loop μ-loop
 same-length c = c .before .loop .inv .written .size
@@ -167,6 +164,7 @@ merge-spec =
     (tie.spec
     Inv-loop
     μ-loop
+    add-left
     loop-holds
     mul-a
     slice-copy-out-a
@@ -180,9 +178,8 @@ merge-spec =
     mul-x
     slice-set-from-x
     light-in-requires
+    one-if-heavier-requires
     add-n
-    sub-n
-    add-n-2
     lesser-requires
     sub-left
     loop-less

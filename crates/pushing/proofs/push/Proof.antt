@@ -1,9 +1,8 @@
--- `pushing::push` meets its contract. The loop's invariant is `Pushing`: the numbers from `i` on are past the ready time, and
--- stand moved on from `p` to the top. Assumes nothing.
-use Prim.Native.Nat.{ℕ, _-_, _≤_, _<_}
-use mathlib.Core.Path.{_≡_, ap₂, _∙_}
+-- `pushing::push` meets its contract. The loop's invariant is `Pushing`: the numbers from `i` on are past the limit, and stand
+-- moved on from `p` to the top. Assumes nothing.
+use Prim.Native.Nat.{_-_, _≤_, _<_}
+use mathlib.Core.Path.{_≡_, ap, ap₂, _∙_}
 use mathlib.Core.Bool.{true, false}
-use mathlib.Core.List.{List}
 use mathlib.Core.Logic.{⊎-elim}
 use native.Mathlib.Omega.{arith}
 use lib.IntN.{ℤ, _+ℤ_}
@@ -14,34 +13,20 @@ use mir.Val.{toZ, ofZ}
 use mir.Facts.{toZ-ofZ}
 use Rattle.seconds.specs.Signed.{signed, read-back}
 use Rattle.codes.specs.Code.{at0, limitOf}
-use Rattle.pushing.specs.Pushes.{Coded, Delta, deltaOf, waitedAs, CanPush, Pushed}
+use Rattle.pushing.specs.Pushes.{Coded, Delta, deltaOf, waitedAs}
 use Rattle.pushing.specs.Numbers.{delta-fits}
-use Rattle.pushing.specs.Places.{Pushing, Placed, pushing-start, pushing-room, pushing-coded}
+use Rattle.pushing.specs.Places.{Pushing, Placed, placed-low, pushing-start, pushing-room, pushing-coded}
 use Rattle.pushing.specs.Places.{pushing-more, pushing-none, pushing-waited}
-use Rattle.pushing.specs.PushLaws.{placed-pushed}
+use Rattle.pushing.specs.PushLaws.{pushes}
 use Rattle.pushing.proofs.push.Statement.{statement}
 use Rattle.pushing.proofs.push.Tie as tie
 
 abbrev Inv-loop : tie.InvT-loop
-Inv-loop work place end ready takes gain pushed₀ limit delta i₀ p₀ pushed i p =
-    Pushing work place end (toZ w32 ready) takes gain pushed₀ pushed i p
+Inv-loop work ready pushed₀ place limit delta i₀ p₀ pushed i p =
+    Pushing work place i₀ (toZ w32 limit) (toZ w32 delta) pushed₀ pushed i p
 
 abbrev μ-loop : tie.MeasureT-loop
-μ-loop work place end ready takes gain pushed₀ limit delta i₀ p₀ pushed i p = i
-
-module _ (s : tie.Start Inv-loop μ-loop) where
-  abbrev ready : ℤ
-  ready = toZ w32 (ofZ w32 (s .args .ready))
-
-  -- What is asked, of the ready time as the code reads it.
-  can : CanPush (s .args .work .now) (s .args .place) (s .args .end) ready (s .args .takes) (s .args .gain) (s .args .pushed .now)
-  can = rw (toZ-ofZ (s .fits .ready)) (s .pre)
-
-  -- What is written so is what the contract says.
-  wrote : (r : ℕ) (pushed : List ℤ)
-      → Placed (s .args .work .now) (s .args .place) (s .args .end) ready (s .args .takes) (s .args .gain) r pushed
-      → Pushed (s .args .work .now) (s .args .place) (s .args .end) (s .args .ready) (s .args .takes) (s .args .gain) r pushed
-  wrote r pushed d = rw (toZ-ofZ (s .fits .ready)) at (placed-pushed can d)
+μ-loop work ready pushed₀ place limit delta i₀ p₀ pushed i p = i
 
 -- The two numbers that every turn reads.
 module _ (d : tie.After-delta-of Inv-loop μ-loop) where
@@ -51,16 +36,15 @@ module _ (d : tie.After-delta-of Inv-loop μ-loop) where
   abbrev limit : ℤ
   limit = toZ w32 (ofZ w32 (d .before .limit-by .result))
 
-  limit-is : limit ≡ limitOf (ready begun)
+  limit-is : limit ≡ limitOf (begun .args .ready)
   limit-is =
-      let back = read-back (d .before .limit-by .result) (d .before .limit-by .ok) in
-      let is = d .before .limit-by .ensures in
-      omega signed
+      read-back (d .before .limit-by .result) (d .before .limit-by .ok)
+      ∙ d .before .limit-by .ensures ∙ ap limitOf (toZ-ofZ (begun .fits .ready))
 
   abbrev delta : ℤ
   delta = toZ w32 (ofZ w32 (d .delta-of .result))
 
-  delta-is : delta ≡ deltaOf (begun .args .takes) (begun .args .gain)
+  delta-is : delta ≡ deltaOf (begun .args .rate)
   delta-is = read-back (d .delta-of .result) (d .delta-of .ok) ∙ d .delta-of .ensures
 
   delta-in : Delta delta
@@ -68,18 +52,21 @@ module _ (d : tie.After-delta-of Inv-loop μ-loop) where
 
 -- The number before the place, where there is one.
 module _ (a : tie.At-loop Inv-loop μ-loop) where
+  abbrev known : tie.After-delta-of Inv-loop μ-loop
+  known = a .before .before
+
   abbrev start : tie.Start Inv-loop μ-loop
-  start = begun (a .before)
+  start = begun known
 
   abbrev here : ℤ
   here = at0 (start .args .work .now) (a .loop .i - 1)
 
-  room : start .args .place < a .loop .i
+  room : start .args .list .place < a .loop .i
       → (1 ≤ a .loop .p) × (a .loop .p - 1 < length (a .loop .pushed)) × (a .loop .i - 1 < length (start .args .work .now))
-  room = pushing-room (can start) (a .loop .inv)
+  room = pushing-room (start .pre) (a .loop .inv)
 
-  here-coded : start .args .place < a .loop .i → Coded here
-  here-coded = pushing-coded (can start) (a .loop .inv)
+  here-coded : start .args .list .place < a .loop .i → Coded here
+  here-coded = pushing-coded (start .pre) (a .loop .inv)
 
 limit-by-requires : tie.Need-limit-by-requires Inv-loop μ-loop
 limit-by-requires c κs = let r = c .pre .starts in let f = c .fits .ready in omega signed
@@ -87,8 +74,11 @@ limit-by-requires c κs = let r = c .pre .starts in let f = c .fits .ready in om
 delta-of-requires : tie.Need-delta-of-requires Inv-loop μ-loop
 delta-of-requires c κs = c .before .pre .fits
 
+add-i : tie.Need-add-i Inv-loop μ-loop
+add-i c = omega (arith, begun (c .before) .pre .room)
+
 loop-holds : tie.Need-loop-holds Inv-loop μ-loop
-loop-holds c = pushing-start (can (begun c))
+loop-holds c = let d = c .before in pushing-start (begun d .pre) (limit d) (delta d)
 
 sub-if1 : tie.Need-sub-if1 Inv-loop μ-loop
 sub-if1 c = omega (arith, c .loop-test .taken)
@@ -104,7 +94,7 @@ module _ (c : tie.Then1 Inv-loop μ-loop) where
   abbrev head : tie.At-loop Inv-loop μ-loop
   head = c .before .before .before
 
-  inside : start head .args .place < head .loop .i
+  inside : start head .args .list .place < head .loop .i
   inside = c .before .before .loop-test .taken
 
 sub-i : tie.Need-sub-i Inv-loop μ-loop
@@ -123,10 +113,10 @@ later-requires : tie.Need-later-requires Inv-loop μ-loop
 later-requires c κs =
     let h = head (c .before) in
     let r : toZ w32 (ofZ w32 (here h)) ≡ here h = read-back (here h) (c .later-arg .given) in
-    (rw r (here-coded h (inside (c .before))), delta-in (h .before))
+    (rw r (here-coded h (inside (c .before))), delta-in (known h))
 
-mul-t22 : tie.Need-mul-t22 Inv-loop μ-loop
-mul-t22 c = omega (arith, room (head (c .before .before)) (inside (c .before .before)) .1)
+mul-t21 : tie.Need-mul-t21 Inv-loop μ-loop
+mul-t21 c = omega (arith, room (head (c .before .before)) (inside (c .before .before)) .1)
 
 slice-set-from-pushed : tie.Need-slice-set-from-pushed Inv-loop μ-loop
 slice-set-from-pushed c = room (head (c .before .before)) (inside (c .before .before)) .1
@@ -140,24 +130,22 @@ loop-again c =
     let h = head t in
     let s = start h in
     let r : toZ w32 (ofZ w32 (here h)) ≡ here h = read-back (here h) (c .before .later-arg .given) in
-    let test : ltZ (limit (h .before)) (toZ w32 (ofZ w32 (here h))) ≡ true = t .if1 .taken in
-    let l = limit-is (h .before) in
-    let late : limitOf (ready s) <ℤ here h = omega signed in
+    let test : ltZ (limit (known h)) (toZ w32 (ofZ w32 (here h))) ≡ true = t .if1 .taken in
+    let late : limit (known h) <ℤ here h = omega signed in
     let number = read-back (c .later .result) (c .later .ok) ∙ c .later .ensures in
-    let is = number ∙ ap₂ _+ℤ_ r (delta-is (h .before)) in
-    pushing-more (can s) (h .loop .inv) _ (inside t) late is
+    let is = number ∙ ap (λ (z : ℤ). z +ℤ delta (known h)) r in
+    pushing-more (s .pre) (h .loop .inv) _ (inside t) late is
 
 -- The end.
 module _ (c : tie.Then2 Inv-loop μ-loop) where
   abbrev last : tie.At-loop Inv-loop μ-loop
   last = c .before .before
 
-  soon : here last ≤ℤ limitOf (ready (start last))
+  soon : here last ≤ℤ limit (known last)
   soon = ⊎-elim
       (λ w.
       let r : toZ w32 (ofZ w32 (here last)) ≡ here last = read-back (here last) (w .1 .given) in
-      let test : ltZ (limit (last .before)) (toZ w32 (ofZ w32 (here last))) ≡ false = w .2 .left in
-      let l = limit-is (last .before) in
+      let test : ltZ (limit (known last)) (toZ w32 (ofZ w32 (here last))) ≡ false = w .2 .left in
       omega signed)
       (λ w. absurd (omega (arith, c .if2 .taken, w .left)))
       (c .before .loop-test .came)
@@ -178,36 +166,46 @@ waits-requires : tie.Need-waits-requires Inv-loop μ-loop
 waits-requires c κs =
     let h = last (c .before) in
     let r : toZ w32 (ofZ w32 (here h)) ≡ here h = read-back (here h) (c .waits-arg .given) in
-    (can (start h) .starts, delta-in (h .before), rw r (here-coded h (c .before .if2 .taken)))
+    (rw (toZ-ofZ (start h .fits .ready)) (start h .pre .starts), delta-in (known h), rw r (here-coded h (c .before .if2 .taken)))
 
-mul-t30 : tie.Need-mul-t30 Inv-loop μ-loop
-mul-t30 c = omega (arith, room (last (c .before .before)) (c .before .before .if2 .taken) .1)
+mul-t29 : tie.Need-mul-t29 Inv-loop μ-loop
+mul-t29 c = omega (arith, room (last (c .before .before)) (c .before .before .if2 .taken) .1)
 
 slice-set-from-pushed-2 : tie.Need-slice-set-from-pushed-2 Inv-loop μ-loop
 slice-set-from-pushed-2 c = room (last (c .before .before)) (c .before .before .if2 .taken) .1
 
+-- Either way the list stands at its place.
+module _ (c : tie.Joined2 Inv-loop μ-loop) where
+  abbrev ended : tie.At-loop Inv-loop μ-loop
+  ended = c .before .before
+
+  placed : Placed (start ended .args .work .now) (start ended .args .list) (start ended .args .ready) (limit (known ended))
+      (delta (known ended)) (c .if2 .p) (c .if2 .pushed)
+      × (length (c .if2 .pushed) ≡ length (start ended .args .pushed .now))
+  placed = ⊎-elim
+      (λ w.
+      let d : tie.Then2 Inv-loop μ-loop = record { before = c .before; if2 = w .0 } in
+      let s = start ended in
+      let r : toZ w32 (ofZ w32 (here ended)) ≡ here ended = read-back (here ended) (w .1 .given) in
+      let number = read-back (w .2 .result) (w .2 .ok) ∙ w .2 .ensures in
+      let is = number ∙ ap₂ (λ (t z : ℤ). waitedAs t (delta (known ended)) z) (toZ-ofZ (s .fits .ready)) r in
+      let sized = ap length (w .3) ∙ length-set (ended .loop .pushed) (ended .loop .p - 1) _ ∙ ended .loop .inv .size in
+      (pushing-waited (s .pre) (ended .loop .inv) (w .3) (w .4) (w .0 .taken) (soon d) is, sized))
+      (λ w.
+      let g = start ended .pre in
+      (pushing-none g (ended .loop .inv) (w .1) (w .2) (w .0 .left), ap length (w .1) ∙ ended .loop .inv .size))
+      (c .if2 .came)
+
+sub-t31 : tie.Need-sub-t31 Inv-loop μ-loop
+sub-t31 c = placed-low (placed (c .before) .0)
+
 same-length : tie.Need-same-length Inv-loop μ-loop
-same-length c =
-    let h = last (c .before .before) in
-    length-set (h .loop .pushed) (h .loop .p - 1) (toZ w32 (ofZ w32 (c .waits .result))) ∙ h .loop .inv .size
+same-length c = placed (c .before) .1
 
 returns : tie.Need-returns Inv-loop μ-loop
 returns c =
-    let d = c .before .before in
-    let h = last d in
-    let s = start h in
-    let r : toZ w32 (ofZ w32 (here h)) ≡ here h = read-back (here h) (c .before .waits-arg .given) in
-    let number = read-back (c .waits .result) (c .waits .ok) ∙ c .waits .ensures in
-    let is = number ∙ ap₂ (waitedAs (ready s)) (delta-is (h .before)) r in
-    wrote s _ _ (pushing-waited (can s) (h .loop .inv) _ (d .if2 .taken) (soon d) is)
-
-same-length-2 : tie.Need-same-length-2 Inv-loop μ-loop
-same-length-2 c = c .before .before .loop .inv .size
-
-returns-2 : tie.Need-returns-2 Inv-loop μ-loop
-returns-2 c =
-    let h = c .before .before in
-    wrote (start h) _ _ (pushing-none (can (start h)) (h .loop .inv) (omega (arith, c .if2 .left)))
+    let h = ended (c .before) in
+    pushes (start h .pre) (limit-is (known h)) (delta-is (known h)) (placed (c .before) .0)
 
 pub push-spec : {M : Type 1} → statement M
 push-spec =
@@ -217,6 +215,7 @@ push-spec =
     μ-loop
     limit-by-requires
     delta-of-requires
+    add-i
     loop-holds
     sub-if1
     mul-if1
@@ -226,7 +225,7 @@ push-spec =
     mul-later
     shared-slice-copy-out-later
     later-requires
-    mul-t22
+    mul-t21
     slice-set-from-pushed
     loop-less
     loop-again
@@ -235,9 +234,8 @@ push-spec =
     mul-waits
     shared-slice-copy-out-waits
     waits-requires
-    mul-t30
+    mul-t29
     slice-set-from-pushed-2
+    sub-t31
     same-length
-    returns
-    same-length-2
-    returns-2)
+    returns)

@@ -5,25 +5,30 @@ use mir.Syntax.{w32}
 use mir.Val.{SFits, toZ, ofZ}
 use mir.Facts.{toZ-ofZ, toZ-pos}
 use borrow.Author.Needs.{needs}
-use Rattle.seconds.specs.Signed.{signed, sub-is}
+use Rattle.seconds.specs.Signed.{signed, sub-is, read-back}
+use Rattle.stepping.specs.Stepping.{lastStart}
 use Rattle.stepping.proofs.last_start.Statement.{statement}
 use Rattle.stepping.proofs.last_start.Tie as tie
 
 cast-result : tie.Need-cast-result
 cast-result c = search needs
 
-module _ (c : tie.Start) where
-  is : toZ w32 (ofZ w32 (c .args .deadline)) -ℤ toZ w32 (c .args .takes) ≡ c .args .deadline -ℤ pos (c .args .takes)
-  is =
-      let few = c .pre .most in
-      let whole : toZ w32 (c .args .takes) ≡ pos (c .args .takes) = toZ-pos w32 (omega signed) in
-      ap₂ _-ℤ_ (toZ-ofZ (c .fits .deadline)) whole
+module _ (c : tie.After-struct-told) where
+  abbrev start : tie.Start
+  start = c .before .before .before
 
-  less-fits : SFits w32 (toZ w32 (ofZ w32 (c .args .deadline)) -ℤ toZ w32 (c .args .takes))
+  is : toZ w32 (ofZ w32 (start .args .job .deadline)) -ℤ toZ w32 (start .args .rate .takes)
+      ≡ lastStart (start .args .job) (start .args .rate)
+  is =
+      let few = start .pre .most in
+      let whole : toZ w32 (start .args .rate .takes) ≡ pos (start .args .rate .takes) = toZ-pos w32 (omega signed) in
+      ap₂ _-ℤ_ (read-back (start .args .job .deadline) (c .struct-told .given .1 .1 .0 .1)) whole
+
+  less-fits : SFits w32 (toZ w32 (ofZ w32 (start .args .job .deadline)) -ℤ toZ w32 (start .args .rate .takes))
   less-fits =
-      let few = c .pre .most in
-      let ends = c .pre .ends in
-      rw is (omega (signed, sub-is (c .args .deadline) (pos (c .args .takes))))
+      let few = start .pre .most in
+      let ends = start .pre .ends in
+      rw is (omega (signed, sub-is (start .args .job .deadline) (pos (start .args .rate .takes))))
 
 sub-result : tie.Need-sub-result
 sub-result c = less-fits c

@@ -1,24 +1,22 @@
 -- `stepping::step` meets its contract: the tests are those of the three cases. Assumes nothing.
-use Prim.Native.Nat.{_+_, _-_}
+use Prim.Native.Nat.{_-_}
 use mathlib.Core.Path.{_≡_, sym, ap, ap₂, _∙_}
 use mathlib.Core.Bool.{false}
 use native.Mathlib.Omega.{arith}
-use lib.IntN.{ℤ, pos, _-ℤ_}
+use lib.IntN.{ℤ}
 use lib.Signed.{ltZ}
 use mir.Syntax.{w32}
 use mir.Val.{toZ, ofZ}
-use mir.Facts.{toZ-ofZ}
 use borrow.Author.Needs.{needs}
 use Rattle.seconds.specs.Signed.{maxZ, read-back}
-use Rattle.codes.specs.Code.{at0, pointOf}
+use Rattle.codes.specs.Code.{pointOf, at0, endOf}
+use Rattle.stepping.specs.Stepping.{lastStart}
 use Rattle.stepping.specs.Cases.{empty-stepped, Starts, starts}
 use Rattle.stepping.proofs.step.Statement.{statement}
 use Rattle.stepping.proofs.step.Tie as tie
 
 returns : tie.Need-returns
-returns c =
-    let none : c .before .args .count ≡ 0 = c .if1 .taken in
-    rw none (empty-stepped (rw none at (c .before .pre)))
+returns c = empty-stepped (c .if1 .taken) (c .before .before .pre)
 
 add-used : tie.Need-add-used
 add-used c = search needs
@@ -44,11 +42,14 @@ last-start-requires c κs = search needs
 -- A list that has a point.
 module _ (c : tie.Else1) where
   abbrev begun : tie.Start
-  begun = c .before
+  begun = c .before .before
 
-  cases : Starts (begun .args .critical) (begun .args .weight) (begun .args .ready) (begun .args .takes) (begun .args .deadline)
-      (begun .args .place) (begun .args .count) (begun .args .work .now) (begun .args .pushed .now)
-  cases = starts (begun .args .count) (omega (arith, c .if1 .left)) (begun .pre)
+  cases : Starts (begun .args .job) (begun .args .rate) (begun .args .list) (begun .args .work .now) (begun .args .pushed .now)
+  cases = starts (omega (arith, c .if1 .left)) (begun .pre)
+
+  -- Its ready time, as the code reads it back.
+  ready-back : toZ w32 (ofZ w32 (begun .args .job .ready)) ≡ begun .args .job .ready
+  ready-back = read-back (begun .args .job .ready) (c .before .struct-told .given .1 .0 .1)
 
 -- Its first and last number, as the code reads them back.
 module _ (c : tie.After-last) where
@@ -59,10 +60,10 @@ module _ (c : tie.After-last) where
   start = begun some
 
   abbrev first : ℤ
-  first = at0 (start .args .work .now) (start .args .place)
+  first = at0 (start .args .work .now) (start .args .list .place)
 
   abbrev last : ℤ
-  last = at0 (start .args .work .now) (start .args .place + start .args .count - 1)
+  last = at0 (start .args .work .now) (endOf (start .args .list) - 1)
 
   first-back : toZ w32 (ofZ w32 first) ≡ first
   first-back = read-back first (c .before .first .given)
@@ -87,23 +88,22 @@ module _ (c : tie.After-greater) where
   abbrev entry : tie.Start
   entry = start numbers
 
-  last-start-is : toZ w32 (ofZ w32 (c .before .before .last-start .result)) ≡ entry .args .deadline -ℤ pos (entry .args .takes)
+  last-start-is : toZ w32 (ofZ w32 (c .before .before .last-start .result)) ≡ lastStart (entry .args .job) (entry .args .rate)
   last-start-is =
-      read-back (c .before .before .last-start .result) (c .before .before .last-start .ok)
-      ∙ rw (toZ-ofZ (entry .fits .deadline)) at (c .before .before .last-start .ensures)
+      read-back (c .before .before .last-start .result) (c .before .before .last-start .ok) ∙ c .before .before .last-start .ensures
 
   free-is : toZ w32 (ofZ w32 (c .before .time-in .result)) ≡ pointOf (first numbers) .time
   free-is =
       read-back (c .before .time-in .result) (c .before .time-in .ok)
       ∙ c .before .time-in .ensures ∙ ap (λ (z : ℤ). pointOf z .time) (first-back numbers)
 
-  start-is : toZ w32 (ofZ w32 (c .greater .result)) ≡ maxZ (entry .args .ready) (pointOf (first numbers) .time)
+  start-is : toZ w32 (ofZ w32 (c .greater .result)) ≡ maxZ (entry .args .job .ready) (pointOf (first numbers) .time)
   start-is =
       read-back (c .greater .result) (c .greater .ok)
-      ∙ c .greater .ensures ∙ ap₂ maxZ (toZ-ofZ (entry .fits .ready)) free-is
+      ∙ c .greater .ensures ∙ ap₂ maxZ (ready-back (some numbers)) free-is
 
   test-is : ltZ (toZ w32 (ofZ w32 (c .before .before .last-start .result))) (toZ w32 (ofZ w32 (c .greater .result)))
-      ≡ ltZ (entry .args .deadline -ℤ pos (entry .args .takes)) (maxZ (entry .args .ready) (pointOf (first numbers) .time))
+      ≡ ltZ (lastStart (entry .args .job) (entry .args .rate)) (maxZ (entry .args .job .ready) (pointOf (first numbers) .time))
   test-is = ap₂ ltZ last-start-is start-is
 
 returns-2 : tie.Need-returns-2
@@ -119,8 +119,8 @@ module _ (c : tie.After-time-in2) where
   abbrev past : tie.After-greater
   past = c .before .before
 
-  can-start : ltZ (entry past .args .deadline -ℤ pos (entry past .args .takes))
-      (maxZ (entry past .args .ready) (pointOf (first (numbers past)) .time)) ≡ false
+  can-start : ltZ (lastStart (entry past .args .job) (entry past .args .rate))
+      (maxZ (entry past .args .job .ready) (pointOf (first (numbers past)) .time)) ≡ false
   can-start = sym (test-is past) ∙ c .before .if2 .left
 
   last-time-is : toZ w32 (ofZ w32 (c .time-in2 .result)) ≡ pointOf (last (numbers past)) .time
@@ -128,14 +128,14 @@ module _ (c : tie.After-time-in2) where
       read-back (c .time-in2 .result) (c .time-in2 .ok)
       ∙ c .time-in2 .ensures ∙ ap (λ (z : ℤ). pointOf z .time) (last-back (numbers past))
 
-  early-is : ltZ (toZ w32 (ofZ w32 (c .time-in2 .result))) (toZ w32 (ofZ w32 (entry past .args .ready)))
-      ≡ ltZ (pointOf (last (numbers past)) .time) (entry past .args .ready)
-  early-is = ap₂ ltZ last-time-is (toZ-ofZ (entry past .fits .ready))
+  early-is : ltZ (toZ w32 (ofZ w32 (c .time-in2 .result))) (toZ w32 (ofZ w32 (entry past .args .job .ready)))
+      ≡ ltZ (pointOf (last (numbers past)) .time) (entry past .args .job .ready)
+  early-is = ap₂ ltZ last-time-is (ready-back (some (numbers past)))
 
 add-one-requires : tie.Need-add-one-requires
 add-one-requires c κs =
     let d = c .before .before in
-    rw (toZ-ofZ (entry (past d) .fits .ready)) (cases (some (numbers (past d))) .add)
+    cases (some (numbers (past d))) .add
 
 same-length : tie.Need-same-length
 same-length c = search needs
@@ -143,17 +143,13 @@ same-length c = search needs
 returns-3 : tie.Need-returns-3
 returns-3 c =
     let d = c .before .before .before .before in
-    let s = entry (past d) in
     cases (some (numbers (past d))) .added (can-start d) (sym (early-is d) ∙ c .before .before .before .if3 .taken)
-    (c .before .add-one .result) (c .before .add-one .last .0)
-    (rw (toZ-ofZ (s .fits .ready)) at (c .before .add-one .ensures))
+    (c .before .add-one .result) (c .before .add-one .last .0) (c .before .add-one .ensures)
 
 merge-pushed-requires : tie.Need-merge-pushed-requires
 merge-pushed-requires c κs =
     let d = c .before .before .before in
-    let s = entry (past d) in
-    rw (toZ-ofZ (s .fits .ready), toZ-ofZ (s .fits .deadline))
-    (cases (some (numbers (past d))) .merge (can-start d) (sym (early-is d) ∙ c .before .before .if3 .left))
+    cases (some (numbers (past d))) .merge (can-start d) (sym (early-is d) ∙ c .before .before .if3 .left)
 
 same-length-2 : tie.Need-same-length-2
 same-length-2 c = search needs
@@ -162,9 +158,7 @@ same-length-3 : tie.Need-same-length-3
 same-length-3 c = search needs
 
 returns-4 : tie.Need-returns-4
-returns-4 c =
-    let s = entry (past (c .before .before .before .before .before .before)) in
-    rw (toZ-ofZ (s .fits .ready), toZ-ofZ (s .fits .deadline)) at (c .before .before .merge-pushed .ensures)
+returns-4 c = c .before .before .merge-pushed .ensures
 
 pub step-spec : {M : Type 1} → statement M
 step-spec =
