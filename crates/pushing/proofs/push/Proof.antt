@@ -38,8 +38,8 @@ module _ (d : tie.After-delta-of Inv-loop μ-loop) where
 
   limit-is : limit ≡ limitOf (begun .args .ready)
   limit-is =
-      read-back (d .before .limit-by .result) (d .before .limit-by .ok)
-      ∙ d .before .limit-by .ensures ∙ ap limitOf (toZ-ofZ (begun .fits .ready))
+      let told : d .before .limit-by .result ≡ limitOf (toZ w32 (ofZ w32 (begun .args .ready))) = d .before .limit-by .ensures in
+      read-back (d .before .limit-by .result) (d .before .limit-by .ok) ∙ told ∙ ap limitOf (toZ-ofZ (begun .fits .ready))
 
   abbrev delta : ℤ
   delta = toZ w32 (ofZ w32 (d .delta-of .result))
