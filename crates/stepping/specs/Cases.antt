@@ -32,7 +32,7 @@ use Rattle.pushing.specs.declared.Rate.{Rate}
 use Rattle.pushing.specs.Pushes.{Coded, RateFits, jobRate, deltaOf, waitedAs, pushedAt, CanPush, Pushed}
 use Rattle.pushing.specs.Numbers.{held-coded, waited-code}
 use Rattle.stepping.specs.declared.Terms.{Terms}
-use Rattle.stepping.specs.Stepping.{jobOf, stepped, lastStart, Buffer, CanStep, Stepped, leftOut, CanAdd, withOne, Added, CanMerge}
+use Rattle.stepping.specs.Stepping.{jobOf, stepped, lastStart, Buffer, CanStep, Stepped, leftOut, CanAdd, withOne, Added, CanPushBy, PushedBy, CanMerge}
 
 -- The job's own number does not count.
 pub any-number : (n : ℕ) (job : Terms) (rate : Rate) (ps : List Point)
@@ -225,225 +225,230 @@ module _ {job : Terms} {rate : Rate} {place m : ℕ} {work pushed : List ℤ}
               ends true = omega arith
               ends false = omega arith
 
+      -- ---- the list pushed by the job
+
+      last-free : InFree (lastStart job rate)
+      last-free =
+          let s = g .starts in
+          let e = g .ends in
+          let h = in-time .0 in
+          omega (signed, sub-is (job .deadline) (pos (rate .takes)))
+
+      module _ {end : ℕ} (found : After work place (place + suc m) (limitOf (lastStart job rate)) end) where
+        cuts : Cut (limitOf (lastStart job rate)) work place end list
+        cuts =
+            let e : place + suc m ≡ place + length list = omega (arith, list-length work place (suc m)) in
+            cut end (g .held) (g .rises) (rw e at found)
+
+        -- What the push finds is the list up to the last start,
+        front-is : pointsAt work (frontOf here end) ≡ cuts .front
+        front-is =
+            let e : end - place ≡ length (cuts .front) = omega (arith, cuts .count) in
+            rw e (held-read (cuts .held))
+
+        front-upTo : upToTime (lastStart job rate) list ≡ cuts .front
+        front-upTo =
+            ap (upToTime (lastStart job rate)) (cuts .whole)
+            ∙ upTo-front (lastStart job rate) (cuts .front) (cuts .back) (cut-early last-free cuts) (cut-late last-free cuts)
+
+        -- so what it leaves is the list pushed by the job.
+        pushed-is : pushedAt work (frontOf here end) (job .ready) rate ≡ pushedBy j (jobRate rate) list
+        pushed-is =
+            ap (λ (ps : List Point). allLater (jobRate rate) (whenReady (job .ready) ps)) (front-is ∙ sym front-upTo)
+            ∙ ap (allLater (jobRate rate)) (sym (clip-first (job .ready) (lastStart job rate) (in-time .0) (g .rises)))
+
+        front-in : (p : Point) → In p (cuts .front) → In p list
+        front-in p n = subst (λ (ps : List Point). In p ps) (sym (cuts .whole)) (in-left (cuts .front) n)
+          where
+            in-left : (fs : List Point) → In p fs → In p (fs ++ cuts .back)
+            in-left fs (head e) = head e
+            in-left fs (tail k) = tail (in-left _ k)
+
+        few-points : suc m ≤ 301
+        few-points = omega (
+          arith,
+          rising-short mostWeight (g .rises) (λ p n. held-within (g .held) p n .weight),
+          list-length work place (suc m),
+        )
+
+        pub can-push : CanPush work (frontOf here end) (job .ready) rate pushed
+        can-push = record {
+          few = omega (arith, found .high, few-points);
+          room = omega (arith, found .low, found .high, g .room);
+          held = rw front-is (cuts .held);
+          rises = rw front-is (rising-front (cuts .front) (cuts .back) (rw (cuts .whole) at (g .rises)));
+          starts = g .starts;
+          fits = g .fits;
+          within = rw front-is (λ p n. moves-within p (front-in p n) (cut-early last-free cuts p n));
+          roomPushed = g .buffer .room;
+          past = g .buffer .past;
+        }
+
+        -- The pushed list has a point, since the first of the list is up to the last start,
+        front-some : 1 ≤ length (cuts .front)
+        front-some = go (cuts .front) (cuts .back) (cuts .whole) (cut-late last-free cuts)
+          where
+            go : (fs bs : List Point) → list ≡ fs ++ bs → ((p : Point) → In p bs → (lastStart job rate) <ℤ p .time)
+                → 1 ≤ length fs
+            go [] bs e l =
+                let late = l first (subst (λ (ps : List Point). In first ps) e (head refl)) in
+                absurd (omega (signed, in-time .1))
+            go (p ∷ fs) bs e l = omega arith
+
+        waiting-some : (ps : List Point) → 1 ≤ length ps → 1 ≤ length (allLater (jobRate rate) (whenReady (job .ready) ps))
+        waiting-some [] h = absurd (omega arith)
+        waiting-some (p ∷ ps) h = go p ps
+          where
+            go : (p : Point) (ps : List Point) → 1 ≤ length (allLater (jobRate rate) (waiting (job .ready) p ps))
+            go p [] = omega arith
+            go p (q ∷ qs) = by (leZ (q .time) (job .ready)) (go q qs)
+              where
+                by : (c : Bool) → 1 ≤ length (allLater (jobRate rate) (waiting (job .ready) q qs))
+                    → 1 ≤ length (allLater (jobRate rate) (cond c (waiting (job .ready) q qs) (waited (job .ready) p ∷ q ∷ qs)))
+                by true h = h
+                by false h = omega arith
+
+        pushed-some : 1 ≤ length (pushedAt work (frontOf here end) (job .ready) rate)
+        pushed-some = waiting-some (listAt work place (end - place)) (omega (arith, list-length work place (end - place), cuts .count, front-some))
+
+        -- and no more than the list.
+        pushed-few : length (pushedAt work (frontOf here end) (job .ready) rate) ≤ suc m
+        pushed-few =
+            omega (
+              arith,
+              waiting-few (listAt work place (end - place)),
+              list-length work place (end - place),
+              found .high,
+              found .low,
+            )
+          where
+            waiting-few : (ps : List Point) → length (allLater (jobRate rate) (whenReady (job .ready) ps)) ≤ length ps
+            waiting-few [] = omega arith
+            waiting-few (p ∷ ps) = go p ps
+              where
+                go : (p : Point) (ps : List Point) → length (allLater (jobRate rate) (waiting (job .ready) p ps)) ≤ suc (length ps)
+                go p [] = omega arith
+                go p (q ∷ qs) = by (leZ (q .time) (job .ready)) (go q qs)
+                  where
+                    later-length : (xs : List Point) → length (allLater (jobRate rate) xs) ≡ length xs
+                    later-length [] = refl
+                    later-length (x ∷ xs) = ap suc (later-length xs)
+
+                    by : (c : Bool) → length (allLater (jobRate rate) (waiting (job .ready) q qs)) ≤ suc (length qs)
+                        → length (allLater (jobRate rate) (cond c (waiting (job .ready) q qs) (waited (job .ready) p ∷ q ∷ qs))) ≤ suc (suc (length qs))
+                    by true h = omega (arith, h)
+                    by false h = omega (arith, later-length qs)
+
+        -- So it stands in the buffer.
+        pub pushes-by : {other : Prefix} {pushed′ : List ℤ} → Pushed work (frontOf here end) (job .ready) rate other pushed′
+            → PushedBy job rate here work other pushed′
+        pushes-by {other} {pushed′} p = record {
+          held = subst (λ (ps : List Point). Held pushed′ (other .place) ps) pushed-is (p .held);
+          counted = p .counted ∙ ap length pushed-is;
+          some = omega (arith, p .counted, pushed-some);
+          few = omega (arith, p .counted, pushed-few);
+          ends = p .ends;
+          past = p .past;
+        }
+
       -- ---- case 2
 
-      module _ (not-early : ltZ (last .time) (job .ready) ≡ false) where
-        both-is : stepped job rate list
-            ≡ cond (job .critical) (pushedBy j (jobRate rate) list) (merge belowAll list (pushedBy j (jobRate rate) list))
-        both-is = let t : ltZ (lastOf first (listAt work (suc place) m) .time) (job .ready) ≡ false = rw last-is not-early in
-            rw (can, t)
+      module _ (not-early : ltZ (last .time) (job .ready) ≡ false) {other : Prefix} {pushed′ : List ℤ}
+          (sized : length pushed′ ≡ length pushed) (p : PushedBy job rate here work other pushed′)
+        where
+          abbrev pushedList : List Point
+          pushedList = pushedBy j (jobRate rate) list
 
-        last-free : InFree (lastStart job rate)
-        last-free =
-            let s = g .starts in
-            let e = g .ends in
-            let h = in-time .0 in
-            omega (signed, sub-is (job .deadline) (pos (rate .takes)))
+          both-is : stepped job rate list ≡ cond (job .critical) pushedList (merge belowAll list pushedList)
+          both-is = let t : ltZ (lastOf first (listAt work (suc place) m) .time) (job .ready) ≡ false = rw last-is not-early in
+              rw (can, t)
 
-        module _ {end : ℕ} (found : After work place (place + suc m) (limitOf (lastStart job rate)) end) where
-          cuts : Cut (limitOf (lastStart job rate)) work place end list
-          cuts =
-              let e : place + suc m ≡ place + length list = omega (arith, list-length work place (suc m)) in
-              cut end (g .held) (g .rises) (rw e at found)
+          still : Buffer pushed′
+          still = record { room = omega (arith, sized, g .buffer .room); past = p .past }
 
-          -- What the push finds is the list up to the last start,
-          front-is : pointsAt work (frontOf here end) ≡ cuts .front
-          front-is =
-              let e : end - place ≡ length (cuts .front) = omega (arith, cuts .count) in
-              rw e (held-read (cuts .held))
+          there : pointsAt pushed′ other ≡ pushedList
+          there = ap (listAt pushed′ (other .place)) (p .counted) ∙ held-read (p .held)
 
-          front-upTo : upToTime (lastStart job rate) list ≡ cuts .front
-          front-upTo =
-              ap (upToTime (lastStart job rate)) (cuts .whole)
-              ∙ upTo-front (lastStart job rate) (cuts .front) (cuts .back) (cut-early last-free cuts) (cut-late last-free cuts)
+          pushes-rise : Rising pushedList
+          pushes-rise = push-rises j (jobRate rate) (g .rises)
 
-          -- so what it leaves is the list pushed by the job.
-          pub pushed-is : pushedAt work (frontOf here end) (job .ready) rate ≡ pushedBy j (jobRate rate) list
-          pushed-is =
-              ap (λ (ps : List Point). allLater (jobRate rate) (whenReady (job .ready) ps)) (front-is ∙ sym front-upTo)
-              ∙ ap (allLater (jobRate rate)) (sym (clip-first (job .ready) (lastStart job rate) (in-time .0) (g .rises)))
+          -- Of a critical job the pushed list stands behind the list.
+          pub can-lay : CanLay (endOf here) pushed′ (other .place) (other .count) work
+          can-lay = record { inside = omega (arith, p .ends, still .room); room = omega (arith, p .few, g .room) }
 
-          front-in : (p : Point) → In p (cuts .front) → In p list
-          front-in p n = subst (λ (ps : List Point). In p ps) (sym (cuts .whole)) (in-left (cuts .front) n)
+          module _ (kept : job .critical ≡ true) {after : List ℤ}
+              (l : Laid (endOf here) pushed′ (other .place) (other .count) work after)
             where
-              in-left : (fs : List Point) → In p fs → In p (fs ++ cuts .back)
-              in-left fs (head e) = head e
-              in-left fs (tail k) = tail (in-left _ k)
+              laid-is : stepped job rate list ≡ pushedList
+              laid-is = both-is ∙ ap (λ (c : Bool). cond c pushedList (merge belowAll list pushedList)) kept
 
-          few-points : suc m ≤ 301
-          few-points = omega (
-            arith,
-            rising-short mostWeight (g .rises) (λ p n. held-within (g .held) p n .weight),
-            list-length work place (suc m),
-          )
-
-          pub can-push : CanPush work (frontOf here end) (job .ready) rate pushed
-          can-push = record {
-            few = omega (arith, found .high, few-points);
-            room = omega (arith, found .low, found .high, g .room);
-            held = rw front-is (cuts .held);
-            rises = rw front-is (rising-front (cuts .front) (cuts .back) (rw (cuts .whole) at (g .rises)));
-            starts = g .starts;
-            fits = g .fits;
-            within = rw front-is (λ p n. moves-within p (front-in p n) (cut-early last-free cuts p n));
-            roomPushed = g .buffer .room;
-            past = g .buffer .past;
-          }
-
-          -- The pushed list has a point, since the first of the list is up to the last start,
-          front-some : 1 ≤ length (cuts .front)
-          front-some = go (cuts .front) (cuts .back) (cuts .whole) (cut-late last-free cuts)
-            where
-              go : (fs bs : List Point) → list ≡ fs ++ bs → ((p : Point) → In p bs → (lastStart job rate) <ℤ p .time)
-                  → 1 ≤ length fs
-              go [] bs e l =
-                  let late = l first (subst (λ (ps : List Point). In first ps) e (head refl)) in
-                  absurd (omega (signed, in-time .1))
-              go (p ∷ fs) bs e l = omega arith
-
-          waiting-some : (ps : List Point) → 1 ≤ length ps → 1 ≤ length (allLater (jobRate rate) (whenReady (job .ready) ps))
-          waiting-some [] h = absurd (omega arith)
-          waiting-some (p ∷ ps) h = go p ps
-            where
-              go : (p : Point) (ps : List Point) → 1 ≤ length (allLater (jobRate rate) (waiting (job .ready) p ps))
-              go p [] = omega arith
-              go p (q ∷ qs) = by (leZ (q .time) (job .ready)) (go q qs)
-                where
-                  by : (c : Bool) → 1 ≤ length (allLater (jobRate rate) (waiting (job .ready) q qs))
-                      → 1 ≤ length (allLater (jobRate rate) (cond c (waiting (job .ready) q qs) (waited (job .ready) p ∷ q ∷ qs)))
-                  by true h = h
-                  by false h = omega arith
-
-          pushed-some : 1 ≤ length (pushedAt work (frontOf here end) (job .ready) rate)
-          pushed-some = waiting-some (listAt work place (end - place)) (omega (arith, list-length work place (end - place), cuts .count, front-some))
-
-          -- and no more than the list.
-          pushed-few : length (pushedAt work (frontOf here end) (job .ready) rate) ≤ suc m
-          pushed-few =
-              omega (
-                arith,
-                waiting-few (listAt work place (end - place)),
-                list-length work place (end - place),
-                found .high,
-                found .low,
-              )
-            where
-              waiting-few : (ps : List Point) → length (allLater (jobRate rate) (whenReady (job .ready) ps)) ≤ length ps
-              waiting-few [] = omega arith
-              waiting-few (p ∷ ps) = go p ps
-                where
-                  go : (p : Point) (ps : List Point) → length (allLater (jobRate rate) (waiting (job .ready) p ps)) ≤ suc (length ps)
-                  go p [] = omega arith
-                  go p (q ∷ qs) = by (leZ (q .time) (job .ready)) (go q qs)
-                    where
-                      later-length : (xs : List Point) → length (allLater (jobRate rate) xs) ≡ length xs
-                      later-length [] = refl
-                      later-length (x ∷ xs) = ap suc (later-length xs)
-
-                      by : (c : Bool) → length (allLater (jobRate rate) (waiting (job .ready) q qs)) ≤ suc (length qs)
-                          → length (allLater (jobRate rate) (cond c (waiting (job .ready) q qs) (waited (job .ready) p ∷ q ∷ qs))) ≤ suc (suc (length qs))
-                      by true h = omega (arith, h)
-                      by false h = omega (arith, later-length qs)
-
-          module _ {other : Prefix} {pushed′ : List ℤ} (sized : length pushed′ ≡ length pushed)
-              (p : Pushed work (frontOf here end) (job .ready) rate other pushed′)
-            where
-              still : Buffer pushed′
-              still = record { room = omega (arith, sized, g .buffer .room); past = p .past }
-
-              many-few : (1 ≤ other .count) × (other .count ≤ suc m)
-              many-few = omega (arith, p .counted, pushed-some, pushed-few)
-
-              there : pointsAt pushed′ other ≡ pushedAt work (frontOf here end) (job .ready) rate
-              there = ap (listAt pushed′ (other .place)) (p .counted) ∙ held-read (p .held)
-
-              pushes-rise : Rising (pushedAt work (frontOf here end) (job .ready) rate)
-              pushes-rise = rw pushed-is (push-rises j (jobRate rate) (g .rises))
-
-              -- Of a critical job the pushed list stands behind the list.
-              pub can-lay : CanLay (endOf here) pushed′ (other .place) (other .count) work
-              can-lay =
-                  let h = many-few in
-                  record { inside = omega (arith, p .ends, still .room); room = omega (arith, g .room) }
-
-              module _ (kept : job .critical ≡ true) {after : List ℤ}
-                  (l : Laid (endOf here) pushed′ (other .place) (other .count) work after)
-                where
-                  laid-is : stepped job rate list ≡ pushedAt work (frontOf here end) (job .ready) rate
-                  laid-is =
-                      both-is
-                      ∙ ap (λ (c : Bool). cond c (pushedBy j (jobRate rate) list) (merge belowAll list (pushedBy j (jobRate rate) list))) kept
-                      ∙ sym pushed-is
-
-                  pub laid-stepped : Stepped job rate here work (record { place = endOf here; count = other .count }) after pushed′
-                  laid-stepped =
-                      let h = many-few in
-                      record {
-                        size = l .size;
-                        stays = l .before;
-                        held = rw laid-is (held-copied (endOf here) (p .held) (λ k n. l .laid k (omega (arith, p .counted))));
-                        counted = rw laid-is (p .counted);
-                        further = omega arith;
-                        few = omega arith;
-                        buffer = still;
-                      }
-
-              -- Of any other it is joined with the list as it was.
-              pub can-join : job .critical ≡ false → CanJoin work here pushed′ other
-              can-join free = record {
-                held = g .held;
-                rises = g .rises;
-                some = many-few .0;
-                heldToo = rw there (p .held);
-                risesToo = rw there pushes-rise;
-                past = ap (at0 pushed′) (p .ends) ∙ p .past;
-                inside = omega (arith, p .ends, still .room);
-                room = g .roomMore free;
+              pub laid-stepped : Stepped job rate here work (record { place = endOf here; count = other .count }) after pushed′
+              laid-stepped = record {
+                size = l .size;
+                stays = l .before;
+                held = rw laid-is (held-copied (endOf here) (p .held) (λ k n. l .laid k (omega (arith, p .counted))));
+                counted = rw laid-is (p .counted);
+                further = omega arith;
+                few = omega arith;
+                buffer = still;
               }
 
-              module _ (free : job .critical ≡ false) {r : Prefix} {after : List ℤ} (o : Joined work here pushed′ other r after) where
-                joined-is : stepped job rate list ≡ betterOf list (pointsAt pushed′ other)
-                joined-is =
-                    both-is
-                    ∙ ap (λ (c : Bool). cond c (pushedBy j (jobRate rate) list) (merge belowAll list (pushedBy j (jobRate rate) list))) free
-                    ∙ merge-better (g .rises) (push-rises j (jobRate rate) (g .rises))
-                    ∙ ap (betterOf list) (sym (there ∙ pushed-is))
+          -- Of any other it is joined with the list as it was.
+          pub can-join : job .critical ≡ false → CanJoin work here pushed′ other
+          can-join free = record {
+            held = g .held;
+            rises = g .rises;
+            some = p .some;
+            heldToo = rw there (p .held);
+            risesToo = rw there pushes-rise;
+            past = ap (at0 pushed′) (p .ends) ∙ p .past;
+            inside = omega (arith, p .ends, still .room);
+            room = g .roomMore free;
+          }
 
-                pub joined-stepped : Stepped job rate here work r after pushed′
-                joined-stepped =
-                    let one : _≡_ {A = ℕ} (cond (job .critical) 0 1) 1 = ap (λ (c : Bool). cond c 0 1) free in
-                    record {
-                      size = o .size;
-                      stays = o .stays;
-                      held = rw joined-is (o .held);
-                      counted = rw joined-is (o .counted);
-                      further = omega (arith, o .behind);
-                      few = omega (arith, o .behind);
-                      buffer = still;
-                    }
+          module _ (free : job .critical ≡ false) {r : Prefix} {after : List ℤ} (o : Joined work here pushed′ other r after) where
+            joined-is : stepped job rate list ≡ betterOf list (pointsAt pushed′ other)
+            joined-is =
+                both-is
+                ∙ ap (λ (c : Bool). cond c pushedList (merge belowAll list pushedList)) free
+                ∙ merge-better (g .rises) pushes-rise ∙ ap (betterOf list) (sym there)
+
+            pub joined-stepped : Stepped job rate here work r after pushed′
+            joined-stepped =
+                let one : _≡_ {A = ℕ} (cond (job .critical) 0 1) 1 = ap (λ (c : Bool). cond c 0 1) free in
+                record {
+                  size = o .size;
+                  stays = o .stays;
+                  held = rw joined-is (o .held);
+                  counted = rw joined-is (o .counted);
+                  further = omega (arith, o .behind);
+                  few = omega (arith, o .behind);
+                  buffer = still;
+                }
 
 -- ---- the cases told by any list
 
--- Case 2, as the code does it: the points up to the last start are found and pushed; then they are laid behind the list, or
--- joined with it.
-pub record Merges (job : Terms) (rate : Rate) (list : Prefix) (work pushed : List ℤ) : Type 0 where
+-- The list pushed by a job, as the code makes it: the points up to the last start are found and pushed.
+pub record PushesBy (job : Terms) (rate : Rate) (list : Prefix) (work pushed : List ℤ) : Type 0 where
   pub last : InFree (lastStart job rate)
   pub push : (end : ℕ) → After work (list .place) (endOf list) (limitOf (lastStart job rate)) end
       → CanPush work (frontOf list end) (job .ready) rate pushed
-  pub lay : (end : ℕ) (other : Prefix) (pushed′ : List ℤ) → After work (list .place) (endOf list) (limitOf (lastStart job rate)) end
-      → length pushed′ ≡ length pushed → Pushed work (frontOf list end) (job .ready) rate other pushed′
+  pub gives : (end : ℕ) (other : Prefix) (pushed′ : List ℤ)
+      → After work (list .place) (endOf list) (limitOf (lastStart job rate)) end
+      → Pushed work (frontOf list end) (job .ready) rate other pushed′ → PushedBy job rate list work other pushed′
+
+-- Case 2, as the code does it: the pushed list is laid behind the list, or joined with it.
+pub record Merges (job : Terms) (rate : Rate) (list : Prefix) (work pushed : List ℤ) : Type 0 where
+  pub lay : (other : Prefix) (pushed′ : List ℤ) → length pushed′ ≡ length pushed → PushedBy job rate list work other pushed′
       → CanLay (endOf list) pushed′ (other .place) (other .count) work
-  pub laid : (end : ℕ) (other : Prefix) (pushed′ after : List ℤ)
-      → After work (list .place) (endOf list) (limitOf (lastStart job rate)) end → length pushed′ ≡ length pushed
-      → Pushed work (frontOf list end) (job .ready) rate other pushed′ → job .critical ≡ true
+  pub laid : (other : Prefix) (pushed′ after : List ℤ) → length pushed′ ≡ length pushed
+      → PushedBy job rate list work other pushed′ → job .critical ≡ true
       → Laid (endOf list) pushed′ (other .place) (other .count) work after
       → Stepped job rate list work (record { place = endOf list; count = other .count }) after pushed′
-  pub join : (end : ℕ) (other : Prefix) (pushed′ : List ℤ) → After work (list .place) (endOf list) (limitOf (lastStart job rate)) end
-      → length pushed′ ≡ length pushed → Pushed work (frontOf list end) (job .ready) rate other pushed′
+  pub join : (other : Prefix) (pushed′ : List ℤ) → length pushed′ ≡ length pushed → PushedBy job rate list work other pushed′
       → job .critical ≡ false → CanJoin work list pushed′ other
-  pub joined : (end : ℕ) (other r : Prefix) (pushed′ after : List ℤ)
-      → After work (list .place) (endOf list) (limitOf (lastStart job rate)) end → length pushed′ ≡ length pushed
-      → Pushed work (frontOf list end) (job .ready) rate other pushed′ → job .critical ≡ false → Joined work list pushed′ other r after
+  pub joined : (other r : Prefix) (pushed′ after : List ℤ) → length pushed′ ≡ length pushed
+      → PushedBy job rate list work other pushed′ → job .critical ≡ false → Joined work list pushed′ other r after
       → Stepped job rate list work r after pushed′
 
 -- The cases of a list that has a point: what the tests read, and what each case asks and gives.
@@ -460,20 +465,33 @@ pub record Starts (job : Terms) (rate : Rate) (list : Prefix) (work pushed : Lis
       → ltZ (pointOf (at0 work (endOf list - 1)) .time) (job .ready) ≡ false → CanMerge job rate list work pushed
 
 module _ {job : Terms} {rate : Rate} {work pushed : List ℤ} where
+  pushes-at : (place count : ℕ) → CanPushBy job rate (record { place = place; count = count }) work pushed
+      → PushesBy job rate (record { place = place; count = count }) work pushed
+  pushes-at place zero c = absurd (omega (arith, c .some))
+  pushes-at place (suc m) c =
+      let g = c .step in
+      record {
+        last = last-free g (c .can);
+        push = λ end a. can-push g (c .can) a;
+        gives = λ end other pushed′ a p. pushes-by g (c .can) a p;
+      }
+
+  pub pushes : {list : Prefix} → CanPushBy job rate list work pushed → PushesBy job rate list work pushed
+  pushes {list} c = pushes-at (list .place) (list .count) c
+
   merges-at : (place count : ℕ) → CanMerge job rate (record { place = place; count = count }) work pushed
       → Merges job rate (record { place = place; count = count }) work pushed
-  merges-at place zero c = absurd (omega (arith, c .some))
+  merges-at place zero c = absurd (omega (arith, c .push .some))
   merges-at place (suc m) c =
-      let g = c .step in
+      let g = c .push .step in
+      let can = c .push .can in
       let at-last : place + suc m - 1 ≡ place + m = omega arith in
       let late : ltZ (pointOf (at0 work (place + m)) .time) (job .ready) ≡ false = rw at-last at (c .late) in
       record {
-        last = last-free g (c .can) late;
-        push = λ end a. can-push g (c .can) late a;
-        lay = λ end other pushed′ a s p. can-lay g (c .can) late a s p;
-        laid = λ end other pushed′ after a s p k l. laid-stepped g (c .can) late a s p k l;
-        join = λ end other pushed′ a s p f. can-join g (c .can) late a s p f;
-        joined = λ end other r pushed′ after a s p f o. joined-stepped g (c .can) late a s p f o;
+        lay = λ other pushed′ s p. can-lay g can late s p;
+        laid = λ other pushed′ after s p k l. laid-stepped g can late s p k l;
+        join = λ other pushed′ s p f. can-join g can late s p f;
+        joined = λ other r pushed′ after s p f o. joined-stepped g can late s p f o;
       }
 
   pub merges : {list : Prefix} → CanMerge job rate list work pushed → Merges job rate list work pushed
@@ -515,7 +533,7 @@ module _ {job : Terms} {rate : Rate} {work pushed : List ℤ} where
             ≡ waitedAs (job .ready) (deltaOf rate) (at0 work (place + m)) =
             ap (λ (k : ℕ). waitedAs (job .ready) (deltaOf rate) (at0 work k)) at-last in
             rw (a .told, a .written) (more-stepped g can soon _ is);
-        merge = λ can late. record { step = g; some = h; can = can; late = late };
+        merge = λ can late. record { push = record { step = g; some = h; can = can }; late = late };
       }
 
   pub starts : {list : Prefix} → 1 ≤ list .count → CanStep job rate list work pushed → Starts job rate list work pushed

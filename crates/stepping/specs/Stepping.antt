@@ -10,7 +10,7 @@ use Rattle.seconds.specs.Limits.{longest, mostWeight}
 use Rattle.seconds.specs.Ranges.{InTime}
 use Rattle.order.specs.Job.{Job, oneRate, Point}
 use Rattle.profile.specs.Rising.{Rising}
-use Rattle.points.specs.Steps.{tooLate, stepBy}
+use Rattle.points.specs.Steps.{pushedBy, tooLate, stepBy}
 use Rattle.codes.specs.declared.Prefix.{Prefix}
 use Rattle.codes.specs.Code.{pointOf, pastAll, at0, pointsAt, endOf}
 use Rattle.codes.specs.Held.{Held}
@@ -86,9 +86,22 @@ pub record Added (job : Terms) (rate : Rate) (list : Prefix) (work : List ℤ) (
   pub told : r ≡ withOne (job .critical) list
   pub written : work′ ≡ set work (endOf list) (waitedAs (job .ready) (deltaOf rate) (at0 work (endOf list - 1)))
 
--- Case 2: the list has a point, the job can start from it, and the last point is not before the job is ready.
-pub record CanMerge (job : Terms) (rate : Rate) (list : Prefix) (work pushed : List ℤ) : Type 0 where
+-- The list can be pushed by the job: it has a point, and the job can start from it.
+pub record CanPushBy (job : Terms) (rate : Rate) (list : Prefix) (work pushed : List ℤ) : Type 0 where
   pub step : CanStep job rate list work pushed
   pub some : 1 ≤ list .count
   pub can : tooLate (jobOf job rate) (jobRate rate) (pointOf (at0 work (list .place))) ≡ false
+
+-- The list pushed by the job at the rate stands before the top of the buffer; it has a point, and no more than the list.
+pub record PushedBy (job : Terms) (rate : Rate) (list : Prefix) (work : List ℤ) (r : Prefix) (pushed : List ℤ) : Type 0 where
+  pub held : Held pushed (r .place) (pushedBy (jobOf job rate) (jobRate rate) (pointsAt work list))
+  pub counted : r .count ≡ length (pushedBy (jobOf job rate) (jobRate rate) (pointsAt work list))
+  pub some : 1 ≤ r .count
+  pub few : r .count ≤ list .count
+  pub ends : endOf r ≡ top
+  pub past : at0 pushed top ≡ pastAll
+
+-- Case 2: it can be pushed, and its last point is not before the job is ready.
+pub record CanMerge (job : Terms) (rate : Rate) (list : Prefix) (work pushed : List ℤ) : Type 0 where
+  pub push : CanPushBy job rate list work pushed
   pub late : ltZ (pointOf (at0 work (endOf list - 1)) .time) (job .ready) ≡ false

@@ -12,7 +12,7 @@ use pushing::delta_of;
 use pushing::push;
 use pushing::waits;
 ghost use mathlib.Core.Path.{_≡_};
-ghost use Rattle.stepping.specs.Stepping.{CanEnd, lastStart, leftOut, CanAdd, Added, CanMerge, CanStep, Stepped};
+ghost use Rattle.stepping.specs.Stepping.{CanEnd, lastStart, leftOut, CanAdd, Added, CanPushBy, PushedBy, CanMerge, CanStep, Stepped};
 
 // On what terms a job runs, at whichever rate: whether it must, from when on, and by when it must be done.
 pub struct Terms {
@@ -63,6 +63,21 @@ fn add_one(work: &mut [i32], list: Prefix, job: Terms, rate: Rate) -> Prefix
     }
 }
 
+// The list pushed by a job at one rate: its points up to the last start, pushed.
+fn push_by(work: &[i32], list: Prefix, job: Terms, rate: Rate, pushed: &mut [i32]) -> Prefix
+    requires { ⌜ CanPushBy job rate list (now work) (now pushed) ⌝ }
+    ensures { λ r. ⌜ PushedBy job rate list (now (work .entry)) r (now (pushed .exit)) ⌝ }
+{
+    let place = list.place;
+    let used = place + list.count;
+    let end = after(work, place, used, limit_by(last_start(job, rate)));
+    let front = Prefix {
+        place: place,
+        count: end - place,
+    };
+    push(work, front, job.ready, rate, pushed)
+}
+
 // Case 2: the list pushed by the job, and where the job is not critical merged with the list as it was.
 fn merge_pushed(
     work: &mut [i32],
@@ -75,12 +90,7 @@ fn merge_pushed(
     ensures { λ r. ⌜ Stepped job rate list (now (work .entry)) r (now (work .exit)) (now (pushed .exit)) ⌝ }
 {
     let used = list.place + list.count;
-    let end = after(work, list.place, used, limit_by(last_start(job, rate)));
-    let front = Prefix {
-        place: list.place,
-        count: end - list.place,
-    };
-    let other = push(work, front, job.ready, rate, pushed);
+    let other = push_by(work, list, job, rate, pushed);
     if job.critical {
         lay(work, used, pushed, other.place, other.count);
         return Prefix {
