@@ -8,7 +8,7 @@ use std::io::Read;
 fn main() -> Result<(), Box<dyn Error>> {
     let mut bytes = Vec::new();
     std::io::stdin().read_to_end(&mut bytes)?;
-    let order = Order::try_from(&bytes[..])?;
+    let order = Order::try_from(&bytes)?;
     let plan = order.plan(&mut WorkArea::boxed())?;
 
     println!(

@@ -5,6 +5,7 @@
 
 use leafanchor::calls::PlanAnswer;
 use leafanchor::{LEFT_OUT, MOST_JOBS, WORK_AREA};
+use trials::answer;
 
 /// Cells of a row.
 const ROW: usize = 301;
@@ -33,7 +34,7 @@ struct Order {
 
 /// Plans an order: the same call as the library's.
 pub fn plan(bytes: &[u8], starts: &mut [i32], work: &mut [i32]) -> PlanAnswer {
-    let refused = |refusal, place, field| PlanAnswer { refusal, place, field, ..Default::default() };
+    let refused = |refusal, place, field| answer!(PlanAnswer { refusal, place, field });
     let order = match judged(bytes) {
         Ok(order) => order,
         Err((number, place, field)) => return refused(number, place, field),
@@ -51,15 +52,14 @@ pub fn plan(bytes: &[u8], starts: &mut [i32], work: &mut [i32]) -> PlanAnswer {
             let bus_free = last[weight];
             let mask = walk_back(jobs, work, weight, bus_free);
             write_starts(order.t0, jobs, mask, starts);
-            PlanAnswer {
+            answer!(PlanAnswer {
                 mask,
                 kept: mask.count_ones(),
                 kept_weight: weight as u32,
                 lost_weight: (top - weight) as u32,
                 finish: bus_free,
-                points,
-                ..Default::default()
-            }
+                points
+            })
         }
     };
     work.fill(0);

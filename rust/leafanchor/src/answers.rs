@@ -16,6 +16,7 @@ macro_rules! answers {
         $(
             $(#[$about])*
             #[repr(C)]
+            #[non_exhaustive]
             #[derive(Clone, Copy, Debug, Default, PartialEq, Eq)]
             #[must_use]
             pub struct $name {
@@ -36,10 +37,10 @@ macro_rules! answers {
                 /// The answer, if it is not a refusal.
                 ///
                 /// # Errors
-                /// The refusal by its name. Of an answer that tells no place the place is 0, whichever job it is.
+                /// The refusal by its name, with a place where the answer tells one.
                 pub fn accepted(self) -> Result<Self, Refusal> {
-                    // The place and the field where there is one, else 0.
-                    let place = [$(self.$place,)? 0][0];
+                    // What the answer has, else none and 0.
+                    let place = [$(Some(self.$place),)? None][0];
                     let field = [$(self.$field,)? 0][0];
                     Refusal::check(self.refusal, place, field).map(|()| self)
                 }
@@ -80,7 +81,7 @@ answers! {
         /// 1 for a critical job, else 0.
         critical: i32,
         /// Its weight.
-        weight: i32,
+        weight: u32,
         /// Its ready time.
         ready: i32,
         /// Its length.
@@ -224,8 +225,8 @@ impl LookupAnswer {
 pub struct Point {
     /// A bus-free time, -100,000 to 100,015: 15 seconds after a job's finish where one is kept.
     pub time: i32,
-    /// The weight kept.
-    pub weight: i32,
+    /// The weight kept, 0 to 300.
+    pub weight: u32,
 }
 
 impl fmt::Display for Point {

@@ -2,7 +2,7 @@
 
 use core::fmt;
 
-/// Declares every field once: its figure, its name and a word for a person.
+/// Declares every field once, in the words of include/phrases.txt: its figure, its name and a word for a person.
 macro_rules! fields {
     ($($figure:literal $name:ident $word:literal,)*) => {
         /// A field of a job that is out of range. Of several the first is told, in the order of a packed record,
@@ -13,7 +13,8 @@ macro_rules! fields {
         /// ```
         /// use leafanchor::{Field, Job, Order, ORDER_BYTES};
         ///
-        /// let jobs = [Job::critical(1, 0, 10, 10), Job::critical(2, 0, 10_001, 100_001)];
+        /// let good = Job::critical(1).ready(0).length(10).deadline(10);
+        /// let jobs = [good, Job::critical(2).ready(0).length(10_001).deadline(100_001)];
         /// let refusal = Order::pack(0, &jobs, &mut [0; ORDER_BYTES]).unwrap_err();
         /// assert_eq!(refusal.field(), Some(Field::Length));
         /// assert_eq!(refusal.to_string(), "job at place 1: length out of range");

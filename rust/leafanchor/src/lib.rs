@@ -5,8 +5,8 @@
 //! gives its jobs, its [`Plan`] and its [`Profile`], and where its checks are split into halves its
 //! [`HalvesPlan`]; profiles are extended, joined and looked up. It writes its plan in packed bytes, and says of
 //! another planner's bytes whether that plan is legal and whether it is best. Whatever is not in order is a
-//! [`Refusal`]. Nothing here allocates but [`WorkArea::boxed`]; planning works in the caller's [`WorkArea`]. Times
-//! are whole signed seconds.
+//! [`Refusal`]. Nothing here allocates but [`WorkArea::boxed`] and [`OrderBuf`], an order that owns its bytes; planning
+//! works in the caller's [`WorkArea`]. Times are whole signed seconds, and weights are `u32` in every type.
 //!
 //! A job's finish is its start plus its length. The contactor rests 15 seconds after every job: the bus is
 //! free 15 seconds after the finish, and the next job kept starts then at the earliest. A deadline binds the
@@ -15,18 +15,16 @@
 //! ```
 //! use leafanchor::{Job, Order, WorkArea, ORDER_BYTES};
 //!
-//! let jobs = [Job::critical(7, -600, 495, 0), Job::optional(3, 20, -200, 300, 250)];
+//! let jobs = [
+//!     Job::critical(7).ready(-600).length(495).deadline(0),
+//!     Job::optional(3).weight(20).ready(-200).length(300).deadline(250),
+//! ];
 //! let mut room = [0; ORDER_BYTES];
 //! let order = Order::pack(-600, &jobs, &mut room)?; // or Order::try_from(bytes)?
 //!
 //! let mut work = WorkArea::new();
 //! let plan = order.plan(&mut work)?;
-//! for (job, start) in order.jobs().zip(plan.starts()) {
-//!     match start {
-//!         Some(start) => println!("{start}: {job}"),
-//!         None => println!("left out: {job}"),
-//!     }
-//! }
+//! println!("{plan}");
 //! assert!(plan.starts().eq([Some(-600), Some(-90)])); // the first ends at -105, and the contactor rests
 //! assert_eq!(plan.finish, 225); // the second ends at 210
 //! assert_eq!(order.profile(&mut work).to_string(), "(-90, 0), (225, 20)");
@@ -35,8 +33,8 @@
 //!
 //! docs/RULES.md has the exact rules; `R7` here cites one of them.
 //!
-//! Features: `alloc` (a work area on the heap) and `std` (a refusal is a `std::error::Error`), both on unless
-//! default features are off.
+//! Features: `alloc` (an order that owns its bytes, a work area on the heap) and `std` (a refusal is a
+//! `std::error::Error`), both on unless default features are off.
 
 #![no_std]
 #![deny(missing_docs)]
@@ -53,6 +51,8 @@ mod field;
 mod job;
 mod openings;
 mod order;
+#[cfg(feature = "alloc")]
+mod order_buf;
 mod packed_plan;
 mod plan;
 mod profile;
@@ -65,6 +65,8 @@ pub use field::Field;
 pub use job::Job;
 pub use openings::{choose, choose_by, question, question_by, Opening, Tie, Winner};
 pub use order::Order;
+#[cfg(feature = "alloc")]
+pub use order_buf::OrderBuf;
 pub use packed_plan::PackedPlan;
 pub use plan::{HalvesPlan, KeptPlaces, Plan};
 pub use profile::Profile;
@@ -76,7 +78,7 @@ pub use work::WorkArea;
 /// numbers, and answer in figures as in C (R25 to R30). `accepted` turns an answer into a [`Result`].
 ///
 /// A refusal writes nothing, save that 11 leaves the work area cleared. What lies past the part that a call
-/// writes stays as it was.
+/// writes stays as it was. Later versions may add figures to an answer.
 ///
 /// ```
 /// use leafanchor::{calls, MOST_JOBS, WORK_AREA};

@@ -24,7 +24,8 @@ impl Opening {
     }
 }
 
-/// The opening that won.
+/// The opening that won. Later versions may tell more of it.
+#[non_exhaustive]
 #[derive(Clone, Copy, Debug, PartialEq, Eq, Hash)]
 #[must_use]
 pub struct Winner<'a> {
@@ -97,8 +98,9 @@ pub fn choose<'a>(
 /// use leafanchor::{choose, choose_by, Job, Opening, Order, Tie, WorkArea, ORDER_BYTES};
 ///
 /// let (mut slow, mut quick) = ([0; ORDER_BYTES], [0; ORDER_BYTES]);
-/// let slow = Order::pack(0, &[Job::optional(1, 10, 0, 10, 10)], &mut slow)?;
-/// let quick = Order::pack(0, &[Job::optional(1, 10, 0, 5, 10)], &mut quick)?;
+/// let job = Job::optional(1).weight(10).ready(0).deadline(10);
+/// let slow = Order::pack(0, &[job.length(10)], &mut slow)?;
+/// let quick = Order::pack(0, &[job.length(5)], &mut quick)?;
 /// let mut work = WorkArea::new();
 ///
 /// // The bus is free at 25 after the slow one, at 20 after the quick one: at 24 the quick one alone has weight 10.

@@ -8,23 +8,29 @@ use crate::profile::Profile;
 use crate::refusal::Refusal;
 use crate::work::WorkArea;
 use crate::{HEADER_BYTES, JOB_NUMBERS, MOST_JOBS, ORDER_NUMBERS};
+use core::fmt;
 
 /// A packed order that passed every check of an order, over the caller's bytes.
 ///
 /// The proved library judges the bytes once, in `try_from`, with the refusals 1 to 7 and 9, their places and the
 /// field of 6. No call refuses an `Order` for any of these again, save that [`Profile::extended`] adds the weight
-/// that the profile brings.
+/// that the profile brings. With the feature `alloc` an [`OrderBuf`](crate::OrderBuf) owns its bytes.
 ///
 /// ```
 /// use leafanchor::{Job, Order};
 ///
 /// # let bytes = [0x07, 0xFD, 0xA8, 0, 0x1E, 0x03, 0xFD, 0xA8, 0x07, 0xBC, 0, 0];
-/// let order = Order::try_from(&bytes[..])?;
+/// let order = Order::try_from(&bytes)?;
 /// assert_eq!((order.t0(), order.count()), (-600, 1));
-/// assert_eq!(order.jobs().next(), Some(Job::critical(7, -600, 495, 0)));
+/// assert_eq!(order.jobs().next(), Some(Job::critical(7).ready(-600).length(495).deadline(0)));
+/// assert_eq!(
+///     order.to_string(),
+///     "bus free at -600\n\
+///      job 7: critical, ready -600, length 495, deadline 0"
+/// );
 /// # Ok::<(), leafanchor::Refusal>(())
 /// ```
-#[derive(Clone, Copy, Debug, PartialEq, Eq, Hash)]
+#[derive(Clone, Copy, PartialEq, Eq, Hash)]
 #[must_use]
 pub struct Order<'a> {
     bytes: &'a [u8],
@@ -40,6 +46,25 @@ impl<'a> TryFrom<&'a [u8]> for Order<'a> {
         let mut numbers = [0; ORDER_NUMBERS];
         let answer = calls::unpack(bytes, &mut numbers).accepted()?;
         Ok(Order { bytes, t0: answer.t0, count: answer.jobs })
+    }
+}
+
+impl<'a, const N: usize> TryFrom<&'a [u8; N]> for Order<'a> {
+    type Error = Refusal;
+
+    /// Checks packed bytes.
+    fn try_from(bytes: &'a [u8; N]) -> Result<Self, Refusal> {
+        Order::try_from(&bytes[..])
+    }
+}
+
+#[cfg(feature = "alloc")]
+impl<'a> TryFrom<&'a alloc::vec::Vec<u8>> for Order<'a> {
+    type Error = Refusal;
+
+    /// Checks packed bytes.
+    fn try_from(bytes: &'a alloc::vec::Vec<u8>) -> Result<Self, Refusal> {
+        Order::try_from(&bytes[..])
     }
 }
 
@@ -59,6 +84,12 @@ impl<'a> Order<'a> {
         }
         let answer = calls::pack(t0, &numbers[..length], room).accepted()?;
         Ok(Order { bytes: &room[..answer.bytes], t0, count: jobs.len() })
+    }
+
+    /// The order in bytes that were checked before, with the bus-free time and the number of jobs that they hold.
+    #[cfg(feature = "alloc")]
+    pub(crate) const fn checked(bytes: &'a [u8], t0: i32, count: usize) -> Self {
+        Order { bytes, t0, count }
     }
 
     /// The packed bytes, header first.
@@ -148,5 +179,38 @@ impl<'a> Order<'a> {
     /// As for [`is_legal`](Order::is_legal).
     pub fn is_best(self, plan: &[u8], work: &mut WorkArea) -> Result<bool, Refusal> {
         Ok(calls::best(self.bytes, plan, work.numbers()).accepted()?.yes == 1)
+    }
+}
+
+impl AsRef<[u8]> for Order<'_> {
+    /// The packed bytes, header first.
+    fn as_ref(&self) -> &[u8] {
+        self.bytes
+    }
+}
+
+impl fmt::Display for Order<'_> {
+    /// The bus-free time, then one job a line.
+    fn fmt(&self, f: &mut fmt::Formatter<'_>) -> fmt::Result {
+        write!(f, "bus free at {}", self.t0)?;
+        self.jobs().try_for_each(|job| write!(f, "\n{job}"))
+    }
+}
+
+impl fmt::Debug for Order<'_> {
+    fn fmt(&self, f: &mut fmt::Formatter<'_>) -> fmt::Result {
+        f.debug_struct("Order").field("t0", &self.t0).field("jobs", &List(self.jobs())).finish()
+    }
+}
+
+/// What an iterator gives, shown as a list.
+pub(crate) struct List<I>(pub I);
+
+impl<I: Iterator + Clone> fmt::Debug for List<I>
+where
+    I::Item: fmt::Debug,
+{
+    fn fmt(&self, f: &mut fmt::Formatter<'_>) -> fmt::Result {
+        f.debug_list().entries(self.0.clone()).finish()
     }
 }

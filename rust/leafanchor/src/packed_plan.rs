@@ -15,7 +15,10 @@ use core::ops::Deref;
 /// use leafanchor::{Job, Order, WorkArea, ORDER_BYTES};
 ///
 /// // Two jobs want the bus at once: the first is kept, which weighs more.
-/// let jobs = [Job::optional(4, 10, 0, 10, 10), Job::optional(9, 9, 0, 10, 12)];
+/// let jobs = [
+///     Job::optional(4).weight(10).ready(0).length(10).deadline(10),
+///     Job::optional(9).weight(9).ready(0).length(10).deadline(12),
+/// ];
 /// let (mut room, mut work) = ([0; ORDER_BYTES], WorkArea::new());
 /// let order = Order::pack(0, &jobs, &mut room)?;
 ///

@@ -1,28 +1,35 @@
 //! The plan that loses the least weight (R7 to R10), and that of an order of halves (R34, R35).
 
 use crate::calls::{self, PlanAnswer};
-use crate::order::Order;
+use crate::order::{List, Order};
 use crate::refusal::Refusal;
 use crate::work::WorkArea;
 use crate::{LEFT_OUT, MOST_JOBS};
+use core::fmt;
 use core::iter::FusedIterator;
 use core::ops::Deref;
 
-/// The plan of an order: its figures, and for each job its start or none.
+/// The plan of an order: its figures, and for each job its start or none. Later versions may add figures.
 ///
 /// ```
 /// use leafanchor::{Job, Order, WorkArea, ORDER_BYTES};
 ///
 /// // Two jobs want the bus from 0 to 10: the first is kept.
-/// let jobs = [Job::optional(4, 10, 0, 10, 10), Job::optional(9, 10, 0, 10, 10)];
+/// let jobs = [4, 9].map(|number| Job::optional(number).weight(10).ready(0).length(10).deadline(10));
 /// let mut room = [0; ORDER_BYTES];
 /// let plan = Order::pack(0, &jobs, &mut room)?.plan(&mut WorkArea::new())?;
 /// assert_eq!((plan.kept_weight, plan.lost_weight, plan.finish), (10, 10, 25));
 /// assert!(plan.starts().eq([Some(0), None]));
 /// assert!(plan.kept_places().eq([0]));
+/// assert_eq!(
+///     plan.to_string(),
+///     "job 4: start 0\n\
+///      job 9: left out\n\
+///      1 of 2 jobs kept; weight 10 kept, 10 lost; bus free at 25"
+/// );
 /// # Ok::<(), leafanchor::Refusal>(())
 /// ```
-#[derive(Clone, Copy, Debug, PartialEq, Eq, Hash)]
+#[derive(Clone, Copy, PartialEq, Eq, Hash)]
 #[must_use]
 pub struct Plan {
     /// The jobs kept, the highest bit for place 0.
@@ -39,6 +46,8 @@ pub struct Plan {
     /// The points in the profiles of the order's prefixes, together.
     pub points: u32,
     jobs: usize,
+    /// The jobs' numbers, which are below 64, and their starts; 0 behind the last of them.
+    numbers: [u8; MOST_JOBS],
     starts: [i32; MOST_JOBS],
 }
 
@@ -52,6 +61,10 @@ impl Plan {
 
     /// The plan that an accepted answer and the starts beside it tell.
     fn told(order: Order<'_>, answer: PlanAnswer, starts: [i32; MOST_JOBS]) -> Self {
+        let mut numbers = [0; MOST_JOBS];
+        for (number, job) in numbers.iter_mut().zip(order.jobs()) {
+            *number = job.number as u8;
+        }
         Plan {
             mask: answer.mask,
             kept: answer.kept,
@@ -60,6 +73,7 @@ impl Plan {
             finish: answer.finish,
             points: answer.points,
             jobs: order.count(),
+            numbers,
             starts,
         }
     }
@@ -89,6 +103,39 @@ impl Plan {
     }
 }
 
+impl fmt::Display for Plan {
+    /// One job a line, in the order's sequence, then the jobs and the weight kept, the weight lost and when the bus is
+    /// free.
+    fn fmt(&self, f: &mut fmt::Formatter<'_>) -> fmt::Result {
+        for (number, start) in self.numbers.iter().zip(self.starts()) {
+            match start {
+                Some(start) => writeln!(f, "job {number}: start {start}")?,
+                None => writeln!(f, "job {number}: left out")?,
+            }
+        }
+        let Plan { kept, jobs, kept_weight, lost_weight, finish, .. } = self;
+        write!(
+            f,
+            "{kept} of {jobs} jobs kept; weight {kept_weight} kept, {lost_weight} lost; bus free at {finish}"
+        )
+    }
+}
+
+impl fmt::Debug for Plan {
+    fn fmt(&self, f: &mut fmt::Formatter<'_>) -> fmt::Result {
+        f.debug_struct("Plan")
+            .field("mask", &format_args!("{:#x}", self.mask))
+            .field("kept", &self.kept)
+            .field("kept_weight", &self.kept_weight)
+            .field("lost_weight", &self.lost_weight)
+            .field("finish", &self.finish)
+            .field("points", &self.points)
+            .field("numbers", &&self.numbers[..self.jobs])
+            .field("starts", &List(self.starts()))
+            .finish()
+    }
+}
+
 /// The plan of an order of halves: all that a [`Plan`] gives, and the optional seconds lost.
 ///
 /// ```
@@ -96,15 +143,16 @@ impl Plan {
 ///
 /// // Check 4, whose optional half is job 36, and check 9, whose optional half is job 41: a minute a weight.
 /// let jobs = [
-///     Job::critical(4, -900, 300, -300),
-///     Job::optional(36, 5, -900, 300, 0),
-///     Job::critical(9, -900, 200, 0),
-///     Job::optional(41, 8, -900, 480, 300),
+///     Job::critical(4).ready(-900).length(300).deadline(-300),
+///     Job::optional(36).weight(5).ready(-900).length(300).deadline(0),
+///     Job::critical(9).ready(-900).length(200).deadline(0),
+///     Job::optional(41).weight(8).ready(-900).length(480).deadline(300),
 /// ];
 /// let mut room = [0; ORDER_BYTES];
 /// let plan = Order::pack(-900, &jobs, &mut room)?.plan_halves(&mut WorkArea::new())?;
 /// assert!(plan.starts().eq([Some(-900), None, Some(-585), Some(-370)]));
 /// assert_eq!((plan.lost_weight, plan.seconds_lost(), plan.finish), (5, 300, 125));
+/// assert!(plan.to_string().ends_with("bus free at 125; 300 optional seconds lost"));
 /// # Ok::<(), leafanchor::Refusal>(())
 /// ```
 #[derive(Clone, Copy, Debug, PartialEq, Eq, Hash)]
@@ -126,6 +174,13 @@ impl HalvesPlan {
     #[must_use]
     pub const fn seconds_lost(&self) -> u32 {
         self.seconds_lost
+    }
+}
+
+impl fmt::Display for HalvesPlan {
+    /// As for [`Plan`], with the optional seconds lost at the end.
+    fn fmt(&self, f: &mut fmt::Formatter<'_>) -> fmt::Result {
+        write!(f, "{}; {} optional seconds lost", self.plan, self.seconds_lost)
     }
 }
 

@@ -15,8 +15,8 @@ use core::fmt;
 /// ```
 /// use leafanchor::Profile;
 ///
-/// let slow = Profile::try_from(&[0, 0, 20, 7][..])?; // alternating: time 0, weight 0, time 20, weight 7
-/// let quick = Profile::try_from(&[5, 7][..])?;
+/// let slow = Profile::try_from(&[0, 0, 20, 7])?; // alternating: time 0, weight 0, time 20, weight 7
+/// let quick = Profile::try_from(&[5, 7])?;
 /// let better = slow.better_of(&quick);
 /// assert_eq!(better.to_string(), "(0, 0), (5, 7)");
 /// assert_eq!((better.lookup(-1), better.lookup(4), better.lookup(5)), (None, Some(0), Some(7)));
@@ -70,7 +70,8 @@ impl Profile {
     /// The points, times rising.
     #[must_use]
     pub fn points(&self) -> impl ExactSizeIterator<Item = Point> + DoubleEndedIterator + Clone + '_ {
-        self.numbers().chunks_exact(2).map(|pair| Point { time: pair[0], weight: pair[1] })
+        // The weights of a valid profile are not negative.
+        self.numbers().chunks_exact(2).map(|pair| Point { time: pair[0], weight: pair[1] as u32 })
     }
 
     /// The points as alternating times and weights: twice as many numbers as points.
@@ -113,11 +114,39 @@ impl TryFrom<&[Point]> for Profile {
         let _valid = calls::lookup_records(points, 0).accepted()?;
         let mut profile = Profile { points: points.len(), ..Profile::default() };
         for (pair, point) in profile.numbers.chunks_exact_mut(2).zip(points) {
-            pair.copy_from_slice(&[point.time, point.weight]);
+            pair.copy_from_slice(&[point.time, point.weight as i32]);
         }
         Ok(profile)
     }
 }
+
+/// Takes arrays and vectors of an element as slices of it are taken.
+macro_rules! as_slices {
+    ($($element:ty),*) => {
+        $(
+            impl<const N: usize> TryFrom<&[$element; N]> for Profile {
+                type Error = Refusal;
+
+                /// As for a slice.
+                fn try_from(list: &[$element; N]) -> Result<Self, Refusal> {
+                    Profile::try_from(&list[..])
+                }
+            }
+
+            #[cfg(feature = "alloc")]
+            impl TryFrom<&alloc::vec::Vec<$element>> for Profile {
+                type Error = Refusal;
+
+                /// As for a slice.
+                fn try_from(list: &alloc::vec::Vec<$element>) -> Result<Self, Refusal> {
+                    Profile::try_from(&list[..])
+                }
+            }
+        )*
+    };
+}
+
+as_slices!(i32, Point);
 
 impl fmt::Display for Profile {
     fn fmt(&self, f: &mut fmt::Formatter<'_>) -> fmt::Result {

@@ -3,10 +3,13 @@
 use crate::field::Field;
 use core::fmt;
 
-/// Declares every refusal once: its number, its name, the place where it is about one job and the field where it
-/// is about one of that job's, and a phrase for a person.
+/// Declares every refusal once, in the words of include/phrases.txt: its number, its name, the place where it is about
+/// one job and the field where it is about one of that job's, a phrase for a person, and one that tells the place.
 macro_rules! refusals {
-    ($($number:literal $name:ident $({ $place:ident $(, $field:ident)? })? $phrase:literal,)*) => {
+    ($(
+        $number:literal $name:ident $({ $place:ident $(, $field:ident)? })?
+        $phrase:literal $(| $told:literal)?,
+    )*) => {
         /// Why a call refused. Where several reasons apply, the one of the lowest number is given, but for 13,
         /// 14 and 15, which come after 9 and before 10.
         ///
@@ -15,12 +18,13 @@ macro_rules! refusals {
         /// ```
         /// use leafanchor::{Order, Refusal};
         ///
-        /// match Order::try_from(&[0x17, 0xFD][..]) {
+        /// match Order::try_from(&[0x17, 0xFD]) {
         ///     Ok(order) => println!("{} jobs", order.count()),
-        ///     Err(Refusal::NumberRepeated { place, .. }) => println!("look at place {place}"),
-        ///     Err(Refusal::JobOutOfRange { place, field, .. }) => println!("mend the {field} at place {place}"),
+        ///     Err(Refusal::JobOutOfRange { place: Some(place), field, .. }) => {
+        ///         println!("mend the {field} at place {place}")
+        ///     }
         ///     Err(refusal) => {
-        ///         assert_eq!((refusal.number(), refusal.place(), refusal.field()), (1, 0, None));
+        ///         assert_eq!((refusal.number(), refusal.place(), refusal.field()), (1, None, None));
         ///         assert_eq!(refusal.to_string(), "the packed order is under 4 bytes");
         ///     }
         /// }
@@ -32,8 +36,9 @@ macro_rules! refusals {
                 #[doc = concat!(stringify!($number), ": ", $phrase, ".")]
                 $(#[doc = concat!("`", stringify!($place), "` counts from 0.")] #[non_exhaustive])?
                 $name $({
-                    /// The first place at which this holds.
-                    $place: usize,
+                    /// The first place at which this holds; none where the call has two orders and its answer tells
+                    /// no place.
+                    $place: Option<usize>,
                     $(
                         /// The first field of that job for which it holds.
                         $field: Field,
@@ -45,8 +50,8 @@ macro_rules! refusals {
             Other {
                 /// The number.
                 number: u32,
-                /// The place that came with it, 0 where it is not about one job.
-                place: usize,
+                /// The place that came with it; 0 may stand for none.
+                place: Option<usize>,
             },
         }
 
@@ -60,13 +65,14 @@ macro_rules! refusals {
                 }
             }
 
-            /// The place of the job that is refused; 0 where the refusal is not about one job.
+            /// The place of the job that is refused, from 0; none where the refusal is not about one job, or the
+            /// answer does not tell which it is.
             #[must_use]
-            pub const fn place(self) -> usize {
+            pub const fn place(self) -> Option<usize> {
                 match self {
                     $($(Refusal::$name { $place, .. } => $place,)?)*
                     Refusal::Other { place, .. } => place,
-                    _ => 0,
+                    _ => None,
                 }
             }
 
@@ -80,7 +86,7 @@ macro_rules! refusals {
             }
 
             /// What the library's refusal number, place and field mean; 0 is no refusal.
-            pub(crate) const fn check(number: u32, place: usize, field: u32) -> Result<(), Refusal> {
+            pub(crate) const fn check(number: u32, place: Option<usize>, field: u32) -> Result<(), Refusal> {
                 match number {
                     0 => Ok(()),
                     $($number => Err(Refusal::$name $({ $place: place $(, $field: Field::of(field))? })?),)*
@@ -92,7 +98,10 @@ macro_rules! refusals {
         impl fmt::Display for Refusal {
             fn fmt(&self, f: &mut fmt::Formatter<'_>) -> fmt::Result {
                 match self {
-                    $(Refusal::$name { $($place, $($field,)?)? .. } => write!(f, $phrase),)*
+                    $(
+                        $(Refusal::$name { $place: Some($place), $($field,)? .. } => write!(f, $told),)?
+                        Refusal::$name { .. } => f.write_str($phrase),
+                    )*
                     Refusal::Other { number, .. } => write!(f, "refusal {number}, unknown to this version"),
                 }
             }
@@ -106,16 +115,19 @@ refusals! {
     3 TooManyJobs "there are more than 48 jobs",
     4 WrongLength "the length does not fit the number of jobs",
     5 BusFreeOutOfRange "the bus-free time is out of range",
-    6 JobOutOfRange { place, field } "job at place {place}: {field} out of range",
-    7 NumberRepeated { place } "the job at place {place} repeats a number",
-    8 ProfileNotValid "a profile is not valid",
+    6 JobOutOfRange { place, field }
+        "a job's field is out of range" | "job at place {place}: {field} out of range",
+    7 NumberRepeated { place }
+        "a job's number stood earlier" | "job at place {place}: its number stood earlier",
+    8 ProfileNotValid "a given profile is not valid",
     9 TooMuchWeight "the weights sum to more than 300",
     10 BufferTooShort "a buffer is too short",
-    11 NoFeasibleChoice "no choice is feasible",
+    11 NoFeasibleChoice "no choice of jobs keeps every critical job in time",
     12 CellTooCold "the cell is below -30 degrees",
-    13 NotOfHalves { place } "the job at place {place} does not fit an order of halves",
+    13 NotOfHalves { place }
+        "the order is not of halves" | "job at place {place}: it does not fit an order of halves",
     14 PlanWrongLength "the length does not fit the packed plan's mask",
-    15 PlanStrayBits "the packed plan has bits set beyond the order's jobs or at its end",
+    15 PlanStrayBits "the packed plan has bits set that must be zero",
 }
 
 #[cfg(feature = "std")]
@@ -125,24 +137,77 @@ impl std::error::Error for Refusal {}
 mod tests {
     use super::{Field, Refusal};
 
-    #[test]
-    fn every_number_is_told_back() {
-        assert_eq!(Refusal::check(0, 0, 0), Ok(()));
-        for number in (1..=40).chain([u32::MAX]) {
-            assert_eq!(Refusal::check(number, 3, 5).unwrap_err().number(), number);
-        }
-        for number in [6, 7, 13, u32::MAX] {
-            assert_eq!(Refusal::check(number, 3, 5).unwrap_err().place(), 3);
-        }
-        assert_eq!(Refusal::check(9, 3, 5), Err(Refusal::TooMuchWeight));
-        assert_eq!(Refusal::check(u32::MAX, 3, 5), Err(Refusal::Other { number: u32::MAX, place: 3 }));
+    fn refused(number: u32) -> Refusal {
+        Refusal::check(number, Some(3), 5).unwrap_err()
     }
 
     #[test]
-    fn refusal_6_alone_has_a_field() {
+    fn every_number_is_told_back() {
+        assert_eq!(Refusal::check(0, Some(0), 0), Ok(()));
         for number in (1..=40).chain([u32::MAX]) {
-            let field = Refusal::check(number, 2, 5).unwrap_err().field();
-            assert_eq!(field, if number == 6 { Some(Field::Length) } else { None });
+            assert_eq!(refused(number).number(), number);
         }
+        assert_eq!(refused(9), Refusal::TooMuchWeight);
+        assert_eq!(refused(u32::MAX), Refusal::Other { number: u32::MAX, place: Some(3) });
+    }
+
+    #[test]
+    fn refusals_6_7_and_13_have_a_place_and_6_alone_a_field() {
+        for number in 1..=15 {
+            let place = if [6, 7, 13].contains(&number) { Some(3) } else { None };
+            let field = if number == 6 { Some(Field::Length) } else { None };
+            assert_eq!((refused(number).place(), refused(number).field()), (place, field));
+            assert_eq!(Refusal::check(number, None, 5).unwrap_err().place(), None);
+        }
+    }
+}
+
+/// Holds the words for refusals and fields to the one list of them.
+#[cfg(all(test, feature = "alloc"))]
+mod phrases {
+    use super::{Field, Refusal};
+    use alloc::string::ToString;
+    use alloc::vec::Vec;
+
+    const LIST: &str = include_str!("../../../include/phrases.txt");
+
+    /// The lines that are no comments, each as a number and what stands behind it: those with a word before the
+    /// number, or those without.
+    fn lines(word: &str) -> Vec<(u32, &'static str)> {
+        let line = |line: &'static str| {
+            let (number, words) = line.strip_prefix(word)?.split_once(' ')?;
+            Some((number.parse().ok()?, words))
+        };
+        LIST.lines().filter_map(line).collect()
+    }
+
+    #[test]
+    fn every_line_of_the_list_is_a_refusal_or_a_field() {
+        let comments = LIST.lines().filter(|line| line.starts_with('#')).count();
+        assert_eq!(lines("").len() + lines("field ").len() + comments, LIST.lines().count());
+        let known = |&number: &u32| !matches!(Refusal::check(number, None, 0), Err(Refusal::Other { .. }));
+        assert!(lines("").iter().map(|line| line.0).eq((1..100).filter(known)));
+        let known = |&figure: &u32| !matches!(Field::of(figure), Field::Other { .. });
+        assert!(lines("field ").iter().map(|line| line.0).eq((1..100).filter(known)));
+    }
+
+    #[test]
+    fn every_refusal_says_the_words_of_the_list() {
+        for (number, words) in lines("") {
+            let (plain, told) = words.split_once(" | ").unwrap_or((words, words));
+            let told = told.replace("{place}", "40").replace("{field}", "ready time");
+            assert_eq!(Refusal::check(number, Some(40), 4).unwrap_err().to_string(), told);
+            assert_eq!(Refusal::check(number, None, 4).unwrap_err().to_string(), plain);
+        }
+        let beyond = Refusal::check(99, Some(0), 0).unwrap_err();
+        assert_eq!(beyond.to_string(), "refusal 99, unknown to this version");
+    }
+
+    #[test]
+    fn every_field_says_the_words_of_the_list() {
+        for (figure, words) in lines("field ") {
+            assert_eq!(Field::of(figure).to_string(), words);
+        }
+        assert_eq!(Field::of(99).to_string(), "field 99");
     }
 }

@@ -11,7 +11,7 @@ use core::fmt;
 ///
 /// # #[cfg(feature = "alloc")] {
 /// let mut work = WorkArea::boxed();
-/// let order = Order::try_from(&[0; 4][..])?;
+/// let order = Order::try_from(&[0; 4])?;
 /// assert_eq!(order.plan(&mut work)?.finish, 0);
 /// # }
 /// # Ok::<(), leafanchor::Refusal>(())

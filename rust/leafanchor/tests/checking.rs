@@ -1,6 +1,6 @@
 //! Our own plan in packed bytes, and the verdicts on plans of any planner, on both sides of each edge.
 
-use leafanchor::{calls, Job, Order, Refusal, WorkArea, MOST_JOBS, ORDER_BYTES, PLAN_BYTES, REST, WORK_AREA};
+use leafanchor::{calls, Job, Order, OrderBuf, Refusal, WorkArea, MOST_JOBS, PLAN_BYTES, REST, WORK_AREA};
 
 const P1_PACKED: &[u8] = include_bytes!("../../../examples/p1.order");
 
@@ -9,8 +9,11 @@ const P1_PLAN: [u8; 15] = [0xD8, 0, 0, 0, 0, 0, 0xFF, 0x6A, 0x3F, 0xFA, 0x60, 0x
 
 /// A critical job and two others, bus free at 0: the first two may run from 0 to 30 and from 45 to 75, the third
 /// instead of the second.
-const JOBS: [Job; 3] =
-    [Job::critical(1, 0, 30, 50), Job::optional(2, 5, 10, 30, 80), Job::optional(3, 4, 10, 30, 80)];
+const JOBS: [Job; 3] = [
+    Job::critical(1).ready(0).length(30).deadline(50),
+    Job::optional(2).weight(5).ready(10).length(30).deadline(80),
+    Job::optional(3).weight(4).ready(10).length(30).deadline(80),
+];
 
 /// The packed bytes of a plan: the places that it keeps, rising, each with its start.
 fn packed(kept: &[(usize, i32)]) -> Vec<u8> {
@@ -25,8 +28,8 @@ fn packed(kept: &[(usize, i32)]) -> Vec<u8> {
 
 /// Both verdicts on a plan for an order of jobs: legal and best.
 fn verdicts(t0: i32, jobs: &[Job], plan: &[u8]) -> (bool, bool) {
-    let mut room = [0; ORDER_BYTES];
-    let order = Order::pack(t0, jobs, &mut room).unwrap();
+    let order = OrderBuf::pack(t0, jobs).unwrap();
+    let order = order.as_order();
     (order.is_legal(plan).unwrap(), order.is_best(plan, &mut WorkArea::new()).unwrap())
 }
 
@@ -37,8 +40,8 @@ fn with_starts(first: i32, second: i32) -> (bool, bool) {
 
 /// What a plan for the jobs is refused with, by both calls.
 fn refused(jobs: &[Job], plan: &[u8]) -> Option<Refusal> {
-    let mut room = [0; ORDER_BYTES];
-    let order = Order::pack(0, jobs, &mut room).unwrap();
+    let order = OrderBuf::pack(0, jobs).unwrap();
+    let order = order.as_order();
     let legal = order.is_legal(plan).err();
     assert_eq!(order.is_best(plan, &mut WorkArea::new()).err(), legal);
     legal
@@ -64,8 +67,7 @@ fn every_start_is_told_on_both_sides_by_a_second() {
     let straight_after = 5 + JOBS[0].length + REST;
     assert!(with_starts(5, straight_after).0 && !with_starts(5, straight_after - 1).0);
     // The ready time and the deadline of a job alone.
-    let alone = [Job::optional(2, 5, 10, 30, 80)];
-    let from = |start| verdicts(0, &alone, &packed(&[(0, start)]));
+    let from = |start| verdicts(0, &JOBS[1..2], &packed(&[(0, start)]));
     assert_eq!([9, 10, 50, 51].map(from), [(false, false), (true, true), (true, true), (false, false)]);
     // The ends of a start's field.
     assert_eq!([-131_072, 131_071].map(from), [(false, false); 2]);
@@ -84,30 +86,28 @@ fn critical_jobs_are_kept_and_idle_time_is_legal() {
 
 #[test]
 fn no_plan_of_an_infeasible_order_is_legal_or_best() {
-    let late = [Job::critical(1, 0, 10, 9)];
+    let late = [Job::critical(1).ready(0).length(10).deadline(9)];
     for plan in [packed(&[]), packed(&[(0, 0)]), packed(&[(0, -1)])] {
         assert_eq!(verdicts(0, &late, &plan), (false, false));
     }
-    let mut room = [0; ORDER_BYTES];
-    let order = Order::pack(0, &late, &mut room).unwrap();
-    assert_eq!(order.write_plan(&mut WorkArea::new()), Err(Refusal::NoFeasibleChoice));
+    let order = OrderBuf::pack(0, &late).unwrap();
+    assert_eq!(order.as_order().write_plan(&mut WorkArea::new()), Err(Refusal::NoFeasibleChoice));
 }
 
 #[test]
 fn no_jobs_and_48() {
     assert_eq!(verdicts(-7, &[], &[0; 6]), (true, true));
-    let none = Order::try_from(&[0; 4][..]).unwrap();
+    let none = Order::try_from(&[0; 4]).unwrap();
     assert_eq!(none.write_plan(&mut WorkArea::new()).unwrap().as_bytes(), [0; 6]);
 
-    let jobs: Vec<Job> = (0..48).map(|number| Job::optional(number, 6, -100_000, 10_000, 100_000)).collect();
-    let short: Vec<Job> =
-        jobs.iter().map(|&job| Job::optional(job.number, 6, -100_000, 1, 100_000)).collect();
-    let mut room = [0; ORDER_BYTES];
-    let order = Order::pack(-100_000, &short, &mut room).unwrap();
-    let ours = order.write_plan(&mut WorkArea::new()).unwrap();
+    let job = |number| Job::optional(number).weight(6).ready(-100_000).deadline(100_000);
+    let long: Vec<Job> = (0..48).map(|number| job(number).length(10_000)).collect();
+    let short: Vec<Job> = (0..48).map(|number| job(number).length(1)).collect();
+    let order = OrderBuf::pack(-100_000, &short).unwrap();
+    let ours = order.as_order().write_plan(&mut WorkArea::new()).unwrap();
     assert_eq!((ours.len(), PLAN_BYTES, MOST_JOBS), (114, 114, 48));
     assert_eq!(verdicts(-100_000, &short, &ours), (true, true));
-    assert_eq!(verdicts(-100_000, &jobs, &ours), (false, false));
+    assert_eq!(verdicts(-100_000, &long, &ours), (false, false));
 }
 
 #[test]

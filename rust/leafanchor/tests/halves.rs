@@ -1,44 +1,39 @@
 //! Planning orders of halves: the optional seconds lost, and refusal 13 on both sides of its edges.
 
 use leafanchor::{
-    calls, choose_by, question_by, HalvesPlan, Job, Order, Refusal, Tie, WorkArea, HALVES_APART,
+    calls, choose_by, question_by, HalvesPlan, Job, Order, OrderBuf, Refusal, Tie, WorkArea, HALVES_APART,
     HIGHEST_HALF, MOST_JOBS, ORDER_BYTES, SECONDS_PER_WEIGHT, WORK_AREA,
 };
 
 /// The worked order, bus free at -900: checks 4 and 9, each with its optional half.
 const WORKED: [Job; 4] = [
-    Job::critical(4, -900, 300, -300),
-    Job::optional(36, 5, -900, 300, 0),
-    Job::critical(9, -900, 200, 0),
-    Job::optional(41, 8, -900, 480, 300),
+    Job::critical(4).ready(-900).length(300).deadline(-300),
+    Job::optional(36).weight(5).ready(-900).length(300).deadline(0),
+    Job::critical(9).ready(-900).length(200).deadline(0),
+    Job::optional(41).weight(8).ready(-900).length(480).deadline(300),
 ];
 
 /// A critical half that fits anywhere.
 fn critical(number: i32) -> Job {
-    Job::critical(number, 0, 10, 100_000)
+    Job::critical(number).ready(0).length(10).deadline(100_000)
 }
 
 /// An optional half that fits anywhere, of the length that belongs to its weight.
-fn optional(number: i32, weight: i32) -> Job {
-    Job::optional(number, weight, 0, SECONDS_PER_WEIGHT * weight, 100_000)
-}
-
-/// A job with another length.
-fn lasting(mut job: Job, length: i32) -> Job {
-    job.length = length;
-    job
+fn optional(number: i32, weight: u32) -> Job {
+    let length = SECONDS_PER_WEIGHT * weight as i32;
+    Job::optional(number).weight(weight).ready(0).length(length).deadline(100_000)
 }
 
 /// The plan of jobs as an order of halves.
 fn planned(t0: i32, jobs: &[Job]) -> Result<HalvesPlan, Refusal> {
-    Order::pack(t0, jobs, &mut [0; ORDER_BYTES])?.plan_halves(&mut WorkArea::new())
+    OrderBuf::pack(t0, jobs)?.as_order().plan_halves(&mut WorkArea::new())
 }
 
 /// The place that planning jobs as halves refuses with 13; none where it plans them.
 fn offending(jobs: &[Job]) -> Option<usize> {
     match planned(0, jobs) {
         Ok(_) => None,
-        Err(Refusal::NotOfHalves { place, .. }) => Some(place),
+        Err(Refusal::NotOfHalves { place, .. }) => place,
         Err(refusal) => panic!("refused otherwise: {refusal}"),
     }
 }
@@ -52,6 +47,11 @@ fn the_worked_order_loses_300_optional_seconds() {
     assert!(plan.kept_places().eq([0, 2, 3]));
     assert_eq!((plan.mask, plan.kept, plan.kept_weight, plan.lost_weight), (0b1011 << 60, 3, 8, 5));
     assert_eq!((plan.finish, plan.points, plan.seconds_lost()), (125, 8, 300));
+    assert_eq!(
+        plan.to_string(),
+        "job 4: start -900\njob 36: left out\njob 9: start -585\njob 41: start -370\n\
+         3 of 4 jobs kept; weight 8 kept, 5 lost; bus free at 125; 300 optional seconds lost"
+    );
     assert_eq!(order.plan(&mut WorkArea::new()), Ok(*plan));
 }
 
@@ -79,7 +79,7 @@ fn a_critical_half_is_numbered_up_to_31() {
 
 #[test]
 fn an_optional_half_takes_60_seconds_for_each_weight() {
-    let with = |weight, length| offending(&[critical(4), lasting(optional(36, weight), length)]);
+    let with = |weight, length| offending(&[critical(4), optional(36, weight).length(length)]);
     assert_eq!([59, 60, 61].map(|length| with(1, length)), [Some(1), None, Some(1)]);
     assert_eq!([2_999, 3_000, 3_001].map(|length| with(50, length)), [Some(1), None, Some(1)]);
     assert_eq!((with(5, 240), with(5, 360)), (Some(1), Some(1)));
@@ -100,18 +100,18 @@ fn an_optional_half_stands_behind_its_critical_one() {
 
 #[test]
 fn of_several_offending_places_the_first_is_told() {
-    let jobs = [critical(1), optional(40, 1), critical(50), lasting(optional(33, 1), 59)];
+    let jobs = [critical(1), optional(40, 1), critical(50), optional(33, 1).length(59)];
     assert_eq!(offending(&jobs), Some(1));
     assert_eq!(offending(&[jobs[0], jobs[2], jobs[3]]), Some(1));
     assert_eq!(offending(&[jobs[0], jobs[3], jobs[2]]), Some(1));
     assert_eq!(planned(0, &jobs).unwrap_err().number(), 13);
     let phrase = planned(0, &jobs).unwrap_err().to_string();
-    assert_eq!(phrase, "the job at place 1 does not fit an order of halves");
+    assert_eq!(phrase, "job at place 1: it does not fit an order of halves");
 }
 
 #[test]
 fn refusal_13_comes_before_11_and_no_other_call_gives_it() {
-    let late = Job::critical(4, 0, 10, 9);
+    let late = Job::critical(4).ready(0).length(10).deadline(9);
     assert_eq!(planned(0, &[late, optional(36, 5)]), Err(Refusal::NoFeasibleChoice));
     assert_eq!(offending(&[late, optional(37, 5)]), Some(1));
 
@@ -140,7 +140,7 @@ fn the_plain_call_judges_13_after_9_and_before_10() {
     for rooms in [(0, 0), (3, WORK_AREA), (MOST_JOBS, WORK_AREA)] {
         let answer = calls::plan_halves(&offends, &mut starts[..rooms.0], &mut work[..rooms.1]);
         assert_eq!((answer.refusal, answer.place, answer.kept), (13, 3, 0));
-        assert!(matches!(answer.accepted(), Err(Refusal::NotOfHalves { place: 3, .. })));
+        assert!(matches!(answer.accepted(), Err(Refusal::NotOfHalves { place: Some(3), .. })));
     }
     assert!(starts == [7; MOST_JOBS] && work.iter().all(|&number| number == 7));
 
@@ -155,8 +155,7 @@ fn weights_of_more_than_300_are_9_and_not_13() {
     jobs.push(critical(6));
     assert_eq!(offending(&jobs), Some(0));
 
-    let mut room = [0; ORDER_BYTES];
-    let mut bytes = Order::pack(0, &jobs, &mut room).unwrap().bytes().to_vec();
+    let mut bytes = OrderBuf::pack(0, &jobs).unwrap().into_bytes();
     bytes[4 + 8 * 6] ^= 2; // the last job is no longer critical
     bytes[4 + 8 * 6 + 1] ^= 4; // and weighs 1
     let answer = calls::plan_halves(&bytes, &mut [0; MOST_JOBS], &mut [0; WORK_AREA]);

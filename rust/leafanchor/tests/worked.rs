@@ -1,20 +1,20 @@
 //! The worked figures P1 to P11 through the safe wrapper.
 
-use leafanchor::{heat_up, Job, Order, Plan, Point, Profile, Refusal, WorkArea, ORDER_BYTES};
+use leafanchor::{heat_up, Job, Order, OrderBuf, Plan, Point, Profile, Refusal, WorkArea, ORDER_BYTES};
 
 /// The five jobs of P1, bus free at -600.
 const P1: [Job; 5] = [
-    Job::critical(7, -600, 495, 0),
-    Job::optional(3, 20, -200, 300, 250),
-    Job::optional(12, 15, 0, 200, 300),
-    Job::critical(5, 100, 100, 450),
-    Job::optional(9, 15, 0, 100, 500),
+    Job::critical(7).ready(-600).length(495).deadline(0),
+    Job::optional(3).weight(20).ready(-200).length(300).deadline(250),
+    Job::optional(12).weight(15).ready(0).length(200).deadline(300),
+    Job::critical(5).ready(100).length(100).deadline(450),
+    Job::optional(9).weight(15).ready(0).length(100).deadline(500),
 ];
 const P1_PACKED: &[u8] = include_bytes!("../../../examples/p1.order");
 
 /// The plan of jobs, bus free at 0.
 fn planned(jobs: &[Job]) -> Result<Plan, Refusal> {
-    Order::pack(0, jobs, &mut [0; ORDER_BYTES])?.plan(&mut WorkArea::new())
+    OrderBuf::pack(0, jobs)?.as_order().plan(&mut WorkArea::new())
 }
 
 /// The starts of jobs, bus free at 0, and when it is free after the plan.
@@ -60,35 +60,38 @@ fn p2_and_p3_are_the_profile_of_p1() {
     assert_eq!(profile.numbers(), [215, 0, 330, 15, 340, 20, 445, 30, 455, 35]);
     let points: Vec<Point> = profile.points().collect();
     assert_eq!((profile.points().len(), points[4]), (5, Point { time: 455, weight: 35 }));
-    assert_eq!(Profile::try_from(&points[..]).as_ref(), Ok(&profile));
+    assert_eq!(Profile::try_from(&points).as_ref(), Ok(&profile));
     assert_eq!(Profile::try_from(profile.numbers()).as_ref(), Ok(&profile));
     for (t, weight) in [(214, None), (215, Some(0)), (454, Some(30)), (455, Some(35))] {
         assert_eq!(profile.lookup(t), weight);
     }
-    let bus_free = Profile::try_from(&[-600, 0][..]).unwrap();
+    let bus_free = Profile::try_from(&[-600, 0]).unwrap();
     assert_eq!(bus_free.extended(order, &mut WorkArea::new()), Ok(profile));
 }
 
 #[test]
 fn p4_and_p5_are_both_sides_of_a_deadline() {
-    assert_eq!(starts(&[Job::critical(1, 0, 10, 10)]), (vec![Some(0)], 25));
-    assert_eq!(planned(&[Job::critical(1, 0, 10, 9)]), Err(Refusal::NoFeasibleChoice));
-    assert_eq!(starts(&[Job::optional(1, 10, 0, 10, 9)]), (vec![None], 0));
+    let job = Job::critical(1).ready(0).length(10);
+    assert_eq!(starts(&[job.deadline(10)]), (vec![Some(0)], 25));
+    assert_eq!(planned(&[job.deadline(9)]), Err(Refusal::NoFeasibleChoice));
+    assert_eq!(starts(&[Job::optional(1).weight(10).ready(0).length(10).deadline(9)]), (vec![None], 0));
 }
 
 #[test]
 fn p6_to_p8_are_ties() {
-    let p6 = [Job::optional(1, 10, 0, 10, 10), Job::optional(2, 10, 0, 10, 10)];
+    let [a, b] = [1, 2].map(|number| Job::optional(number).weight(10).ready(0));
+    let p6 = [a.length(10).deadline(10), b.length(10).deadline(10)];
     assert_eq!(starts(&p6), (vec![Some(0), None], 25));
-    let p7 = [Job::optional(1, 10, 0, 10, 10), Job::optional(2, 10, 0, 5, 10)];
+    let p7 = [a.length(10).deadline(10), b.length(5).deadline(10)];
     assert_eq!(starts(&p7), (vec![None, Some(0)], 20));
-    let p8 = [Job::optional(1, 10, 0, 4, 4), Job::optional(2, 10, 0, 2, 4), Job::critical(3, 40, 1, 41)];
+    let c = Job::critical(3).ready(40).length(1).deadline(41);
+    let p8 = [a.length(4).deadline(4), b.length(2).deadline(4), c];
     assert_eq!(starts(&p8), (vec![Some(0), None, Some(40)], 56));
 }
 
 #[test]
 fn p9_is_better_of() {
-    let (p, q) = (Profile::try_from(&[0, 0, 20, 7][..]).unwrap(), Profile::try_from(&[5, 7][..]).unwrap());
+    let (p, q) = (Profile::try_from(&[0, 0, 20, 7]).unwrap(), Profile::try_from(&[5, 7]).unwrap());
     assert_eq!(p.better_of(&q).numbers(), [0, 0, 5, 7]);
     assert_eq!(q.better_of(&Profile::default()), q);
 }

@@ -309,7 +309,7 @@ pub fn records(random: &mut Random) -> Vec<Point> {
     if random.once_in(20) {
         numbers.resize(2 * random.one_of(&[302, 303, 700]), 300);
     }
-    numbers.chunks_exact(2).map(|pair| Point { time: pair[0], weight: pair[1] }).collect()
+    numbers.chunks_exact(2).map(|pair| Point { time: pair[0], weight: pair[1] as u32 }).collect()
 }
 
 /// A time to ask for: near a time that matters, or anything.

@@ -1,7 +1,9 @@
 //! Generated orders and profiles, the same on every machine: a fixed generator, plain orders in several
 //! styles that make ties, tight windows, critical jobs and infeasible orders frequent, orders of halves, orders
-//! with many scheduling points, and a plain bit-by-bit packer of orders and plans.
+//! with many scheduling points, and a plain bit-by-bit packer of orders and plans. Beside them a way to write down
+//! the answer that a call must give.
 
+mod answer;
 mod halves;
 mod long_lists;
 mod orders;

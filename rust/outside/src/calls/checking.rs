@@ -8,7 +8,7 @@ use crate::plans::{self, Kind};
 use crate::reference::{self, Keep, Kept, Refused};
 use leafanchor::calls::{self, PackAnswer, PlanAnswer, VerdictAnswer};
 use leafanchor::{LEFT_OUT, PLAN_BYTES};
-use trials::{dense_order, packed, packed_plan, Order};
+use trials::{answer, dense_order, packed, packed_plan, Order};
 
 /// Plans that are judged for each order, beside our own.
 const PLANS_OF_AN_ORDER: usize = 9;
@@ -114,7 +114,7 @@ impl Trial {
             self.wanted(judged, usize::MAX);
         let written = if refusal == 0 { packed_plan(&kept_of(&starts)) } else { vec![] };
         let memory = lent.holds(&written) && self.work.holds(after);
-        let answer = PackAnswer { refusal, place, field, bytes: written.len() };
+        let answer = answer!(PackAnswer { refusal, place, field, bytes: written.len() });
         self.tally.fields.count("write_plan", given.field);
         self.tally.compare("write_plan", (given.refusal, given, memory), answer, &bytes);
         self.typed_write_plan(bytes, Refused { number: refusal, place, field }, &written);
@@ -147,9 +147,7 @@ impl Trial {
 /// The answer of a verdict.
 fn verdict(judged: Result<bool, Refused>) -> VerdictAnswer {
     match judged {
-        Ok(yes) => VerdictAnswer { yes: u32::from(yes), ..Default::default() },
-        Err(Refused { number, place, field }) => {
-            VerdictAnswer { refusal: number, place, field, ..Default::default() }
-        }
+        Ok(yes) => answer!(VerdictAnswer { yes: u32::from(yes) }),
+        Err(Refused { number, place, field }) => answer!(VerdictAnswer { refusal: number, place, field }),
     }
 }

@@ -16,7 +16,7 @@ use crate::reference::{self, Point, Refused};
 use crate::tally::Tally;
 use leafanchor::calls::{self, HeatAnswer};
 use leafanchor::WorkArea;
-use trials::Random;
+use trials::{answer, Random};
 
 /// What the comparisons share: the generator, the counts and the work area.
 pub struct Trial {
@@ -39,8 +39,8 @@ impl Trial {
         for byte in 0..=255 {
             let given = calls::heat_up(byte);
             let wanted = match reference::heat_up(byte) {
-                Ok(seconds) => HeatAnswer { refusal: 0, seconds },
-                Err(refused) => HeatAnswer { refusal: refused.number, ..Default::default() },
+                Ok(seconds) => answer!(HeatAnswer { seconds }),
+                Err(refused) => answer!(HeatAnswer { refusal: refused.number }),
             };
             self.tally.compare("heat_up", (given.refusal, given, true), wanted, &byte);
         }

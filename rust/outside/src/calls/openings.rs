@@ -7,7 +7,7 @@ use crate::reference::{self, Point, Refused};
 use leafanchor::calls::{self, ChooseAnswer, QuestionAnswer};
 use leafanchor::Tie;
 use std::fmt::Debug;
-use trials::{packed, Order};
+use trials::{answer, packed, Order};
 
 /// A call on two openings, and its name.
 type Call<A> = (&'static str, fn(&[u8], &[u8], i32, &mut [i32]) -> A);
@@ -133,15 +133,15 @@ fn opened(bytes: &[u8]) -> Result<Opened, Refused> {
 
 fn asked(won: Won) -> QuestionAnswer {
     match won {
-        Ok((winner, _)) => QuestionAnswer { winner, ..Default::default() },
-        Err(Refused { number, field, .. }) => QuestionAnswer { refusal: number, field, ..Default::default() },
+        Ok((winner, _)) => answer!(QuestionAnswer { winner }),
+        Err(Refused { number, field, .. }) => answer!(QuestionAnswer { refusal: number, field }),
     }
 }
 
 fn chosen(won: Won) -> ChooseAnswer {
     match won {
-        Ok((winner, jobs)) => ChooseAnswer { winner, offset: 4, length: 8 * jobs, ..Default::default() },
-        Err(Refused { number, field, .. }) => ChooseAnswer { refusal: number, field, ..Default::default() },
+        Ok((winner, jobs)) => answer!(ChooseAnswer { winner, offset: 4, length: 8 * jobs }),
+        Err(Refused { number, field, .. }) => answer!(ChooseAnswer { refusal: number, field }),
     }
 }
 

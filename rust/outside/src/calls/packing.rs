@@ -5,7 +5,7 @@ use crate::inputs;
 use crate::lent::Lent;
 use crate::reference::{self, Refused};
 use leafanchor::calls::{self, OpenAnswer, PackAnswer, StepAnswer, UnpackAnswer};
-use trials::{packed, Order};
+use trials::{answer, packed, Order};
 
 impl Trial {
     /// Unpacks bytes of any kind.
@@ -24,10 +24,10 @@ impl Trial {
         let (wanted, written) = match roomy {
             Ok(Order { t0, jobs }) => {
                 let written = jobs.iter().flat_map(|job| job.numbers()).collect();
-                (UnpackAnswer { jobs: jobs.len(), t0, ..Default::default() }, written)
+                (answer!(UnpackAnswer { jobs: jobs.len(), t0 }), written)
             }
             Err(Refused { number, place, field }) => {
-                (UnpackAnswer { refusal: number, place, field, ..Default::default() }, vec![])
+                (answer!(UnpackAnswer { refusal: number, place, field }), vec![])
             }
         };
         self.tally.fields.count("unpack", given.field);
@@ -47,9 +47,9 @@ impl Trial {
         let judged = reference::judged_numbers(t0, numbers)
             .and_then(|order| unless(lent.lend().len() >= needed, 10).map(|()| order));
         let (wanted, written) = match judged {
-            Ok(order) => (PackAnswer { bytes: needed, ..Default::default() }, packed(&order)),
+            Ok(order) => (answer!(PackAnswer { bytes: needed }), packed(&order)),
             Err(Refused { number, place, field }) => {
-                (PackAnswer { refusal: number, place, field, ..Default::default() }, vec![])
+                (answer!(PackAnswer { refusal: number, place, field }), vec![])
             }
         };
         self.tally.fields.count("pack", given.field);
@@ -81,8 +81,8 @@ impl Trial {
     pub(super) fn read_bytes(&mut self, bytes: &[u8]) {
         let given = calls::open(bytes);
         let wanted = match reference::header(bytes) {
-            Ok((jobs, _)) => OpenAnswer { refusal: 0, jobs },
-            Err(refused) => OpenAnswer { refusal: refused.number, ..Default::default() },
+            Ok((jobs, _)) => answer!(OpenAnswer { jobs }),
+            Err(refused) => answer!(OpenAnswer { refusal: refused.number }),
         };
         self.tally.compare("open", (given.refusal, given, true), wanted, &bytes);
         let refused = (0..given.jobs).find(|&place| reference::reader_job(bytes, place).is_err());
@@ -98,19 +98,18 @@ impl Trial {
 
 fn wanted_step(bytes: &[u8], at: usize) -> StepAnswer {
     match reference::reader_job(bytes, at) {
-        Ok(Some(job)) => StepAnswer {
+        Ok(Some(job)) => answer!(StepAnswer {
             number: job.number,
             critical: job.critical,
-            weight: job.weight,
+            weight: job.weight as u32,
             ready: job.ready,
             length: job.length,
             deadline: job.deadline,
-            next: at + 1,
-            ..Default::default()
-        },
-        Ok(None) => StepAnswer { end: 1, next: at, ..Default::default() },
+            next: at + 1
+        }),
+        Ok(None) => answer!(StepAnswer { end: 1, next: at }),
         Err(Refused { number, place, field }) => {
-            StepAnswer { refusal: number, place, field, next: at, ..Default::default() }
+            answer!(StepAnswer { refusal: number, place, field, next: at })
         }
     }
 }

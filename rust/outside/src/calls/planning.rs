@@ -6,17 +6,18 @@ use crate::lent::{After, Lent};
 use crate::reference::{self, Best, Keep, Refused, MOST_JOBS_OF_ALL_CHOICES, REST};
 use leafanchor::calls::{self, PlanAnswer};
 use leafanchor::LEFT_OUT;
-use trials::{packed, Order, Style};
+use trials::{answer, packed, Order, Style};
 
 /// Styles in which long orders have many plans.
 pub(super) const STYLES_OF_LONG_ORDERS: [Style; 4] =
     [Style::Tight, Style::Gaps, Style::Morning, Style::Morning];
 
-/// What a call that plans must give: its figures, the starts that it writes, the optional seconds that the plan
-/// loses, and what becomes of the work area.
+/// What a call that plans must give: its figures, the starts that it writes, with the numbers of their jobs, the
+/// optional seconds that the plan loses, and what becomes of the work area.
 pub(super) struct Wanted {
     pub answer: PlanAnswer,
     pub starts: Vec<i32>,
+    pub numbers: Vec<i32>,
     pub seconds_lost: u32,
     pub after: After,
 }
@@ -78,13 +79,15 @@ impl Trial {
                 Wanted {
                     answer: wanted_plan(&order, best),
                     starts: starts_of(&order, best),
+                    numbers: order.jobs.iter().map(|job| job.number).collect(),
                     seconds_lost: reference::seconds_lost(&order, best),
                     after: After::Cleared,
                 }
             }
             Err(Refused { number, place, field }) => Wanted {
-                answer: PlanAnswer { refusal: number, place, field, ..Default::default() },
+                answer: answer!(PlanAnswer { refusal: number, place, field }),
                 starts: vec![],
+                numbers: vec![],
                 seconds_lost: 0,
                 after: if number == 11 { After::Cleared } else { After::Untouched },
             },
@@ -137,15 +140,14 @@ fn keeps(best: Best, place: usize) -> bool {
 /// The plan's figures, each from its sentence in R8 and R9.
 fn wanted_plan(order: &Order, best: Best) -> PlanAnswer {
     let left_out = order.jobs.iter().enumerate().filter(|&(place, _)| !keeps(best, place));
-    PlanAnswer {
+    answer!(PlanAnswer {
         mask: (0..64).filter(|&place| keeps(best, place)).map(|place| 1 << (63 - place)).sum(),
         kept: (0..order.jobs.len()).filter(|&place| keeps(best, place)).count() as u32,
         kept_weight: best.weight as u32,
         lost_weight: left_out.map(|(_, job)| job.weight as u32).sum(),
         finish: best.bus_free,
-        points: reference::point_total(order) as u32,
-        ..Default::default()
-    }
+        points: reference::point_total(order) as u32
+    })
 }
 
 /// The starts in place order.

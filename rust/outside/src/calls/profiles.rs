@@ -6,6 +6,7 @@ use crate::lent::{After, Lent};
 use crate::reference::{self, Point, Refused};
 use leafanchor::calls::{self, BetterAnswer, ExtendAnswer, LookupAnswer};
 use leafanchor::{Profile, PROFILE_ROOM};
+use trials::answer;
 
 impl Trial {
     /// Looks times up in numbers of any kind.
@@ -25,7 +26,7 @@ impl Trial {
         let times: Vec<i32> = records.iter().map(|point| point.time).collect();
         let t = inputs::time_near(&mut self.random, &times);
         let given = calls::lookup_records(&records, t);
-        let numbers: Vec<i32> = records.iter().flat_map(|point| [point.time, point.weight]).collect();
+        let numbers: Vec<i32> = records.iter().flat_map(|point| [point.time, point.weight as i32]).collect();
         let wanted = wanted_lookup(&numbers, t);
         self.tally.compare("lookup_records", (given.refusal, given, true), wanted, &(t, &records));
         self.typed_lookup(Profile::try_from(&records[..]), t, wanted);
@@ -43,9 +44,9 @@ impl Trial {
         let (wanted, written) = match judged {
             Ok(()) => {
                 let better = reference::better_of(&points_of(&p), &points_of(q));
-                (BetterAnswer { refusal: 0, points: better.len() }, numbers_of(&better))
+                (answer!(BetterAnswer { points: better.len() }), numbers_of(&better))
             }
-            Err(refused) => (BetterAnswer { refusal: refused.number, ..Default::default() }, vec![]),
+            Err(refused) => (answer!(BetterAnswer { refusal: refused.number }), vec![]),
         };
         self.tally.compare("better_of", (given.refusal, given, lent.holds(&written)), wanted, &(&p, q));
         self.typed_better_of(&p, q, wanted, &written);
@@ -66,14 +67,12 @@ impl Trial {
             Ok(points) => {
                 let late = profile.iter().step_by(2).any(|&time| time > 100_000);
                 self.tally.rest.late_profiles += usize::from(late);
-                let answer = ExtendAnswer { points: points.len(), ..Default::default() };
+                let answer = answer!(ExtendAnswer { points: points.len() });
                 (answer, numbers_of(&points), After::Cleared)
             }
-            Err(Refused { number, place, field }) => (
-                ExtendAnswer { refusal: number, place, field, ..Default::default() },
-                vec![],
-                After::Untouched,
-            ),
+            Err(Refused { number, place, field }) => {
+                (answer!(ExtendAnswer { refusal: number, place, field }), vec![], After::Untouched)
+            }
         };
         self.tally.fields.count("extend", given.field);
         let memory = lent.holds(&written) && self.work.holds(after);
@@ -84,10 +83,10 @@ impl Trial {
 
 fn wanted_lookup(profile: &[i32], t: i32) -> LookupAnswer {
     if !reference::is_valid(profile) {
-        return LookupAnswer { refusal: 8, ..Default::default() };
+        return answer!(LookupAnswer { refusal: 8 });
     }
     match reference::lookup(&points_of(profile), t) {
-        Some(weight) => LookupAnswer { refusal: 0, found: 1, weight: weight as u32 },
+        Some(weight) => answer!(LookupAnswer { found: 1, weight: weight as u32 }),
         None => LookupAnswer::default(),
     }
 }

@@ -8,34 +8,45 @@ use crate::reference::{self, Refused};
 use crate::tally::Held;
 use leafanchor::calls::{BetterAnswer, ExtendAnswer, LookupAnswer, PlanAnswer};
 use leafanchor::{
-    choose, choose_by, question, question_by, Field, Job, Opening, Order, Plan, Profile, Refusal, Tie,
-    Winner, LEFT_OUT, ORDER_BYTES,
+    choose, choose_by, question, question_by, Field, Job, Opening, Order, OrderBuf, Plan, Profile, Refusal,
+    Tie, Winner, LEFT_OUT, ORDER_BYTES,
 };
 use std::fmt::Debug;
+use trials::answer;
 
 impl Trial {
-    /// `Order::try_from` judges as the reference does, and gives the same bus-free time and jobs.
+    /// `Order::try_from` and `OrderBuf::try_from` judge as the reference does, and give the same bus-free time and jobs;
+    /// the bytes that an order took over it gives back.
     pub(super) fn typed_order(&mut self, bytes: &[u8], judged: &Result<trials::Order, Refused>) {
-        let given = Order::try_from(bytes).map(contents);
         let wanted = judged.as_ref().map(wanted_order).map_err(|&refused| refused);
-        self.compare_types("Order::try_from", given, wanted, &bytes);
+        let given = Order::try_from(bytes).map(contents);
+        self.compare_types("Order::try_from", given, wanted.clone(), &bytes);
+        let given = OrderBuf::try_from(bytes.to_vec()).map(|order| {
+            let contents = contents(order.as_order());
+            assert_eq!(order.into_bytes(), bytes);
+            contents
+        });
+        self.compare_types("OrderBuf::try_from", given, wanted, &bytes);
     }
 
-    /// `Order::pack` judges as the reference does, and gives an order of these jobs over the packed bytes.
+    /// `Order::pack` and `OrderBuf::pack` judge as the reference does, and give an order of these jobs over the packed
+    /// bytes.
     pub(super) fn typed_pack(&mut self, t0: i32, numbers: &[i32]) {
         let unpacked: Option<Vec<Job>> = numbers.chunks(6).map(job_of_numbers).collect();
         let jobs = match unpacked {
             Some(jobs) => jobs,
             None => return, // No list of jobs has these numbers.
         };
-        let mut room = [0; ORDER_BYTES];
-        let given = Order::pack(t0, &jobs, &mut room).map(|order| (contents(order), order.bytes().to_vec()));
         let wanted = reference::judged_numbers(t0, numbers)
             .map(|order| (wanted_order(&order), trials::packed(&order)));
-        self.compare_types("Order::pack", given, wanted, &(t0, numbers));
+        let mut room = [0; ORDER_BYTES];
+        let given = Order::pack(t0, &jobs, &mut room).map(|order| (contents(order), order.bytes().to_vec()));
+        self.compare_types("Order::pack", given, wanted.clone(), &(t0, numbers));
+        let given = OrderBuf::pack(t0, &jobs).map(|order| (contents(order.as_order()), order.into_bytes()));
+        self.compare_types("OrderBuf::pack", given, wanted, &(t0, numbers));
     }
 
-    /// `Order::plan` gives the reference's figures, starts and kept places.
+    /// `Order::plan` gives the reference's figures, starts, kept places and text.
     pub(super) fn typed_plan(&mut self, bytes: &[u8], wanted: &Wanted) {
         let work = &mut self.typed_work;
         let given = Order::try_from(bytes).and_then(|order| order.plan(work)).map(figures);
@@ -47,8 +58,12 @@ impl Trial {
         let work = &mut self.typed_work;
         let given = Order::try_from(bytes)
             .and_then(|order| order.plan_halves(work))
-            .map(|plan| (figures(*plan), plan.seconds_lost()));
-        let wanted = wanted_figures(wanted).map(|figures| (figures, wanted.seconds_lost));
+            .map(|plan| (figures(*plan), plan.seconds_lost(), plan.to_string()));
+        let seconds_lost = wanted.seconds_lost;
+        let wanted = wanted_figures(wanted).map(|figures| {
+            let text = format!("{}; {seconds_lost} optional seconds lost", figures.3);
+            (figures, seconds_lost, text)
+        });
         self.compare_types("Order::plan_halves", given, wanted, &bytes);
     }
 
@@ -79,8 +94,8 @@ impl Trial {
 
     /// `Profile::lookup` over a list that a profile takes.
     pub(super) fn typed_lookup(&mut self, profile: Result<Profile, Refusal>, t: i32, wanted: LookupAnswer) {
-        let input = (t, format!("{profile:?}"));
-        let given = profile.map(|profile| profile.lookup(t));
+        let input = (t, &profile);
+        let given = profile.as_ref().map(|profile| profile.lookup(t)).map_err(|&refusal| refusal);
         let found = if wanted.found == 1 { Some(wanted.weight) } else { None };
         self.compare_types(
             "Profile::lookup",
@@ -172,12 +187,10 @@ impl Trial {
         if matches!(wanted, Err(Refused { number: 10, .. })) {
             return;
         }
-        let given = given.map_err(|refusal| Refused {
-            number: refusal.number(),
-            place: refusal.place(),
-            field: refusal.field().map_or(0, Field::figure),
-        });
-        let number = given.as_ref().map_or_else(|refused| refused.number, |_| 0);
+        let number = given.as_ref().map_or_else(|refusal| refusal.number(), |_| 0);
+        let given =
+            given.map_err(|refusal| (number, refusal.place(), refusal.field().map_or(0, Field::figure)));
+        let wanted = wanted.map_err(|refused| (refused.number, refused.place_of_job(), refused.field));
         self.tally.compare_held(Held::Type(name), (number, given, true), wanted, input);
     }
 }
@@ -190,55 +203,75 @@ fn unless_refused<A>(refused: Refused, wanted: A) -> Result<A, Refused> {
     }
 }
 
-/// What an order holds, its jobs read in both directions and by place.
-fn contents(order: Order<'_>) -> (i32, Vec<Job>) {
+/// What an order holds, its jobs read in both directions and by place, and its text.
+fn contents(order: Order<'_>) -> (i32, Vec<Job>, String) {
     let jobs: Vec<Job> = order.jobs().collect();
     assert_eq!((order.count(), order.jobs().len()), (jobs.len(), jobs.len()));
     assert!(order.jobs().rev().eq(jobs.iter().rev().copied()));
     assert!((0..jobs.len() + 2).all(|place| order.job(place).as_ref() == jobs.get(place)));
-    (order.t0(), jobs)
+    (order.t0(), jobs, order.to_string())
 }
 
-fn wanted_order(order: &trials::Order) -> (i32, Vec<Job>) {
-    (order.t0, order.numbers().chunks(6).filter_map(job_of_numbers).collect())
+fn wanted_order(order: &trials::Order) -> (i32, Vec<Job>, String) {
+    let jobs: Vec<Job> = order.numbers().chunks(6).filter_map(job_of_numbers).collect();
+    let lines: Vec<String> = order.jobs.iter().map(line_of_job).collect();
+    (order.t0, jobs, [vec![format!("bus free at {}", order.t0)], lines].concat().join("\n"))
+}
+
+/// A job's line in the text of its order.
+fn line_of_job(job: &trials::Job) -> String {
+    let weighs = if job.critical == 1 { "critical".to_string() } else { format!("weight {}", job.weight) };
+    let trials::Job { number, ready, length, deadline, .. } = job;
+    format!("job {number}: {weighs}, ready {ready}, length {length}, deadline {deadline}")
 }
 
 /// The job of six numbers, if there is one.
 fn job_of_numbers(n: &[i32]) -> Option<Job> {
-    match *n {
-        [number, 0, weight, ready, length, deadline] => {
-            Some(Job::optional(number, weight, ready, length, deadline))
-        }
-        [number, 1, weight, ready, length, deadline] => {
-            let mut job = Job::critical(number, ready, length, deadline);
-            job.weight = weight;
-            Some(job)
-        }
-        _ => None,
-    }
+    let &[number, critical, weight, ready, length, deadline] = <&[i32; 6]>::try_from(n).ok()?;
+    let job = match critical {
+        0 => Job::optional(number),
+        1 => Job::critical(number),
+        _ => return None,
+    };
+    Some(job.weight(weight as u32).ready(ready).length(length).deadline(deadline))
 }
 
-/// A plan as the call answers it, its starts as the call writes them, and its kept places.
-type Figures = (PlanAnswer, Vec<i32>, Vec<usize>);
+/// A plan as the call answers it, its starts as the call writes them, its kept places and its text.
+type Figures = (PlanAnswer, Vec<i32>, Vec<usize>, String);
 
-fn wanted_figures(Wanted { answer, starts, .. }: &Wanted) -> Result<Figures, Refused> {
+fn wanted_figures(Wanted { answer, starts, numbers, .. }: &Wanted) -> Result<Figures, Refused> {
     let kept = (0..starts.len()).filter(|&place| starts[place] != LEFT_OUT).collect();
     let PlanAnswer { refusal: number, place, field, .. } = *answer;
-    unless_refused(Refused { number, place, field }, (*answer, starts.clone(), kept))
+    let text = wanted_text(answer, starts, numbers);
+    unless_refused(Refused { number, place, field }, (*answer, starts.clone(), kept, text))
+}
+
+/// The text of a plan: a line for each job, and one of figures.
+fn wanted_text(answer: &PlanAnswer, starts: &[i32], numbers: &[i32]) -> String {
+    let line = |(number, &start): (&i32, &i32)| match start {
+        LEFT_OUT => format!("job {number}: left out\n"),
+        _ => format!("job {number}: start {start}\n"),
+    };
+    let PlanAnswer { kept, kept_weight, lost_weight, finish, .. } = answer;
+    let lines: String = numbers.iter().zip(starts).map(line).collect();
+    let jobs = starts.len();
+    lines
+        + &format!(
+            "{kept} of {jobs} jobs kept; weight {kept_weight} kept, {lost_weight} lost; bus free at {finish}"
+        )
 }
 
 fn figures(plan: Plan) -> Figures {
-    let answer = PlanAnswer {
+    let answer = answer!(PlanAnswer {
         mask: plan.mask,
         kept: plan.kept,
         kept_weight: plan.kept_weight,
         lost_weight: plan.lost_weight,
         finish: plan.finish,
-        points: plan.points,
-        ..Default::default()
-    };
+        points: plan.points
+    });
     let starts: Vec<i32> = plan.starts().map(|start| start.unwrap_or(LEFT_OUT)).collect();
     assert_eq!(plan.kept_places().len(), plan.kept as usize);
     assert!((0..64).all(|place| plan.keeps(place) == (plan.mask << place >> 63 == 1)));
-    (answer, starts, plan.kept_places().collect())
+    (answer, starts, plan.kept_places().collect(), plan.to_string())
 }

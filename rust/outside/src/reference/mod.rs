@@ -35,6 +35,14 @@ impl Refused {
     pub fn at(number: u32, place: usize) -> Self {
         Refused { number, place, field: 0 }
     }
+
+    /// The place, where the refusal is about one job.
+    pub fn place_of_job(&self) -> Option<usize> {
+        match self.number {
+            6 | 7 | 13 => Some(self.place),
+            _ => None,
+        }
+    }
 }
 
 /// The seconds of heating for each degree from -30 to 9, as a list: the library has two slopes.
