@@ -46,8 +46,9 @@ pub enum After {
 pub struct Work {
     now: Vec<i32>,
     before: Vec<i32>,
-    zeros: Vec<i32>,
     lent: usize,
+    /// Whether the area was found to be as it was after the last call.
+    untouched: bool,
 }
 
 impl Work {
@@ -55,12 +56,15 @@ impl Work {
     pub fn new(random: &mut Random) -> Self {
         let strange = |random: &mut Random| random.one_of(&[i32::MIN, i32::MAX, -1, 1, 200_000, -100_000, 7]);
         let before: Vec<i32> = (0..WORK_AREA + 3 * GUARD).map(|_| strange(random)).collect();
-        Work { now: before.clone(), before, zeros: vec![0; WORK_AREA], lent: WORK_AREA }
+        Work { now: before.clone(), before, lent: WORK_AREA, untouched: true }
     }
 
     /// The next lent part, all of it other than 0.
     pub fn lend(&mut self, random: &mut Random) -> &mut [i32] {
-        self.now.copy_from_slice(&self.before);
+        if !self.untouched {
+            self.now.copy_from_slice(&self.before);
+        }
+        self.untouched = false; // until it is found to be
         self.lent = match random.below(24) {
             0 => WORK_AREA - 1,
             1 => random.below(WORK_AREA),
@@ -76,12 +80,17 @@ impl Work {
     }
 
     /// Whether the area is as it must be after the last call.
-    pub fn holds(&self, after: After) -> bool {
-        match after {
-            After::Cleared => {
-                self.now[..WORK_AREA] == self.zeros[..] && self.now[WORK_AREA..] == self.before[WORK_AREA..]
+    pub fn holds(&mut self, after: After) -> bool {
+        // All bits that are not as they must be: without an end before the last number this takes many at a time.
+        let front = self.now[..WORK_AREA].iter();
+        let wrong = match after {
+            After::Cleared => front.fold(0, |wrong, number| wrong | number),
+            After::Untouched => {
+                front.zip(&self.before).fold(0, |wrong, (now, before)| wrong | (now ^ before))
             }
-            After::Untouched => self.now == self.before,
-        }
+        };
+        let holds = wrong == 0 && self.now[WORK_AREA..] == self.before[WORK_AREA..];
+        self.untouched = holds && after == After::Untouched;
+        holds
     }
 }

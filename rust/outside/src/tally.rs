@@ -26,7 +26,7 @@ impl Held {
 }
 
 /// Some order has more points than this, 200 a prefix.
-const MANY_POINTS: usize = 48 * 200;
+const MANY_POINTS: u32 = 48 * 200;
 
 /// Refusals are numbered below this; 0 is none.
 const NUMBERS: usize = 16;
@@ -50,8 +50,8 @@ pub struct Tally {
     /// Orders of 48 jobs, and those of them with a feasible choice.
     pub longest: usize,
     pub longest_feasible: usize,
-    /// The greatest point total of an order planned for its long lists.
-    pub most_points: usize,
+    /// The greatest point total of an order that was planned.
+    pub most_points: u32,
     /// Edges of the contactor's rest.
     pub rest: RestEdges,
     /// What planning halves turned on.

@@ -84,11 +84,14 @@ pub fn profile_of(random: &mut Random, style: Style, points: usize, heaviest: i3
 
 /// `count` different numbers from `low` to `high`, rising.
 fn rising(random: &mut Random, count: usize, low: i32, high: i32) -> Vec<i32> {
-    let mut all = std::collections::BTreeSet::new();
+    let mut all = Vec::with_capacity(count);
     while all.len() < count {
-        all.insert(random.within(low, high));
+        let number = random.within(low, high);
+        if let Err(place) = all.binary_search(&number) {
+            all.insert(place, number);
+        }
     }
-    all.into_iter().collect()
+    all
 }
 
 /// `n` different job numbers below `end` in any order.

@@ -2,7 +2,6 @@
 
 use super::Trial;
 use crate::inputs;
-use crate::reference;
 use trials::{dense_order, packed, wide_order, Order};
 
 impl Trial {
@@ -18,7 +17,6 @@ impl Trial {
         for (order, bytes) in [(&one, &first), (&other, &second)] {
             self.plan_bytes(bytes);
             self.extend_by(&[order.t0, 0], bytes);
-            self.tally.most_points = self.tally.most_points.max(reference::point_total(order));
         }
         self.weigh(&first, &second);
     }

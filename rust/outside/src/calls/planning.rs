@@ -76,8 +76,10 @@ impl Trial {
         match planned {
             Ok((best, order)) => {
                 self.count_rest_edges(&order, best);
+                let answer = wanted_plan(&order, best);
+                self.tally.most_points = self.tally.most_points.max(answer.points);
                 Wanted {
-                    answer: wanted_plan(&order, best),
+                    answer,
                     starts: starts_of(&order, best),
                     numbers: order.jobs.iter().map(|job| job.number).collect(),
                     seconds_lost: reference::seconds_lost(&order, best),

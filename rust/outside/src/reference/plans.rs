@@ -4,7 +4,7 @@
 //! differ the one that leaves the job out comes first: that place is their highest differing bit, so the
 //! smaller number comes first.
 
-use super::profiles::{extended, extended_by_all_choices};
+use super::profiles::{extended, led_to, shortest};
 use super::REST;
 use trials::Order;
 
@@ -70,16 +70,14 @@ pub fn best_forward(order: &Order, keep: Keep) -> Option<Best> {
     let mut choices = vec![Best { weight: 0, bus_free: order.t0, choice: 0 }];
     for (place, job) in order.jobs.iter().enumerate() {
         let mut next = Vec::with_capacity(2 * choices.len());
-        for earlier in &choices {
-            if job.critical == 0 {
-                next.push(*earlier);
-            }
-            let finish = earlier.bus_free.max(job.ready) + job.length;
-            if finish <= job.deadline {
-                let (weight, choice) = (earlier.weight + job.weight, earlier.choice | 1 << place);
-                next.push(Best { weight, bus_free: finish + REST, choice });
-            }
+        if job.critical == 0 {
+            next.extend_from_slice(&choices);
         }
+        next.extend(choices.iter().filter_map(|earlier| {
+            let finish = earlier.bus_free.max(job.ready) + job.length;
+            let (weight, choice) = (earlier.weight + job.weight, earlier.choice | 1 << place);
+            Some(Best { weight, bus_free: finish + REST, choice }).filter(|_| finish <= job.deadline)
+        }));
         choices = needed(next, keep);
     }
     choices.into_iter().min_by_key(Best::key)
@@ -90,7 +88,7 @@ pub fn best_forward(order: &Order, keep: Keep) -> Option<Best> {
 /// and has the bus free no later, and by one of the same weight that has it free no later and comes first by
 /// the tie rule (later picks are higher bits, equal in both).
 fn needed(mut choices: Vec<Best>, keep: Keep) -> Vec<Best> {
-    choices.sort_unstable_by_key(Best::key);
+    choices.sort_by_key(Best::key); // nearly two sorted runs, which this sort joins
     let mut earliest_heavier = i32::MAX;
     let mut now = Best { weight: -1, bus_free: i32::MAX, choice: 0 };
     choices.retain(|choice| {
@@ -107,15 +105,16 @@ fn needed(mut choices: Vec<Best>, keep: Keep) -> Vec<Best> {
 }
 
 /// The points of the profiles of the prefixes 1 to n, together. Each profile is the one before it extended by
-/// one job; those of short prefixes are also made from the definition, and must agree.
+/// one job; those of short prefixes are also made of all that the choices lead to, and must agree.
 pub fn point_total(order: &Order) -> usize {
-    let bus_free = [(order.t0, 0)];
-    let mut profile = bus_free.to_vec();
+    let mut profile = vec![(order.t0, 0)];
+    let mut by_all_choices = profile.clone();
     let mut total = 0;
-    for k in 1..=order.jobs.len() {
-        profile = extended(&profile, &order.jobs[k - 1..k]);
-        if k <= MOST_JOBS_OF_ALL_CHOICES {
-            assert_eq!(profile, extended_by_all_choices(&bus_free, &order.jobs[..k]));
+    for (place, job) in order.jobs.iter().enumerate() {
+        profile = extended(&profile, &order.jobs[place..=place]);
+        if place < MOST_JOBS_OF_ALL_CHOICES {
+            by_all_choices = led_to(&by_all_choices, job);
+            assert_eq!(profile, shortest(&by_all_choices), "the two references differ");
         }
         total += profile.len();
     }

@@ -32,22 +32,30 @@ pub fn lookup(profile: &[Point], t: i32) -> Option<i32> {
     point_at(profile, t).map(|point| point.1)
 }
 
-/// The shortest profile that gives at each time the greatest weight of the points at or before it: times in
-/// rising order, the heavier first of one time, and a point stays where it is heavier than all before it.
-fn shortest(mut points: Vec<Point>) -> Vec<Point> {
-    points.sort_unstable_by_key(|&(time, weight)| (time, -weight));
-    let mut heaviest = -1;
-    points.retain(|&(_, weight)| {
-        let stays = weight > heaviest;
-        heaviest = heaviest.max(weight);
-        stays
-    });
-    points
+/// The shortest profile that gives at each time the greatest weight of the points at or before it: of each weight the
+/// earliest point, where that is earlier than every heavier one.
+pub(super) fn shortest(points: &[Point]) -> Vec<Point> {
+    let heaviest = points.iter().map(|point| point.1).max().unwrap_or(0);
+    let mut earliest = vec![i32::MAX; heaviest as usize + 1]; // by the weight; MAX where no point has it
+    for &(time, weight) in points {
+        let so_far = &mut earliest[weight as usize];
+        *so_far = time.min(*so_far);
+    }
+    let mut shortest = Vec::new();
+    let mut soonest = i32::MAX;
+    for (weight, &time) in earliest.iter().enumerate().rev() {
+        if time < soonest {
+            soonest = time;
+            shortest.push((time, weight as i32));
+        }
+    }
+    shortest.reverse();
+    shortest
 }
 
 /// The greater of two profiles at each time.
 pub fn better_of(p: &[Point], q: &[Point]) -> Vec<Point> {
-    shortest([p, q].concat())
+    shortest(&[p, q].concat())
 }
 
 /// A profile extended by jobs. Both ways of doing it must agree where both are done.
@@ -60,32 +68,33 @@ pub fn extended(profile: &[Point], jobs: &[Job]) -> Vec<Point> {
 }
 
 /// Over every point and every choice run from that point's time.
-pub(super) fn extended_by_all_choices(profile: &[Point], jobs: &[Job]) -> Vec<Point> {
+fn extended_by_all_choices(profile: &[Point], jobs: &[Job]) -> Vec<Point> {
     let mut points = Vec::new();
     for &(time, weight) in profile {
         for choice in 0..1 << jobs.len() {
             points.extend(run(jobs, time, choice).map(|(bus_free, kept)| (bus_free, weight + kept)));
         }
     }
-    shortest(points)
+    shortest(&points)
+}
+
+/// What each of these points leads to with a job left out and with it kept.
+pub(super) fn led_to(points: &[Point], job: &Job) -> Vec<Point> {
+    let mut next = Vec::with_capacity(2 * points.len());
+    if job.critical == 0 {
+        next.extend_from_slice(points);
+    }
+    for &(time, weight) in points {
+        let finish = time.max(job.ready) + job.length;
+        if finish <= job.deadline {
+            next.push((finish + REST, weight + job.weight));
+        }
+    }
+    next
 }
 
 /// Job by job. What an earlier and no lighter point leads to is never later or lighter, so the points that
 /// `shortest` drops are not missed later.
 fn extended_forward(profile: &[Point], jobs: &[Job]) -> Vec<Point> {
-    let mut points = profile.to_vec();
-    for job in jobs {
-        let mut next = Vec::new();
-        for &(time, weight) in &points {
-            if job.critical == 0 {
-                next.push((time, weight));
-            }
-            let finish = time.max(job.ready) + job.length;
-            if finish <= job.deadline {
-                next.push((finish + REST, weight + job.weight));
-            }
-        }
-        points = shortest(next);
-    }
-    points
+    jobs.iter().fold(profile.to_vec(), |points, job| shortest(&led_to(&points, job)))
 }
