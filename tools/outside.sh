@@ -1,9 +1,9 @@
 #!/bin/sh
 # Everything outside Rattle, against the library of tools/native.sh on the machine at hand: the header from C and
 # C++, the Rust wrapper, the examples, the comparison of every call with an independent reference, and the stack use
-# of every call. On a machine that is not x86-64 then the same against the shipped library, which is for x86-64: a
-# cross compiler makes the programs and an emulator runs them. `tools/outside.sh MACHINE` holds the library for that
-# machine alone, x86_64 or aarch64. `tools/outside.sh tools` only sees to it that the compilers and the emulator
+# of every call. On a machine that is not x86-64 at the same time the same against the shipped library, which is for
+# x86-64: a cross compiler makes the programs and an emulator runs them. `tools/outside.sh MACHINE` holds the library for
+# that machine alone, x86_64 or aarch64. `tools/outside.sh tools` only sees to it that the compilers and the emulator
 # are there: as root on Debian it installs what is missing, and says so before. Ends with 0 if all holds.
 set -eu
 cd "$(dirname "$0")/.."
@@ -12,13 +12,13 @@ here=$(uname -m)
 standards='c99 c11 c17 c2x c++98 c++11 c++17 c++20'
 warnings='-O2 -Wall -Wextra -Wpedantic -Wconversion -Werror -Iinclude'
 
-say() { printf 'outside: %s\n' "$*"; }
-die() { printf 'outside: %s\n' "$*" >&2; exit 1; }
+say() { printf 'outside: %s%s\n' "${machine:+$machine: }" "$*"; }
+die() { say "$*" >&2; exit 1; }
 
 # at MACHINE: its library, its compilers, and what runs their programs here.
 at() {
     machine=$1 triple=$1-unknown-linux-gnu out=$PWD/rust/target/outside/$1
-    built=$PWD/rust/target/$triple/release
+    built=$out/$triple/release
     library=$PWD/target/native/libleafanchor.a
     cc=gcc cxx=g++ emulator='' foreign='' packages='gcc g++ libc6-dev rustc cargo'
     mkdir -p "$out"
@@ -85,12 +85,12 @@ compile_both() {
 in_cargo() {
     command=$1
     shift
-    (cd rust && "$rust/cargo" "$command" --quiet --release --offline --locked --target "$triple" "$@")
+    (cd rust && "$rust/cargo" "$command" --quiet --offline --locked --target "$triple" "$@")
 }
 
 for_cargo() {
     export RUSTC="$rust/rustc" RUSTDOC="$rust/rustdoc"
-    export LEAFANCHOR_LIB_DIR="${library%/*}" CARGO_TARGET_DIR="$PWD/rust/target"
+    export LEAFANCHOR_LIB_DIR="${library%/*}" CARGO_TARGET_DIR="$out"
     name=$(printf '%s' "$triple" | tr a-z- A-Z_)
     export "CARGO_TARGET_${name}_LINKER=$cc"
     [ -z "$emulator" ] || export "CARGO_TARGET_${name}_RUNNER=$emulator"
@@ -165,15 +165,15 @@ hold_c() {
     done
 }
 
-# The wrapper's tests; on the machine at hand also those in its documentation, the wrapper without std, and clippy
-# where it is at hand.
+# The wrapper's tests, with overflow checked; on the machine at hand also those in its documentation, the wrapper without
+# std, and clippy where it is at hand.
 hold_wrapper() {
-    say "the wrapper and its example"
-    in_cargo build -p leafanchor --example plan_p1
-    in_cargo test -p leafanchor
+    say "the wrapper"
+    in_cargo test -p leafanchor --lib --tests
     [ -z "$emulator" ] || return 0
-    in_cargo build -p leafanchor --no-default-features
-    in_cargo build -p leafanchor --no-default-features --features alloc
+    in_cargo test -p leafanchor --doc
+    in_cargo check -p leafanchor --no-default-features
+    in_cargo check -p leafanchor --no-default-features --features alloc
     if [ -x "$rust/cargo-clippy" ] && "$rust/cargo" clippy --version >/dev/null 2>&1; then
         say "clippy"
         in_cargo clippy --workspace --all-targets -- -D warnings
@@ -206,6 +206,7 @@ shown() {
 
 hold_p1() {
     say "P1 from C, C++ and Rust"
+    in_cargo build --release -p leafanchor --example plan_p1
     shown examples/p1.expected README.md
     for program in "$out/plan_p1.c11" "$out/plan_p1.cxx17" "$built/examples/plan_p1"; do
         $emulator "$program" <examples/p1.order >"$out/p1.txt"
@@ -239,12 +240,16 @@ hold_worked() {
 
 hold_calls() {
     say "every call against the reference"
-    in_cargo build -p outside
+    in_cargo build --release -p outside
     $emulator "$built/outside" layout >"$out/layout.rust.txt"
     for made in cxx17 rust; do
         cmp "$out/layout.c11.txt" "$out/layout.$made.txt" || die "the answers are laid out otherwise: $made"
     done
-    $emulator "$built/outside" || die "the library and the reference differ"
+    $emulator "$built/outside" >"$out/compared.txt" || {
+        cat "$out/compared.txt"
+        die "the library and the reference differ"
+    }
+    cat "$out/compared.txt"
 }
 
 hold_stack() {
@@ -263,12 +268,13 @@ if [ $# = 0 ]; then
     set -- "$here"
     [ "$here" = x86_64 ] || set -- "$here" x86_64
 fi
-for machine in "$@"; do
-    at "$machine"
-    have_tools || install_tools
-    [ -z "$only" ] || continue
+
+# hold MACHINE: all of it.
+hold() {
+    at "$1"
+    find_rust
     [ -f "$library" ] || die "$library is missing: tools/native.sh makes it"
-    say "the library for $machine${emulator:+, under $emulator}: ${library#"$PWD"/}"
+    say "the library${emulator:+, under $emulator}: ${library#"$PWD"/}"
     for_cargo
     hold_header
     hold_c
@@ -278,5 +284,24 @@ for machine in "$@"; do
     hold_worked
     hold_calls
     hold_stack
+}
+
+for machine in "$@"; do
+    at "$machine"
+    have_tools || install_tools
 done
-[ -n "$only" ] || say "all holds"
+[ -z "$only" ] || exit 0
+
+# All at once: the emulator takes one processor for most of the time. What is started so hears no interrupt by itself.
+trap 'trap "" TERM && kill 0' INT
+started=''
+for machine in "$@"; do
+    hold "$machine" &
+    started="$started $!"
+done
+machine='' failed=''
+for each in $started; do
+    wait "$each" || failed=yes
+done
+[ -z "$failed" ] || die "something does not hold"
+say "all holds"

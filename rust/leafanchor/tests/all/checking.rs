@@ -2,7 +2,7 @@
 
 use leafanchor::{calls, Job, Order, OrderBuf, Refusal, WorkArea, MOST_JOBS, PLAN_BYTES, REST, WORK_AREA};
 
-const P1_PACKED: &[u8] = include_bytes!("../../../examples/p1.order");
+const P1_PACKED: &[u8] = include_bytes!("../../../../examples/p1.order");
 
 /// Our plan of P1: jobs 7, 3, 5 and 9, at -600, -90, 225 and 340.
 const P1_PLAN: [u8; 15] = [0xD8, 0, 0, 0, 0, 0, 0xFF, 0x6A, 0x3F, 0xFA, 0x60, 0x03, 0x84, 0x01, 0x54];

@@ -10,7 +10,7 @@ const P1: [Job; 5] = [
     Job::critical(5).ready(100).length(100).deadline(450),
     Job::optional(9).weight(15).ready(0).length(100).deadline(500),
 ];
-const P1_PACKED: &[u8] = include_bytes!("../../../examples/p1.order");
+const P1_PACKED: &[u8] = include_bytes!("../../../../examples/p1.order");
 
 /// The plan of jobs, bus free at 0.
 fn planned(jobs: &[Job]) -> Result<Plan, Refusal> {

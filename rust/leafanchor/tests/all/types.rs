@@ -5,7 +5,7 @@ use leafanchor::{
     Reader, Refusal, Tie, WorkArea, MOST_JOBS, ORDER_BYTES, WORK_AREA,
 };
 
-const P1_PACKED: [u8; 44] = *include_bytes!("../../../examples/p1.order");
+const P1_PACKED: [u8; 44] = *include_bytes!("../../../../examples/p1.order");
 
 /// A job that fits anywhere.
 fn job(number: i32) -> Job {
