@@ -1,4 +1,5 @@
-//! The answers of the library's calls, laid out as in C.
+//! The answers of the library's calls, laid out as in C. A weight is a `u32` as in every type of this crate; where the
+//! header has an `int32_t` for one, these are the same 32 bits.
 
 use crate::job::Job;
 use crate::refusal::Refusal;

@@ -107,7 +107,8 @@ pub fn lookup(profile: &[i32], t: i32) -> LookupAnswer {
 
 /// Looks a time up in a profile of point records. Refusal 8.
 pub fn lookup_records(points: &[Point], t: i32) -> LookupAnswer {
-    // SAFETY: the records are only read and laid out as in C; the length is the slice's own.
+    // SAFETY: the records are only read and laid out as in C, whose weight is any 32 bits; the length is the slice's
+    // own.
     unsafe { leafanchor_lookup_records(points.as_ptr(), points.len(), t) }
 }
 
