@@ -293,7 +293,7 @@ done
 [ -z "$only" ] || exit 0
 
 # All at once: the emulator takes one processor for most of the time. What is started so hears no interrupt by itself.
-trap 'trap "" TERM && kill 0' INT
+trap 'trap "" TERM && kill 0 && exit 130' INT
 started=''
 for machine in "$@"; do
     hold "$machine" &
