@@ -126,7 +126,7 @@ module _ {work : List ℤ} {list : Prefix} {ready : ℤ} {rate : Rate} {was push
           made (waited ready (lastOf q fs) ∷ bs) (ap (whenReady ready) whole ∙ one-waits q fs bs early late)
           (held-more t is (b .0)) (omega (arith, b .1))
 
--- So it does with the limit of the ready time, and with what the rate adds.
+-- So what is placed by the limit of the ready time and by what the rate adds is the pushed list.
 pub pushes : {work : List ℤ} {list : Prefix} {ready : ℤ} {rate : Rate} {was pushed : List ℤ} {limit delta : ℤ} {r : ℕ}
     → CanPush work list ready rate was → limit ≡ limitOf ready → delta ≡ deltaOf rate → Placed work list ready limit delta r pushed
     → Pushed work list ready rate (record { place = r; count = top - r }) pushed
