@@ -54,12 +54,14 @@ fn make_plan(
     requires { ⌜ CanMake (now bytes) header mask totals end (now starts) ⌝ }
     ensures { λ r. ⌜ MadeIn (now (bytes .entry)) (now (starts .entry)) r (now (starts .exit)) ⌝ }
 {
+    let total = totals.weight;
+    let weight = end.weight;
     write_starts(bytes, header.count, header.t0, mask, starts);
     Planned::Made(Figures {
         mask: mask,
         kept: kept_of(mask),
-        kept_weight: end.weight as u32,
-        lost_weight: (totals.weight - end.weight) as u32,
+        kept_weight: weight as u32,
+        lost_weight: (total - weight) as u32,
         finish: end.finish,
         points: totals.points as u32,
     })
@@ -116,7 +118,8 @@ pub fn plan_order(bytes: &[u8], starts: &mut [i32], work: &mut [i32]) -> Planned
         PlanCall (now (bytes .entry)) (now (starts .entry)) (now (work .entry)) r (now (starts .exit)) (now (work .exit)) ⌝ }
 {
     let header = header_at(bytes);
-    if starts.len() < header.count {
+    let n = header.count;
+    if starts.len() < n {
         return Planned::Refused(plainly(10));
     }
     if work.len() < AREA {

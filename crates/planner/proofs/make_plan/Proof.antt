@@ -35,26 +35,24 @@ write-starts-requires c κs = let s = start c in rw (t0-back s) (can-write (s .p
 kept-of-requires : tie.Need-kept-of-requires
 kept-of-requires c κs = search needs
 
-cast-t11 : tie.Need-cast-t11
-cast-t11 c = let f = entry (c .before) .pre in omega (arith, weight-light f, total-light f)
-
-sub-t12 : tie.Need-sub-t12
-sub-t12 c = let told : tie.After-kept-of = c .before .before .before in weight-light (entry told .pre)
-
 cast-t13 : tie.Need-cast-t13
-cast-t13 c = search needs
+cast-t13 c = let f = entry c .pre in omega (arith, weight-light f, total-light f)
 
-cast-t14 : tie.Need-cast-t14
-cast-t14 c =
-    let told : tie.After-kept-of = c .before .before .before .before in
-    omega (arith, points-light (entry told .pre))
+sub-t14 : tie.Need-sub-t14
+sub-t14 c = weight-light (entry c .pre)
+
+cast-t15 : tie.Need-cast-t15
+cast-t15 c = search needs
+
+cast-t16 : tie.Need-cast-t16
+cast-t16 c = omega (arith, points-light (entry (c .before) .pre))
 
 same-length : tie.Need-same-length
 same-length c = search needs
 
 returns : tie.Need-returns
 returns c =
-    let told : tie.After-kept-of = c .before .before .before .before .before in
+    let told : tie.After-kept-of = c .before .before in
     let s = entry told in
     let finish : SFits w32 (s .args .end .finish) = record { sfits = c .struct-told2 .given .1 .0 .1 } in
     rw (toZ-ofZ finish)
@@ -67,9 +65,9 @@ make-plan-spec =
     (tie.spec
     write-starts-requires
     kept-of-requires
-    cast-t11
-    sub-t12
     cast-t13
-    cast-t14
+    sub-t14
+    cast-t15
+    cast-t16
     same-length
     returns)

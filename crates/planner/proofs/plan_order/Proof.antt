@@ -29,7 +29,7 @@ module _ (c : tie.After-header-at) where
   read = header-read (now (start .args .bytes)) (c .header-at .result) (c .header-at .ensures)
 
 abbrev header : tie.Else2 → tie.After-header-at
-header roomy = roomy .before .before .before
+header roomy = roomy .before .before
 
 abbrev roomy : tie.After-plan-within-arg2 → tie.Else2
 roomy lent = lent .before .before
@@ -42,7 +42,7 @@ plainly-requires c κs = search needs
 returns : tie.Need-returns
 returns c =
     let short : tie.Then1 = c .before in
-    let h : tie.After-header-at = short .before .before in
+    let h : tie.After-header-at = short .before in
     let a = start h .args in
     rw (c .plainly .ensures)
     (plan-no-room (now (a .bytes)) (now (a .starts)) (now (a .work)) (start h .pre) (omega (arith, short .if1 .taken, read h .count)))
@@ -54,7 +54,7 @@ returns-2 : tie.Need-returns-2
 returns-2 c =
     let short : tie.Then2 = c .before in
     let enough : tie.Else1 = short .before in
-    let h : tie.After-header-at = enough .before .before in
+    let h : tie.After-header-at = enough .before in
     let a = start h .args in
     rw (c .plainly2 .ensures)
     (plan-no-space (now (a .bytes)) (now (a .starts)) (now (a .work)) (start h .pre) (omega (arith, enough .if1 .left, read h .count))
