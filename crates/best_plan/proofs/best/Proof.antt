@@ -21,13 +21,13 @@ enum-told c = search needs
 best-within-requires : tie.Need-best-within-requires
 best-within-requires c κs =
     let e = c .before in
-    let j = e .before .before in
+    let j : tie.After-judge-sent = e .before .before in
     let a = j .before .before .before .args in
     told-fine (legalChecks (now (a .order)) (now (a .plan))) (sym (j .judge-sent .ensures) ∙ e .enum-told .given .1)
 
 returns : tie.Need-returns
 returns c =
-    let j = c .before .before .before in
+    let j : tie.After-judge-sent = c .before .before .before in
     let a = j .before .before .before .args in
     let r = c .before .refusal .given in
     best-stopped (now (a .order)) (now (a .plan)) (now (a .work)) (r .0 .0) (sym (j .judge-sent .ensures) ∙ r .1)

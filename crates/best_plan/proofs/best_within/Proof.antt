@@ -13,13 +13,17 @@ use Rattle.best_plan.specs.CallLaws.{no-room, best-told}
 use Rattle.best_plan.proofs.best_within.Statement.{statement}
 use Rattle.best_plan.proofs.best_within.Tie as tie
 
+-- Where the code starts.
+abbrev start : tie.Else1 → tie.Start
+start c = c .before .before .before
+
 plainly-requires : tie.Need-plainly-requires
 plainly-requires c κs = search needs
 
 returns : tie.Need-returns
 returns c =
     let t = c .before in
-    let s = t .before .before .before in
+    let s : tie.Start = t .before .before .before in
     rw (c .plainly .ensures)
     (no-room (now (s .args .order)) (now (s .args .plan)) (now (s .args .work)) (s .pre) (t .if1 .taken))
 
@@ -27,8 +31,11 @@ slice-relend-prefix-is-best : tie.Need-slice-relend-prefix-is-best
 slice-relend-prefix-is-best c = search needs
 
 -- The part lent is as long as the area.
-lent : (c : tie.Else1) → length (take area (now (c .before .before .before .args .work))) ≡ area
-lent c = length-take-le area (now (c .before .before .before .args .work)) (c .if1 .left)
+lent : (c : tie.Else1) → let s = start c in
+    length (take area (now (s .args .work))) ≡ area
+lent c =
+    let s = start c in
+    length-take-le area (now (s .args .work)) (c .if1 .left)
 
 slice-aggregate-is-best : tie.Need-slice-aggregate-is-best
 slice-aggregate-is-best c = omega (arith, lent (c .before))
@@ -36,7 +43,8 @@ slice-aggregate-is-best c = omega (arith, lent (c .before))
 is-best-requires : tie.Need-is-best-requires
 is-best-requires c κs =
     let d = c .before in
-    record { accepted = d .before .before .before .pre; room = omega (arith, lent d) }
+    let s = start d in
+    record { accepted = s .pre; room = omega (arith, lent d) }
 
 clear-requires : tie.Need-clear-requires
 clear-requires c κs = search needs
@@ -47,9 +55,9 @@ same-length c = search needs
 returns-2 : tie.Need-returns-2
 returns-2 c =
     let k = c .before in
-    let b = k .before .before .before in
-    let d = b .before .before in
-    let s = d .before .before .before in
+    let b : tie.After-is-best = k .before .before .before in
+    let d : tie.Else1 = b .before .before in
+    let s = start d in
     let part = b .is-best .last .1 .1 .0 in
     let long : length part ≡ area = omega (arith, lent d) in
     let rest = drop area (now (s .args .work)) in

@@ -17,7 +17,7 @@ same-length c = search needs
 returns : tie.Need-returns
 returns c =
     let m = c .before in
-    let t = m .before .before in
+    let t : tie.Then1 = m .before .before in
     let l = t .before in
     let a = l .before .before .before .args in
     legal-then (now (a .order)) (now (a .plan)) (l .is-legal .ensures) (t .if1 .taken) (m .keeps-most .ensures)

@@ -25,7 +25,8 @@ module _ (c : tie.In-loop Inv-loop μ-loop) where
   few : c .before .loop .place < 48
   few = let i = c .before .loop .inv in omega (arith, c .loop-test .taken, i .count, i .order .header .few)
 
-  room : 4 + 8 * c .before .loop .place + 8 ≤ length (now (c .before .before .before .args .order))
+  room : let s : tie.Start Inv-loop μ-loop = c .before .before .before in
+      4 + 8 * c .before .loop .place + 8 ≤ length (now (s .args .order))
   room = let i = c .before .loop .inv in omega (arith, c .loop-test .taken, i .count, i .order .header .whole)
 
 mul-job-at : tie.Need-mul-job-at Inv-loop μ-loop
@@ -57,14 +58,16 @@ small c =
 
 add-weight : tie.Need-add-weight Inv-loop μ-loop
 add-weight c =
-    let t = c .before .before .before in
+    let t : tie.In-loop Inv-loop μ-loop = c .before .before .before in
     omega (arith, small c, few t, t .before .loop .inv .light)
 
 add-place : tie.Need-add-place Inv-loop μ-loop
 add-place c = omega (arith, few (c .before .before .before))
 
 loop-less : tie.Need-loop-less Inv-loop μ-loop
-loop-less c = omega (arith, c .before .before .before .loop-test .taken)
+loop-less c =
+    let turn : tie.In-loop Inv-loop μ-loop = c .before .before .before in
+    omega (arith, turn .loop-test .taken)
 
 loop-again : tie.Need-loop-again Inv-loop μ-loop
 loop-again c =

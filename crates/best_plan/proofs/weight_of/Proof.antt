@@ -9,7 +9,7 @@ use Rattle.best_plan.proofs.weight_of.Tie as tie
 
 cast-result : tie.Need-cast-result
 cast-result c =
-    let a = c .before .before .before in
+    let a : tie.Start = c .before .before .before in
     let f = job-facts (a .args .job) .0 (a .pre) in
     rw (toZ-ofZ (facts-fit (a .args .job) f .weight))
     (omega (signed, f .weight), omega (signed, f .weight, abs-is (a .args .job .weight)))

@@ -12,6 +12,10 @@ use Rattle.choosing.specs.ChoosingLaws.{first-refused, second-refused}
 use Rattle.choosing.proofs.ask.Statement.{statement}
 use Rattle.choosing.proofs.ask.Tie as tie
 
+-- Where the code starts.
+abbrev entry : tie.After-enum-told → tie.Start
+entry c = c .before .before .before .before .before
+
 judge-order-requires : tie.Need-judge-order-requires
 judge-order-requires c κs = search needs
 
@@ -32,17 +36,18 @@ enum-told-2 c = search needs
 
 -- The first order has passed.
 first-passed : (c : tie.After-enum-told)
-    → judge (orderChecks (now (c .before .before .before .before .before .args .first))) ≡ fine
+    → let start = entry c in
+    judge (orderChecks (now (start .args .first))) ≡ fine
 first-passed c =
-    let j = c .before .before in
-    let s = j .before .before .before in
+    let j : tie.After-judge-order = c .before .before in
+    let s : tie.Start = j .before .before .before in
     told-fine (orderChecks (now (s .args .first))) (sym (j .judge-order .ensures) ∙ c .enum-told .given .1)
 
 compare-requires : tie.Need-compare-requires
 compare-requires c κs =
     let p = c .before in
-    let j = p .before .before in
-    let s = j .before .before .before .before .before .before in
+    let j : tie.After-judge-order2 = p .before .before in
+    let s = entry (j .before) in
     record {
       one = first-passed (j .before);
       other = told-fine (orderChecks (now (s .args .second))) (sym (j .judge-order2 .ensures) ∙ p .enum-told2 .given .1);
@@ -56,18 +61,18 @@ without-place-requires-2 c κs = search needs
 
 returns : tie.Need-returns
 returns c =
-    let n = c .before .before in
-    let j = n .before .before in
-    let s = j .before .before .before in
+    let n : tie.After-refusal = c .before .before in
+    let j : tie.After-judge-order = n .before .before in
+    let s : tie.Start = j .before .before .before in
     rw (c .without-place .ensures)
     (first-refused (ruleOf (s .args .tie)) (now (s .args .first)) (now (s .args .second)) (s .args .t) (now (s .args .work)) (n .refusal .given .0 .0)
     (sym (j .judge-order .ensures) ∙ n .refusal .given .1))
 
 returns-2 : tie.Need-returns-2
 returns-2 c =
-    let n = c .before .before in
-    let j = n .before .before in
-    let s = j .before .before .before .before .before .before in
+    let n : tie.After-refusal2 = c .before .before in
+    let j : tie.After-judge-order2 = n .before .before in
+    let s = entry (j .before) in
     rw (c .without-place2 .ensures)
     (second-refused (ruleOf (s .args .tie)) (now (s .args .first)) (now (s .args .second)) (s .args .t) (now (s .args .work)) (n .refusal2 .given .0 .0)
     (first-passed (j .before)) (sym (j .judge-order2 .ensures) ∙ n .refusal2 .given .1))
@@ -77,7 +82,7 @@ same-length c = search needs
 
 returns-3 : tie.Need-returns-3
 returns-3 c =
-    let s = c .before .before .before .before .before .before .before .before .before .before .before in
+    let s : tie.Start = c .before .before .before .before .before .before .before .before .before .before .before in
     rw (toZ-ofZ (s .fits .t)) at (c .before .compare .ensures)
 
 pub ask-spec : {M : Type 1} → statement M

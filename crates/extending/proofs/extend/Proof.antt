@@ -19,13 +19,13 @@ enum-told c = search needs
 
 extend-profile-requires : tie.Need-extend-profile-requires
 extend-profile-requires c κs =
-    let e = c .before .before in
+    let e : tie.After-enum-told = c .before .before in
     let a = e .before .before .before .before .args in
     told-fine (seven (now (a .profile)) (now (a .bytes))) (sym (e .before .before .judge-jobs .ensures) ∙ e .enum-told .given .1)
 
 returns : tie.Need-returns
 returns c =
-    let j = c .before .before .before in
+    let j : tie.After-judge-jobs = c .before .before .before in
     let a = j .before .before .args in
     let r = c .before .refusal .given in
     extend-stopped (now (a .profile)) (now (a .bytes)) (now (a .out)) (now (a .work)) (r .0 .0)

@@ -16,7 +16,9 @@ header-at-requires : tie.Need-header-at-requires
 header-at-requires c κs = header-there (c .before .pre)
 
 start-profile-requires : tie.Need-start-profile-requires
-start-profile-requires c κs = can-begin (c .before .before .before .pre)
+start-profile-requires c κs =
+    let s : tie.Start = c .before .before .before in
+    can-begin (s .pre)
 
 -- The header that was read has the order's count.
 counted : (c : tie.After-header-at) → c .header-at .result .count ≡ countOf (now (c .before .before .args .bytes))
@@ -34,9 +36,9 @@ fill-last-requires c κs =
 
 write-list-requires : tie.Need-write-list-requires
 write-list-requires c κs =
-    let f = c .before .before .before in
-    let p = f .before .before .before in
-    let h = p .before .before in
+    let f : tie.After-fill-last = c .before .before .before in
+    let p : tie.After-start-profile = f .before .before .before in
+    let h : tie.After-header-at = p .before .before in
     can-put (h .before .before .pre) (counted h) (p .start-profile .ensures) (room p) (f .fill-last .ensures)
 
 same-length : tie.Need-same-length
@@ -48,9 +50,9 @@ same-length-2 c = search needs
 returns : tie.Need-returns
 returns c =
     let w = c .before in
-    let f = w .before .before .before .before in
-    let p = f .before .before .before in
-    let h = p .before .before in
+    let f : tie.After-fill-last = w .before .before .before .before in
+    let p : tie.After-start-profile = f .before .before .before in
+    let h : tie.After-header-at = p .before .before in
     extended (h .before .before .pre) (counted h) (p .start-profile .ensures) (room p) (f .fill-last .ensures)
     (w .write-list .ensures)
 

@@ -12,6 +12,10 @@ use Rattle.extending.specs.CallLaws.{extend-passed, extend-not-valid, ex
 use Rattle.extending.proofs.extend_profile.Statement.{statement}
 use Rattle.extending.proofs.extend_profile.Tie as tie
 
+-- Where the code starts.
+abbrev start : tie.Else1 → tie.Start
+start c = c .before .before .before
+
 valid-requires : tie.Need-valid-requires
 valid-requires c κs = search needs
 
@@ -21,13 +25,14 @@ plainly-requires c κs = search needs
 returns : tie.Need-returns
 returns c =
     let t = c .before in
-    let s = t .before .before .before in
+    let s : tie.Start = t .before .before .before in
     rw (c .plainly .ensures)
     (extend-not-valid (now (s .args .profile)) (now (s .args .bytes)) (now (s .args .out)) (now (s .args .work)) (s .pre)
     (sym (t .before .valid .ensures) ∙ not-true _ (t .if1 .taken)))
 
 -- Past the test the profile is valid.
-is-valid : (c : tie.Else1) → holdsProfile (now (c .before .before .before .args .profile)) ≡ true
+is-valid : (c : tie.Else1) → let s = start c in
+    holdsProfile (now (s .args .profile)) ≡ true
 is-valid c = sym (c .before .valid .ensures) ∙ not-false _ (c .if1 .left)
 
 last-weight-requires : tie.Need-last-weight-requires
@@ -36,7 +41,8 @@ last-weight-requires c κs = is-valid c
 cast-judge-weight : tie.Need-cast-judge-weight
 cast-judge-weight c =
     let v = c .before in
-    omega (arith, c .last-weight .ensures, last-light (now (v .before .before .before .args .profile)) (is-valid v))
+    let s = start v in
+    omega (arith, c .last-weight .ensures, last-light (now (s .args .profile)) (is-valid v))
 
 judge-weight-requires : tie.Need-judge-weight-requires
 judge-weight-requires c κs = search needs
@@ -49,22 +55,23 @@ enum-told c = search needs
 
 extend-with-room-requires : tie.Need-extend-with-room-requires
 extend-with-room-requires c κs =
-    let e = c .before .before in
-    let w = e .before .before .before in
+    let e : tie.After-enum-told = c .before .before in
+    let w : tie.After-last-weight = e .before .before .before in
     let v = w .before in
-    let s = v .before .before .before in
+    let s = start v in
     extend-passed (now (s .args .profile)) (now (s .args .bytes)) (s .pre) (is-valid v) (w .last-weight .ensures)
     (sym (e .before .before .judge-weight .ensures) ∙ e .enum-told .given .1)
 
 returns-2 : tie.Need-returns-2
 returns-2 c =
+    let after-judge-weight : tie.After-judge-weight = c .before .before .before in
     let r = c .before .refusal .given in
-    let w = c .before .before .before .before in
+    let w : tie.After-last-weight = c .before .before .before .before in
     let v = w .before in
-    let s = v .before .before .before in
+    let s = start v in
     extend-too-heavy (now (s .args .profile)) (now (s .args .bytes)) (now (s .args .out)) (now (s .args .work)) (s .pre)
     (r .0 .0) (is-valid v) (w .last-weight .ensures)
-    (sym (c .before .before .before .judge-weight .ensures) ∙ r .1)
+    (sym (after-judge-weight .judge-weight .ensures) ∙ r .1)
 
 same-length : tie.Need-same-length
 same-length c = search needs

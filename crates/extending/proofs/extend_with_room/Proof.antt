@@ -12,6 +12,10 @@ use Rattle.extending.specs.CallLaws.{extend-no-room, extend-no-space, ex
 use Rattle.extending.proofs.extend_with_room.Statement.{statement}
 use Rattle.extending.proofs.extend_with_room.Tie as tie
 
+-- Where the code starts.
+abbrev start : tie.Else2 → tie.Start
+start c = c .before .before .before
+
 plainly-requires : tie.Need-plainly-requires
 plainly-requires c κs = search needs
 
@@ -28,7 +32,7 @@ plainly-requires-2 c κs = search needs
 returns-2 : tie.Need-returns-2
 returns-2 c =
     let t = c .before in
-    let s = t .before .before .before in
+    let s : tie.Start = t .before .before .before in
     rw (c .plainly2 .ensures)
     (extend-no-space (now (s .args .profile)) (now (s .args .bytes)) (now (s .args .out)) (now (s .args .work)) (s .pre)
     (t .before .if1 .left) (t .if2 .taken))
@@ -37,16 +41,20 @@ slice-relend-prefix-extend-by-lists : tie.Need-slice-relend-prefix-extend-by-lis
 slice-relend-prefix-extend-by-lists c = search needs
 
 -- The part lent is as long as the area.
-lent : (c : tie.Else2) → length (take area (now (c .before .before .before .args .work))) ≡ area
-lent c = length-take-le area (now (c .before .before .before .args .work)) (c .if2 .left)
+lent : (c : tie.Else2) → let s = start c in
+    length (take area (now (s .args .work))) ≡ area
+lent c =
+    let s = start c in
+    length-take-le area (now (s .args .work)) (c .if2 .left)
 
 slice-aggregate-extend-by-lists : tie.Need-slice-aggregate-extend-by-lists
 slice-aggregate-extend-by-lists c = omega (arith, lent (c .before .before))
 
 extend-by-lists-requires : tie.Need-extend-by-lists-requires
 extend-by-lists-requires c κs =
-    let d = c .before .before in
-    record { accepted = d .before .before .before .pre; places = d .before .if1 .left; room = omega (arith, lent d) }
+    let d : tie.Else2 = c .before .before in
+    let s = start d in
+    record { accepted = s .pre; places = d .before .if1 .left; room = omega (arith, lent d) }
 
 clear-requires : tie.Need-clear-requires
 clear-requires c κs = search needs
@@ -59,9 +67,9 @@ same-length-2 c = search needs
 
 returns-3 : tie.Need-returns-3
 returns-3 c =
-    let x = c .before .before .before .before .before in
-    let d = x .before .before .before in
-    let s = d .before .before .before in
+    let x : tie.After-extend-by-lists = c .before .before .before .before .before in
+    let d : tie.Else2 = x .before .before .before in
+    let s = start d in
     let part = x .extend-by-lists .last .1 .1 .1 .0 in
     let long : length part ≡ area = omega (arith, lent d) in
     let rest = drop area (now (s .args .work)) in

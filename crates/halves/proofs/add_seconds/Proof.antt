@@ -16,8 +16,9 @@ enum-known-planned-2 c = search needs
 
 mul-seconds : tie.Need-mul-seconds
 mul-seconds c =
+    let s : tie.Start = c .before .before .before .before in
     let m = c .before .before .planned2 .given in
-    let light : Light (Made (m .0 .0)) = rw (m .1) at (c .before .before .before .before .pre) in
+    let light : Light (Made (m .0 .0)) = rw (m .1) at (s .pre) in
     omega (arith, light)
 
 returns : tie.Need-returns

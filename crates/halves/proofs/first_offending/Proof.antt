@@ -16,6 +16,10 @@ Inv-loop bytes n awaited₀ place₀ awaited place = Searching bytes n awaited p
 abbrev μ-loop : tie.MeasureT-loop
 μ-loop bytes n awaited₀ place₀ awaited place = n - place
 
+-- Where the code starts.
+abbrev start : tie.In-loop Inv-loop μ-loop → tie.Start Inv-loop μ-loop
+start c = c .before .before .before .before
+
 loop-holds : tie.Need-loop-holds Inv-loop μ-loop
 loop-holds c =
     let s = c .before .before in
@@ -26,7 +30,8 @@ module _ (c : tie.In-loop Inv-loop μ-loop) where
   few : c .before .loop .place < 48
   few = let i = c .before .loop .inv in omega (arith, c .loop-test .taken, i .count, i .order .header .few)
 
-  room : 4 + 8 * c .before .loop .place + 8 ≤ length (now (c .before .before .before .before .args .bytes))
+  room : let s = start c in
+      4 + 8 * c .before .loop .place + 8 ≤ length (now (s .args .bytes))
   room = let i = c .before .loop .inv in omega (arith, c .loop-test .taken, i .count, i .order .header .whole)
 
 mul-job-at : tie.Need-mul-job-at Inv-loop μ-loop
@@ -46,38 +51,42 @@ take-half-requires c κs =
 
 same-length : tie.Need-same-length Inv-loop μ-loop
 same-length c =
-    let h = c .before .before .before in
-    let j = h .before .before in
+    let h : tie.After-take-half Inv-loop μ-loop = c .before .before .before in
+    let j : tie.After-job-at Inv-loop μ-loop = h .before .before in
     let t = j .before in
-    let s = t .before .before .before .before in
+    let s = start t in
     room-kept (t .before .loop .inv) (t .loop-test .taken) (j .job-at .result) (j .job-at .ensures) _ (h .take-half .ensures .1)
     ∙ sym (search-room (now (s .args .bytes)) (s .args .n) (now (s .args .awaited)) (s .pre))
 
 returns : tie.Need-returns Inv-loop μ-loop
 returns c =
-    let h = c .before .before .before in
-    let j = h .before .before in
+    let h : tie.After-take-half Inv-loop μ-loop = c .before .before .before in
+    let j : tie.After-job-at Inv-loop μ-loop = h .before .before in
     let t = j .before in
     search-ends (t .before .loop .inv) (t .loop-test .taken) (j .job-at .result) (j .job-at .ensures)
     (sym (c .if1 .taken) ∙ h .take-half .ensures .0)
 
 add-place : tie.Need-add-place Inv-loop μ-loop
-add-place c = omega (arith, few (c .before .before .before .before .before .before))
+add-place c =
+    let turn : tie.In-loop Inv-loop μ-loop = c .before .before .before .before .before .before in
+    omega (arith, few turn)
 
 loop-less : tie.Need-loop-less Inv-loop μ-loop
-loop-less c = omega (arith, c .before .before .before .before .before .before .loop-test .taken)
+loop-less c =
+    let turn : tie.In-loop Inv-loop μ-loop = c .before .before .before .before .before .before in
+    omega (arith, turn .loop-test .taken)
 
 loop-again : tie.Need-loop-again Inv-loop μ-loop
 loop-again c =
-    let h = c .before .before .before in
-    let j = h .before .before in
+    let h : tie.After-take-half Inv-loop μ-loop = c .before .before .before in
+    let j : tie.After-job-at Inv-loop μ-loop = h .before .before in
     let t = j .before in
     search-on (t .before .loop .inv) (t .loop-test .taken) (j .job-at .result) (j .job-at .ensures) _
     (sym (c .if1 .left) ∙ h .take-half .ensures .0) (h .take-half .ensures .1)
 
 same-length-2 : tie.Need-same-length-2 Inv-loop μ-loop
 same-length-2 c =
-    let s = c .before .before .before .before in
+    let s : tie.Start Inv-loop μ-loop = c .before .before .before .before in
     c .before .loop .inv .room ∙ sym (search-room (now (s .args .bytes)) (s .args .n) (now (s .args .awaited)) (s .pre))
 
 returns-2 : tie.Need-returns-2 Inv-loop μ-loop

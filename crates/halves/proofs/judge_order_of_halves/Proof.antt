@@ -11,6 +11,10 @@ use Rattle.judge.specs.Told.{told-fine, told-refused, told-next}
 use Rattle.halves.proofs.judge_order_of_halves.Statement.{statement}
 use Rattle.halves.proofs.judge_order_of_halves.Tie as tie
 
+-- Where the code starts.
+abbrev start : tie.After-enum-told → tie.Start
+start c = c .before .before .before .before
+
 judge-order-requires : tie.Need-judge-order-requires
 judge-order-requires c κs = search needs
 
@@ -21,9 +25,11 @@ enum-told : tie.Need-enum-told
 enum-told c = search needs
 
 -- Past the order's own checks.
-passed : (c : tie.After-enum-told) → judge (orderChecks (now (c .before .before .before .before .args .bytes))) ≡ fine
+passed : (c : tie.After-enum-told) → let s = start c in
+    judge (orderChecks (now (s .args .bytes))) ≡ fine
 passed c =
-    told-fine (orderChecks (now (c .before .before .before .before .args .bytes)))
+    let s = start c in
+    told-fine (orderChecks (now (s .args .bytes)))
     (sym (c .before .before .judge-order .ensures) ∙ c .enum-told .given .1)
 
 judge-halves-requires : tie.Need-judge-halves-requires
@@ -32,7 +38,7 @@ judge-halves-requires c κs = passed c
 returns : tie.Need-returns
 returns c =
     let r = c .before .refusal .given in
-    let j = c .before .before .before in
+    let j : tie.After-judge-order = c .before .before .before in
     let bytes = now (j .before .before .args .bytes) in
     sym (told-refused (orderChecks bytes) (halvesChecks (numbersOf bytes)) (r .0 .0)
     (sym (j .judge-order .ensures) ∙ r .1))
@@ -40,7 +46,8 @@ returns c =
 returns-2 : tie.Need-returns-2
 returns-2 c =
     let e = c .before in
-    let bytes = now (e .before .before .before .before .args .bytes) in
+    let s = start e in
+    let bytes = now (s .args .bytes) in
     c .judge-halves .ensures
     ∙ sym (ap verdictOf (told-next (orderChecks bytes) (halvesChecks (numbersOf bytes)) (passed e)))
 

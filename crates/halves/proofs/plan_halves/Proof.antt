@@ -24,10 +24,12 @@ enum-told : tie.Need-enum-told
 enum-told c = search needs
 
 -- Past the order's own checks and 13.
-passed : (c : tie.After-enum-told) → let bytes = now (c .before .before .before .before .args .bytes) in
+passed : (c : tie.After-enum-told) → let s : tie.Start = c .before .before .before .before in
+    let bytes = now (s .args .bytes) in
     (judge (orderChecks bytes) ≡ fine) × (judge (halvesChecks (numbersOf bytes)) ≡ fine)
 passed c =
-    let bytes = now (c .before .before .before .before .args .bytes) in
+    let s : tie.Start = c .before .before .before .before in
+    let bytes = now (s .args .bytes) in
     stages-fine (orderChecks bytes) (halvesChecks (numbersOf bytes)) .0
     (told-fine (orderChecks bytes ++ halvesChecks (numbersOf bytes))
     (sym (c .before .before .judge-order-of-halves .ensures) ∙ c .enum-told .given .1))
@@ -37,15 +39,15 @@ plan-order-requires c κs = passed (c .before .before) .0
 
 add-seconds-requires : tie.Need-add-seconds-requires
 add-seconds-requires c κs =
-    let p = c .before .before in
-    let e = p .before .before .before in
+    let p : tie.After-plan-order = c .before .before in
+    let e : tie.After-enum-told = p .before .before .before in
     let a = e .before .before .before .before .args in
     plan-light (now (a .bytes)) (now (a .starts)) (now (a .work)) (passed e .0) (passed e .1) (p .plan-order .ensures)
 
 returns : tie.Need-returns
 returns c =
     let r = c .before .refusal .given in
-    let j = c .before .before .before in
+    let j : tie.After-judge-order-of-halves = c .before .before .before in
     let a = j .before .before .args in
     halves-stopped (now (a .bytes)) (now (a .starts)) (now (a .work)) (r .0 .0)
     (sym (j .judge-order-of-halves .ensures) ∙ r .1)
@@ -58,8 +60,8 @@ same-length-2 c = search needs
 
 returns-2 : tie.Need-returns-2
 returns-2 c =
-    let p = c .before .before .before in
-    let e = p .before .before .before in
+    let p : tie.After-plan-order = c .before .before .before in
+    let e : tie.After-enum-told = p .before .before .before in
     let a = e .before .before .before .before .args in
     rw (c .add-seconds .ensures)
     (halves-done (now (a .bytes)) (now (a .starts)) (now (a .work)) (passed e .0) (passed e .1) (p .plan-order .ensures))

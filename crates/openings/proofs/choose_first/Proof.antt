@@ -11,7 +11,9 @@ same-length : tie.Need-same-length
 same-length c = search needs
 
 returns : tie.Need-returns
-returns c = rw (toZ-ofZ (c .before .before .before .before .before .fits .t)) at (c .before .hand .ensures)
+returns c =
+    let s : tie.Start = c .before .before .before .before .before in
+    rw (toZ-ofZ (s .fits .t)) at (c .before .hand .ensures)
 
 pub choose-first-spec : {M : Type 1} → statement M
 choose-first-spec = tie.close (tie.spec hand-requires same-length returns)

@@ -11,7 +11,9 @@ same-length : tie.Need-same-length
 same-length c = search needs
 
 returns : tie.Need-returns
-returns c = rw (toZ-ofZ (c .before .before .before .before .before .fits .t)) at (c .before .ask .ensures)
+returns c =
+    let s : tie.Start = c .before .before .before .before .before in
+    rw (toZ-ofZ (s .fits .t)) at (c .before .ask .ensures)
 
 pub question-spec : {M : Type 1} → statement M
 question-spec = tie.close (tie.spec ask-requires same-length returns)

@@ -13,7 +13,7 @@ plainly-requires c κs = search needs
 returns : tie.Need-returns
 returns c =
     let t = c .before in
-    let s = t .before .before .before in
+    let s : tie.Start = t .before .before .before in
     rw (c .plainly .ensures)
     (write-no-room (now (s .args .order)) (now (s .args .out)) (now (s .args .work)) (s .pre) (omega (arith, t .if1 .taken)))
 

@@ -6,6 +6,10 @@ use Rattle.plan_writer.specs.CallLaws.{write-handed-on, write-room, writ
 use Rattle.plan_writer.proofs.write_over.Statement.{statement}
 use Rattle.plan_writer.proofs.write_over.Tie as tie
 
+-- Where the code starts.
+abbrev start : tie.After-plan-order → tie.Start
+start c = c .before .before .before .before .before
+
 plan-order-requires : tie.Need-plan-order-requires
 plan-order-requires c κs = search needs
 
@@ -17,8 +21,8 @@ enum-known-figures c = search needs
 
 put-plan-requires : tie.Need-put-plan-requires
 put-plan-requires c κs =
-    let p = c .before .before .before .before .before .before .before .before in
-    let s = p .before .before .before .before .before in
+    let p : tie.After-plan-order = c .before .before .before .before .before .before .before .before in
+    let s = start p in
     let f = c .before .before .before .before .figures .given in
     write-room (now (s .args .order)) (now (s .args .out)) (now (s .args .work)) (now (s .args .starts)) (s .pre)
     (p .plan-order .ensures) (f .0 .0) (f .1)
@@ -31,8 +35,8 @@ same-length-2 c = search needs
 
 returns : tie.Need-returns
 returns c =
-    let p = c .before .before .before .before .before in
-    let s = p .before .before .before .before .before in
+    let p : tie.After-plan-order = c .before .before .before .before .before in
+    let s = start p in
     let r = c .before .refusal .given in
     write-handed-on (now (s .args .order)) (now (s .args .out)) (now (s .args .work)) (now (s .args .starts)) (s .pre)
     (p .plan-order .ensures) (r .0 .0) (r .1)
@@ -48,10 +52,10 @@ same-length-5 c = search needs
 
 returns-2 : tie.Need-returns-2
 returns-2 c =
-    let w = c .before .before in
+    let w : tie.After-put-plan = c .before .before in
     let a = w .before in
-    let p = a .before .before .before .before .before .before .before .before in
-    let s = p .before .before .before .before .before in
+    let p : tie.After-plan-order = a .before .before .before .before .before .before .before .before in
+    let s = start p in
     let f = a .before .before .before .before .figures .given in
     write-done (now (s .args .order)) (now (s .args .out)) (now (s .args .work)) (now (s .args .starts)) (s .pre)
     (p .plan-order .ensures) (f .0 .0) (f .1) (w .put-plan .result) (w .put-plan .last .0) (w .put-plan .ensures .0)

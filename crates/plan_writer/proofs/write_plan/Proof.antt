@@ -20,13 +20,14 @@ enum-told c = search needs
 
 write-order-requires : tie.Need-write-order-requires
 write-order-requires c κs =
-    let e = c .before .before in
-    told-fine (orderChecks (now (e .before .before .before .before .before .args .order)))
+    let e : tie.After-enum-told = c .before .before in
+    let s : tie.Start = e .before .before .before .before .before in
+    told-fine (orderChecks (now (s .args .order)))
     (sym (e .before .before .judge-order .ensures) ∙ e .enum-told .given .1)
 
 returns : tie.Need-returns
 returns c =
-    let j = c .before .before .before in
+    let j : tie.After-judge-order = c .before .before .before in
     let a = j .before .before .before .args in
     let r = c .before .refusal .given in
     write-stopped (now (a .order)) (now (a .out)) (now (a .work)) (r .0 .0) (sym (j .judge-order .ensures) ∙ r .1)

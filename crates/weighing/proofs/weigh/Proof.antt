@@ -27,10 +27,10 @@ start-at-requires c κs =
     rw (t0-kept (h .before .before .pre) (read h)) (can-start (h .before .before .pre) (read h))
 
 -- The first list that was started.
-started : (c : tie.After-start-at) → let h = c .before .before .before in
+started : (c : tie.After-start-at) → let h : tie.After-header-at = c .before .before .before in
     Held (c .start-at .last .0) 0 (startPoint (h .header-at .result .t0) ∷ [])
 started c =
-    let h = c .before .before .before in
+    let h : tie.After-header-at = c .before .before .before in
     rw (t0-kept (h .before .before .pre) (read h)) at (c .start-at .ensures)
 
 -- The work area is as long as it was.
@@ -39,8 +39,8 @@ room c = search needs
 
 fill-last-requires : tie.Need-fill-last-requires
 fill-last-requires c κs =
-    let s = c .before .before in
-    let h = s .before .before .before in
+    let s : tie.After-start-at = c .before .before in
+    let h : tie.After-header-at = s .before .before .before in
     can-fill (h .before .before .pre) (read h) (started s) (room s)
 
 last-by-requires : tie.Need-last-by-requires
@@ -51,10 +51,10 @@ same-length c = search needs
 
 returns : tie.Need-returns
 returns c =
-    let f = c .before .before .before in
-    let s = f .before .before .before in
-    let h = s .before .before .before in
-    let a = h .before .before in
+    let f : tie.After-fill-last = c .before .before .before in
+    let s : tie.After-start-at = f .before .before .before in
+    let h : tie.After-header-at = s .before .before .before in
+    let a : tie.Start = h .before .before in
     weighed (a .pre) (read h) (started s) (room s) (f .fill-last .ensures) (toZ-ofZ (a .fits .t)) (c .last-by .ensures)
 
 pub weigh-spec : {M : Type 1} → statement M
