@@ -62,7 +62,7 @@ extern "C" {
  * one rises then. */
 #define LEAFANCHOR_VERSION_MAJOR 0
 /** The version's second figure: it rises when something is added. */
-#define LEAFANCHOR_VERSION_MINOR 6
+#define LEAFANCHOR_VERSION_MINOR 7
 /** The version's third figure: it rises when something is mended or made smaller. */
 #define LEAFANCHOR_VERSION_PATCH 0
 /** The version as text, "MAJOR.MINOR.PATCH". */
