@@ -8,17 +8,17 @@ use careful::put;
 const MOST: usize = 10;
 
 // Where a job's fields stand among its six numbers.
-pub const NUMBER: usize = 0;
+pub const NUMBER: u8 = 0;
 
-pub const CRITICAL: usize = 1;
+pub const CRITICAL: u8 = 1;
 
-pub const WEIGHT: usize = 2;
+pub const WEIGHT: u8 = 2;
 
-pub const READY: usize = 3;
+pub const READY: u8 = 3;
 
-pub const LENGTH: usize = 4;
+pub const LENGTH: u8 = 4;
 
-pub const DEADLINE: usize = 5;
+pub const DEADLINE: u8 = 5;
 
 // The seconds that the contactor rests after every job.
 pub const REST: i32 = 15;
@@ -53,14 +53,27 @@ pub struct Tally {
 }
 
 // A field of the job at a place.
-pub fn field(numbers: &[i32], place: usize, which: usize) -> i32 {
+pub fn field(numbers: &[i32], place: usize, which: u8) -> i32 {
     if place >= MOST {
         return 0;
     }
-    if which > DEADLINE {
-        return 0;
+    at(numbers, 6 * place + which as usize)
+}
+
+// The later of two times.
+pub fn later(one: i32, other: i32) -> i32 {
+    if one < other {
+        return other;
     }
-    at(numbers, 6 * place + which)
+    one
+}
+
+// The first of two numbers where something holds, and else the second.
+pub fn either(holds: bool, one: i32, other: i32) -> i32 {
+    if holds {
+        return one;
+    }
+    other
 }
 
 // How many choices so many jobs have.
@@ -71,42 +84,35 @@ pub fn choices(jobs: usize) -> u32 {
     1024
 }
 
-// The start of the job at a place where the bus is free from a time on.
-fn start_of(numbers: &[i32], place: usize, free: i32) -> i32 {
-    let ready = field(numbers, place, READY);
-    if ready < free {
-        return free;
-    }
-    ready
-}
-
 // The job at a place left out: a critical one may not be.
 fn leave(numbers: &[i32], place: usize, so_far: Outcome) -> Outcome {
-    if field(numbers, place, CRITICAL) == 1 {
-        return Outcome {
-            feasible: false,
-            free: so_far.free,
-            weight: so_far.weight,
-        };
+    let critical = field(numbers, place, CRITICAL) == 1;
+    Outcome {
+        feasible: so_far.feasible & !critical,
+        free: so_far.free,
+        weight: so_far.weight,
     }
-    so_far
 }
 
 // The job at a place kept: it finishes by its deadline, or the choice may not be run; then the contactor
 // rests.
 fn keep(numbers: &[i32], place: usize, so_far: Outcome) -> Outcome {
-    let start = start_of(numbers, place, so_far.free);
+    let start = later(so_far.free, field(numbers, place, READY));
     let finish = plus(start, field(numbers, place, LENGTH));
-    let weight = plus(so_far.weight, field(numbers, place, WEIGHT));
-    let mut feasible = so_far.feasible;
-    if field(numbers, place, DEADLINE) < finish {
-        feasible = false;
-    }
+    let in_time = finish <= field(numbers, place, DEADLINE);
     Outcome {
-        feasible: feasible,
+        feasible: so_far.feasible & in_time,
         free: plus(finish, REST),
-        weight: weight,
+        weight: plus(so_far.weight, field(numbers, place, WEIGHT)),
     }
+}
+
+// The job at a place kept or left out.
+fn step(numbers: &[i32], place: usize, kept: bool, so_far: Outcome) -> Outcome {
+    if kept {
+        return keep(numbers, place, so_far);
+    }
+    leave(numbers, place, so_far)
 }
 
 // The first so many jobs run by a choice, the bus free from a time on.
@@ -119,11 +125,7 @@ pub fn run(numbers: &[i32], jobs: usize, from: i32, choice: u32) -> Outcome {
     let mut left = choice;
     let mut place = 0;
     while place < jobs {
-        if left % 2 == 1 {
-            outcome = keep(numbers, place, outcome);
-        } else {
-            outcome = leave(numbers, place, outcome);
-        }
+        outcome = step(numbers, place, left % 2 == 1, outcome);
         left = left / 2;
         place += 1;
     }
@@ -134,31 +136,26 @@ pub fn run(numbers: &[i32], jobs: usize, from: i32, choice: u32) -> Outcome {
 // The best so far stays where both are the same: of two choices the lesser number leaves out the last
 // job in which they differ.
 fn better(best: Best, choice: u32, outcome: Outcome) -> Best {
-    if !outcome.feasible {
-        return best;
-    }
-    let free = outcome.free;
-    let weight = outcome.weight;
-    let heavier = !best.found || best.weight < weight;
-    if heavier || (best.weight == weight && free < best.free) {
+    let heavier = !best.found | (best.weight < outcome.weight);
+    let level = best.weight == outcome.weight;
+    let sooner = level & (outcome.free < best.free);
+    if outcome.feasible & (heavier | sooner) {
         return Best {
             found: true,
             choice: choice,
-            free: free,
-            weight: weight,
+            free: outcome.free,
+            weight: outcome.weight,
             tied: false,
         };
     }
-    if best.weight == weight && best.free == free {
-        return Best {
-            found: true,
-            choice: best.choice,
-            free: free,
-            weight: weight,
-            tied: true,
-        };
+    let tied = outcome.feasible & level & (outcome.free == best.free);
+    Best {
+        found: best.found,
+        choice: best.choice,
+        free: best.free,
+        weight: best.weight,
+        tied: best.tied | tied,
     }
-    best
 }
 
 // The best of all choices, in the sequence of their numbers.
@@ -182,13 +179,10 @@ pub fn best_choice(numbers: &[i32], t0: i32) -> Best {
 
 // Puts the start of the job at a place, kept or left out. Returns when the bus is free after it.
 fn put_start(numbers: &[i32], place: usize, kept: bool, free: i32, starts: &mut [i32]) -> i32 {
-    if !kept {
-        put(starts, place, LEFT_OUT);
-        return free;
-    }
-    let start = start_of(numbers, place, free);
-    put(starts, place, start);
-    plus(plus(start, field(numbers, place, LENGTH)), REST)
+    let start = later(free, field(numbers, place, READY));
+    let rested = plus(plus(start, field(numbers, place, LENGTH)), REST);
+    put(starts, place, either(kept, start, LEFT_OUT));
+    either(kept, rested, free)
 }
 
 // The starts of a choice, in place order.
@@ -204,30 +198,30 @@ pub fn write_starts(numbers: &[i32], t0: i32, choice: u32, starts: &mut [i32]) {
     }
 }
 
-// The length of the job at a place where it is not critical.
-fn optional_length(numbers: &[i32], place: usize) -> i32 {
-    if field(numbers, place, CRITICAL) == 1 {
-        return 0;
-    }
-    field(numbers, place, LENGTH)
+// The tally with the job at a place kept.
+fn with_kept(so_far: Tally, place: usize) -> Tally {
+    let mut tally = so_far;
+    tally.mask = so_far.mask | bit_of(place);
+    tally.kept = more(so_far.kept, 1);
+    tally
+}
+
+// The tally with the job at a place left out.
+fn with_left(numbers: &[i32], place: usize, so_far: Tally) -> Tally {
+    let critical = field(numbers, place, CRITICAL) == 1;
+    let optional = either(critical, 0, field(numbers, place, LENGTH));
+    let mut tally = so_far;
+    tally.lost = plus(so_far.lost, field(numbers, place, WEIGHT));
+    tally.seconds = plus(so_far.seconds, optional);
+    tally
 }
 
 // The tally with the job at a place kept or left out.
-fn tallied(numbers: &[i32], place: usize, kept: bool, so_far: Tally) -> Tally {
-    if !kept {
-        return Tally {
-            mask: so_far.mask,
-            kept: so_far.kept,
-            lost: plus(so_far.lost, field(numbers, place, WEIGHT)),
-            seconds: plus(so_far.seconds, optional_length(numbers, place)),
-        };
+fn with_job(numbers: &[i32], place: usize, kept: bool, so_far: Tally) -> Tally {
+    if kept {
+        return with_kept(so_far, place);
     }
-    Tally {
-        mask: so_far.mask | bit_of(place),
-        kept: more(so_far.kept, 1),
-        lost: so_far.lost,
-        seconds: so_far.seconds,
-    }
+    with_left(numbers, place, so_far)
 }
 
 // The bit of a place in a mask.
@@ -250,7 +244,7 @@ pub fn tally_of(numbers: &[i32], choice: u32) -> Tally {
     let mut left = choice;
     let mut place = 0;
     while place < jobs {
-        tally = tallied(numbers, place, left % 2 == 1, tally);
+        tally = with_job(numbers, place, left % 2 == 1, tally);
         left = left / 2;
         place += 1;
     }

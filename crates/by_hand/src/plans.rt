@@ -1,5 +1,5 @@
-// Packed plans by trial: the bits of a plan are read one by one and held to the rules, each kept job to
-// all that are kept before it; and the plan of starts is packed bit by bit.
+// Packed plans by trial: the bits of a plan are read one by one and held to the rules, each kept job to the
+// latest of the rests before it; and the plan of starts is packed bit by bit.
 use crate::choices::CRITICAL;
 use crate::choices::DEADLINE;
 use crate::choices::LEFT_OUT;
@@ -8,6 +8,7 @@ use crate::choices::READY;
 use crate::choices::REST;
 use crate::choices::WEIGHT;
 use crate::choices::field;
+use crate::choices::later;
 use careful::at;
 use careful::count_of;
 use careful::plus;
@@ -39,12 +40,22 @@ pub const PAST_DEADLINE: usize = 4;
 const CRITICAL_OUT: usize = 5;
 
 // What a plan comes to: its refusal and the first rule that it breaks, each 0 for none, whether a job
-// waits that could have started, and the weight kept.
+// waits that could have started, the weight kept, and when the rests of all its jobs are over.
 pub struct Judged {
     pub refusal: u32,
     pub broken: usize,
     pub idle: bool,
     pub weight: i32,
+    pub over: i32,
+}
+
+// What a plan is held to of a job.
+struct Job {
+    critical: bool,
+    weight: i32,
+    ready: i32,
+    length: i32,
+    deadline: i32,
 }
 
 // Whether the bit of a plan at a place is a one; none is past the end.
@@ -98,29 +109,6 @@ fn start_in(plan: &[u8], place: usize) -> i32 {
     number_in(plan, from, from + START)
 }
 
-// When the rest of the job at a place is over; that of a job left out was long ago.
-fn rest_over(numbers: &[i32], plan: &[u8], place: usize) -> i32 {
-    let start = start_in(plan, place);
-    if start == LEFT_OUT {
-        return LONG_AGO;
-    }
-    plus(plus(start, field(numbers, place, LENGTH)), REST)
-}
-
-// When the rests of all jobs before a place are over.
-fn rested(numbers: &[i32], plan: &[u8], place: usize) -> i32 {
-    let mut latest = LONG_AGO;
-    let mut earlier = 0;
-    while earlier < place {
-        let over = rest_over(numbers, plan, earlier);
-        if latest < over {
-            latest = over;
-        }
-        earlier += 1;
-    }
-    latest
-}
-
 // The refusal of a plan for so many jobs, 0 for none. Its bits must end in its last byte; in the mask
 // beyond the jobs and behind the last start there must be no ones.
 fn refusal_of(plan: &[u8], jobs: usize) -> u32 {
@@ -133,62 +121,73 @@ fn refusal_of(plan: &[u8], jobs: usize) -> u32 {
     let kept = ones(plan, MASK);
     let bits = MASK + START * kept;
     let room = 8 * plan.len();
-    if room < bits || room >= bits + 8 {
+    if (room < bits) | (room >= bits + 8) {
         return 14;
     }
-    if kept != ones(plan, jobs) || ones(plan, bits) != ones(plan, room) {
+    let wrong = (kept != ones(plan, jobs)) | (ones(plan, bits) != ones(plan, room));
+    if wrong {
         return 15;
     }
     0
 }
 
-// The rule that the job at a place breaks by its start, 0 for none; the rests before it are over at a
-// time.
-fn broken_by(numbers: &[i32], t0: i32, place: usize, over: i32, start: i32) -> usize {
-    if start == LEFT_OUT && field(numbers, place, CRITICAL) == 0 {
-        return 0;
+// The job at a place.
+fn job_at(numbers: &[i32], place: usize) -> Job {
+    Job {
+        critical: field(numbers, place, CRITICAL) == 1,
+        weight: field(numbers, place, WEIGHT),
+        ready: field(numbers, place, READY),
+        length: field(numbers, place, LENGTH),
+        deadline: field(numbers, place, DEADLINE),
     }
-    if start == LEFT_OUT {
-        return CRITICAL_OUT;
+}
+
+// A rule where it is broken, and else what else is.
+fn rule(broken: bool, which: usize, otherwise: usize) -> usize {
+    if broken {
+        return which;
     }
-    if start < t0 {
-        return BEFORE_FREE;
+    otherwise
+}
+
+// The rule that a job breaks by its start, 0 for none; the rests before it are over at a time.
+fn broken_by(job: Job, t0: i32, over: i32, start: i32) -> usize {
+    let late = rule(job.deadline < plus(start, job.length), PAST_DEADLINE, 0);
+    let unrested = rule(start < over, BEFORE_RESTED, late);
+    let unready = rule(start < job.ready, BEFORE_READY, unrested);
+    rule(start < t0, BEFORE_FREE, unready)
+}
+
+// A plan judged with a job more that it leaves out.
+fn judge_out(job: Job, so_far: Judged) -> Judged {
+    let mut judged = so_far;
+    let broken = rule(job.critical, CRITICAL_OUT, 0);
+    judged.broken = rule(so_far.broken == 0, broken, so_far.broken);
+    judged
+}
+
+// A plan judged with a job more that it keeps.
+fn judge_kept(job: Job, t0: i32, start: i32, so_far: Judged) -> Judged {
+    let over = so_far.over;
+    let broken = broken_by(job, t0, over, start);
+    let waits = (t0 < start) & (job.ready < start) & (over < start);
+    Judged {
+        refusal: 0,
+        broken: rule(so_far.broken == 0, broken, so_far.broken),
+        idle: so_far.idle | waits,
+        weight: plus(so_far.weight, job.weight),
+        over: later(over, plus(plus(start, job.length), REST)),
     }
-    if start < field(numbers, place, READY) {
-        return BEFORE_READY;
-    }
-    if start < over {
-        return BEFORE_RESTED;
-    }
-    if field(numbers, place, DEADLINE) < plus(start, field(numbers, place, LENGTH)) {
-        return PAST_DEADLINE;
-    }
-    0
 }
 
 // A plan judged with the job at a place too.
 fn judge_job(numbers: &[i32], t0: i32, plan: &[u8], place: usize, so_far: Judged) -> Judged {
     let start = start_in(plan, place);
-    let over = rested(numbers, plan, place);
-    let mut broken = so_far.broken;
-    if broken == 0 {
-        broken = broken_by(numbers, t0, place, over, start);
-    }
+    let job = job_at(numbers, place);
     if start == LEFT_OUT {
-        return Judged {
-            refusal: 0,
-            broken: broken,
-            idle: so_far.idle,
-            weight: so_far.weight,
-        };
+        return judge_out(job, so_far);
     }
-    let waits = t0 < start && field(numbers, place, READY) < start && over < start;
-    Judged {
-        refusal: 0,
-        broken: broken,
-        idle: so_far.idle || waits,
-        weight: plus(so_far.weight, field(numbers, place, WEIGHT)),
-    }
+    judge_kept(job, t0, start, so_far)
 }
 
 // A plan judged for an order.
@@ -200,6 +199,7 @@ pub fn judge_plan(numbers: &[i32], t0: i32, plan: &[u8]) -> Judged {
         broken: 0,
         idle: false,
         weight: 0,
+        over: LONG_AGO,
     };
     if refusal != 0 {
         return judged;

@@ -117,7 +117,7 @@ fn comes_first(pairs: &[i32], place: usize, found: usize, many: usize, above: i3
     }
     let time = time_of(pairs, place);
     let other = time_of(pairs, found);
-    time < other || (time == other && weight_of(pairs, found) < weight)
+    (time < other) | ((time == other) & (weight_of(pairs, found) < weight))
 }
 
 // The earliest pair above a weight, the heaviest of those; where there is none, how many pairs there are.
@@ -195,8 +195,8 @@ pub fn point_total(numbers: &[i32], t0: i32) -> u64 {
 // What is reached by a time with a pair too: a heavier one counts, and of the same weight an earlier one.
 fn with_pair(so_far: Reached, time: i32, weight: i32, t: i32) -> Reached {
     let heavier = so_far.weight < weight;
-    let sooner = so_far.weight == weight && time < so_far.time;
-    if time <= t && (heavier || sooner) {
+    let sooner = (so_far.weight == weight) & (time < so_far.time);
+    if (time <= t) & (heavier | sooner) {
         return Reached {
             weight: weight,
             time: time,
@@ -232,24 +232,30 @@ pub fn worth(numbers: &[i32], t0: i32, t: i32) -> Reached {
     reached_by(&pairs, many, t)
 }
 
-// Whether numbers are a profile: pairs whose times and weights rise within their ranges.
-pub fn is_profile(numbers: &[i32]) -> bool {
-    if numbers.len() % 2 == 1 || numbers.len() > NUMBERS {
-        return false;
-    }
-    let points = numbers.len() / 2;
+// Whether times and weights rise, all within their ranges.
+fn rises(numbers: &[i32], points: usize) -> bool {
     let mut time = TOO_EARLY;
     let mut weight = -1;
+    let mut all = true;
     let mut i = 0;
     while i < points {
-        if time_of(numbers, i) <= time || weight_of(numbers, i) <= weight {
-            return false;
-        }
-        time = time_of(numbers, i);
-        weight = weight_of(numbers, i);
+        let next_time = time_of(numbers, i);
+        let next_weight = weight_of(numbers, i);
+        all = all & (time < next_time) & (weight < next_weight);
+        time = next_time;
+        weight = next_weight;
         i += 1;
     }
-    time <= LATEST && weight <= HEAVIEST
+    all & (time <= LATEST) & (weight <= HEAVIEST)
+}
+
+// Whether numbers are a profile: pairs whose times and weights rise within their ranges.
+pub fn is_profile(numbers: &[i32]) -> bool {
+    let many = numbers.len();
+    if many > NUMBERS {
+        return false;
+    }
+    (many % 2 == 0) & rises(numbers, many / 2)
 }
 
 // The last weight of a profile, 0 where it is empty.

@@ -86,9 +86,16 @@ pub fn first_other(numbers: &[i32], number: i32, from: usize) -> usize
     i
 }
 
-// Whether all numbers are one number.
+// Whether all numbers are one number. The loop has no way out but its end, so that it is compiled to vectors:
+// whole work areas are looked through after every call.
 pub fn all_are(numbers: &[i32], number: i32) -> bool {
-    first_other(numbers, number, 0) >= numbers.len()
+    let mut all = true;
+    let mut i = 0;
+    while i < numbers.len() {
+        all = all & (numbers[i] == number);
+        i += 1;
+    }
+    all
 }
 
 // The sum of two numbers, 0 where one is too far from 0.

@@ -3,7 +3,6 @@
 use careful::all_are;
 use careful::at;
 use careful::front;
-use careful::more;
 use pack::Packed;
 use packed::Refusal;
 
@@ -23,27 +22,17 @@ pub fn pack_order(t0: i32, numbers: &[i32], bytes: &mut [u8]) -> usize {
 
 // Whether a refusal is this one at this place; none of the orders compared has a field out of range.
 pub fn says(refusal: Refusal, number: u32, place: usize) -> bool {
-    refusal.number == number && refusal.place == place && refusal.field == 0
+    (refusal.number == number) & (refusal.place == place) & (refusal.field == 0)
 }
 
 // Whether a call left the work area as it should, full of one number, and what is past it as it was.
 pub fn leaves(work: &[i32], number: i32) -> bool {
-    all_are(front(work, AREA), number) && at(work, AREA) == MARK
-}
-
-// Adds to a count.
-pub fn count(counts: &mut [u64], which: usize, by: u64) {
-    if which < counts.len() {
-        let sum = more(counts[which], by);
-        counts[which] = sum;
-    }
+    all_are(front(work, AREA), number) & (at(work, AREA) == MARK)
 }
 
 // Writes a count on a line of its own, behind a word.
-pub fn write_count(counts: &[u64], which: usize, word: &[u8]) {
-    if which < counts.len() {
-        io::write_all(1, word);
-        io::print_decimal(1, counts[which]);
-        io::write_all(1, b"\n");
-    }
+pub fn write_count(word: &[u8], count: u64) {
+    io::write_all(1, word);
+    io::print_decimal(1, count);
+    io::write_all(1, b"\n");
 }

@@ -1,12 +1,11 @@
 // The question and the choice between two openings, by either tie rule, compared with the planner by trial:
 // the answer, and that nothing is left in the work area.
-use crate::counts::QUESTIONS;
-use crate::counts::SECOND_SOONER;
+use crate::counts::Run;
 use crate::counts::expect;
 use by_hand::Reached;
 use careful::front_bytes;
+use careful::more;
 use comparing::MARK;
-use comparing::count;
 use comparing::leaves;
 use comparing::pack_order;
 use comparing::says;
@@ -29,16 +28,12 @@ fn to_second(rule: Rule, one: Reached, other: Reached) -> bool {
 
 // Which opening must win by what each reaches, 0 where neither reaches anything.
 fn winner(rule: Rule, one: Reached, other: Reached) -> u32 {
-    if one.weight < 0 && other.weight < 0 {
-        return 0;
-    }
-    if one.weight < other.weight {
+    let heavier = one.weight < other.weight;
+    let tied = (one.weight == other.weight) & to_second(rule, one, other);
+    if heavier | tied {
         return 2;
     }
-    if one.weight == other.weight && to_second(rule, one, other) {
-        return 2;
-    }
-    1
+    (one.weight >= 0) as u32
 }
 
 // The question by a rule.
@@ -60,7 +55,7 @@ fn hand<'a>(rule: Rule, first: &'a [u8], second: &'a [u8], t: i32, work: &mut [i
 // Whether an answer names the opening that must win.
 fn is_answer(answer: Chosen, won: u32) -> bool {
     match answer {
-        Chosen::Refused(refusal) => says(refusal, 11, 0) && won == 0,
+        Chosen::Refused(refusal) => says(refusal, 11, 0) & (won == 0),
         Chosen::First => won == 1,
         Chosen::Second => won == 2,
     }
@@ -70,7 +65,7 @@ fn is_answer(answer: Chosen, won: u32) -> bool {
 fn question_agrees(rule: Rule, first: &[u8], second: &[u8], t: i32, won: u32) -> bool {
     let mut work = [MARK; 14_750];
     let answer = ask(rule, first, second, t, &mut work);
-    is_answer(answer, won) && leaves(&work, 0)
+    is_answer(answer, won) & leaves(&work, 0)
 }
 
 // The records of a packed order.
@@ -96,56 +91,81 @@ fn is_part(part: &[u8], first: &[u8], second: &[u8], won: u32) -> bool {
 fn choice_agrees<'a>(rule: Rule, first: &'a [u8], second: &'a [u8], t: i32, won: u32) -> bool {
     let mut work = [MARK; 14_750];
     let part = hand(rule, first, second, t, &mut work);
-    is_part(part, first, second, won) && leaves(&work, 0)
+    is_part(part, first, second, won) & leaves(&work, 0)
 }
 
 // The question and the choice between two openings by a rule.
 fn check_rule<'a>(
+    run: Run,
     rule: Rule,
     first: &'a [u8],
     second: &'a [u8],
     t: i32,
     won: u32,
-    counts: &mut [u64],
-) {
-    expect(counts, question_agrees(rule, first, second, t, won));
-    expect(counts, choice_agrees(rule, first, second, t, won));
+) -> Run {
+    let asked = question_agrees(rule, first, second, t, won);
+    let chosen = choice_agrees(rule, first, second, t, won);
+    expect(expect(run, asked), chosen)
 }
 
-// Both rules on two openings, by what each reaches at a time; they differ where the second is sooner.
+// A run with a question more; the rules differ on it where the second is sooner.
+fn with_question(so_far: Run, differ: bool) -> Run {
+    let mut run = so_far;
+    run.questions = more(run.questions, 1);
+    run.second_sooner = more(run.second_sooner, differ as u64);
+    run
+}
+
+// Both rules on two openings, by what each reaches at a time.
 fn check_openings<'a>(
+    run: Run,
     first: &'a [u8],
     one: Reached,
     second: &'a [u8],
     other: Reached,
     t: i32,
-    counts: &mut [u64],
-) {
+) -> Run {
     let sooner = winner(Rule::Sooner, one, other);
     let to_first = winner(Rule::First, one, other);
-    check_rule(Rule::Sooner, first, second, t, sooner, counts);
-    check_rule(Rule::First, first, second, t, to_first, counts);
-    count(counts, QUESTIONS, 1);
-    count(counts, SECOND_SOONER, (sooner != to_first) as u64);
+    let asked = check_rule(run, Rule::Sooner, first, second, t, sooner);
+    let both = check_rule(asked, Rule::First, first, second, t, to_first);
+    with_question(both, sooner != to_first)
+}
+
+// The choice between two packed orders, both ways round.
+fn check_both<'a>(
+    run: Run,
+    first: &'a [u8],
+    one: Reached,
+    second: &'a [u8],
+    other: Reached,
+    t: i32,
+) -> Run {
+    let straight = check_openings(run, first, one, second, other, t);
+    check_openings(straight, second, other, first, one, t)
 }
 
 // The choice between two orders at a time, both ways round.
 pub fn check_choice(
+    run: Run,
     one: &[i32],
     one_t0: i32,
     other: &[i32],
     other_t0: i32,
     t: i32,
-    counts: &mut [u64],
-) {
-    let mut one_space = [0; 84];
-    let mut other_space = [0; 84];
-    let one_size = pack_order(one_t0, one, &mut one_space);
-    let other_size = pack_order(other_t0, other, &mut other_space);
-    let first = front_bytes(&one_space, one_size);
-    let second = front_bytes(&other_space, other_size);
-    let one_worth = by_hand::worth(one, one_t0, t);
+) -> Run {
+    let mut first = [0; 84];
+    let mut second = [0; 84];
+    let size = pack_order(one_t0, one, &mut first);
+    let other_size = pack_order(other_t0, other, &mut second);
+    let worth = by_hand::worth(one, one_t0, t);
     let other_worth = by_hand::worth(other, other_t0, t);
-    check_openings(first, one_worth, second, other_worth, t, counts);
-    check_openings(second, other_worth, first, one_worth, t, counts);
+    check_both(
+        run,
+        front_bytes(&first, size),
+        worth,
+        front_bytes(&second, other_size),
+        other_worth,
+        t,
+    )
 }

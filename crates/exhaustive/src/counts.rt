@@ -1,48 +1,72 @@
-// The counts of a run: what was met, what was compared, and how often an answer differed.
-use comparing::count;
+// A run so far: the seeds, what was met, what was compared, and how often an answer differed. It is a value
+// that every trial takes and gives back.
+use careful::more;
 use comparing::write_count;
 
-// Where each count stands.
-pub const ORDERS: usize = 0;
+// How a run stands.
+pub struct Run {
+    pub seed: u64,
+    pub halves_seed: u64,
+    pub orders: u64,
+    pub feasible: u64,
+    pub ties: u64,
+    pub points: u64,
+    pub lookups: u64,
+    pub questions: u64,
+    pub second_sooner: u64,
+    pub halves: u64,
+    pub offending: u64,
+    pub seconds: u64,
+    pub mismatches: u64,
+}
 
-pub const FEASIBLE: usize = 1;
-
-pub const TIES: usize = 2;
-
-pub const POINTS: usize = 3;
-
-pub const LOOKUPS: usize = 4;
-
-pub const QUESTIONS: usize = 5;
-
-pub const SECOND_SOONER: usize = 6;
-
-pub const HALVES: usize = 7;
-
-pub const OFFENDING: usize = 8;
-
-pub const SECONDS: usize = 9;
-
-pub const MISMATCHES: usize = 10;
-
-// Counts a mismatch where an answer differs.
-pub fn expect(counts: &mut [u64], agrees: bool) {
-    if !agrees {
-        count(counts, MISMATCHES, 1);
+// A run that begins with two seeds.
+pub fn new_run(seed: u64, halves_seed: u64) -> Run {
+    Run {
+        seed: seed,
+        halves_seed: halves_seed,
+        orders: 0,
+        feasible: 0,
+        ties: 0,
+        points: 0,
+        lookups: 0,
+        questions: 0,
+        second_sooner: 0,
+        halves: 0,
+        offending: 0,
+        seconds: 0,
+        mismatches: 0,
     }
 }
 
+// Counts a mismatch where an answer differs.
+pub fn expect(so_far: Run, agrees: bool) -> Run {
+    let mut run = so_far;
+    run.mismatches = more(run.mismatches, !agrees as u64);
+    run
+}
+
+// Writes what orders and profiles were met.
+fn write_met(run: Run) {
+    write_count(b"orders ", run.orders);
+    write_count(b"feasible ", run.feasible);
+    write_count(b"ties ", run.ties);
+    write_count(b"points ", run.points);
+}
+
+// Writes what was compared of openings and halves.
+fn write_compared(run: Run) {
+    write_count(b"lookups ", run.lookups);
+    write_count(b"questions ", run.questions);
+    write_count(b"second sooner ", run.second_sooner);
+    write_count(b"halves ", run.halves);
+}
+
 // Writes all counts.
-pub fn write_counts(counts: &[u64]) {
-    write_count(counts, ORDERS, b"orders ");
-    write_count(counts, FEASIBLE, b"feasible ");
-    write_count(counts, TIES, b"ties ");
-    write_count(counts, POINTS, b"points ");
-    write_count(counts, LOOKUPS, b"lookups ");
-    write_count(counts, QUESTIONS, b"questions ");
-    write_count(counts, SECOND_SOONER, b"second sooner ");
-    write_count(counts, HALVES, b"halves ");
-    write_count(counts, OFFENDING, b"offending ");
-    write_count(counts, SECONDS, b"seconds lost ");
-    write_count(counts, MISMATCHES, b"mismatches ");
+pub fn write_counts(run: Run) {
+    write_met(run);
+    write_compared(run);
+    write_count(b"offending ", run.offending);
+    write_count(b"seconds lost ", run.seconds);
+    write_count(b"mismatches ", run.mismatches);
 }

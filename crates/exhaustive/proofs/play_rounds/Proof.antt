@@ -1,46 +1,32 @@
--- `exhaustive::play_rounds` is safe and ends: each turn leaves fewer rounds. The counts stay as many.
+-- `exhaustive::play_rounds` ends: each turn leaves fewer rounds.
 -- Assumes nothing.
-use mathlib.Core.Path.{_≡_}
 use native.Mathlib.Omega.{arith}
-use lib.ListN.{length}
 use Rattle.exhaustive.proofs.play_rounds.Statement.{statement}
 use Rattle.exhaustive.proofs.play_rounds.Tie as tie
 
 abbrev Inv-loop : tie.InvT-loop
-Inv-loop counts₀ seed₀ halves-seed₀ left₀ counts seed halves-seed left = length counts ≡ length counts₀
+Inv-loop run₀ left₀ run left = Unit {0}
 
 abbrev μ-loop : tie.MeasureT-loop
-μ-loop counts₀ seed₀ halves-seed₀ left₀ counts seed halves-seed left = left
+μ-loop run₀ left₀ run left = left
+
+new-run-requires : tie.Need-new-run-requires Inv-loop μ-loop
+new-run-requires c κs = tt
 
 loop-holds : tie.Need-loop-holds Inv-loop μ-loop
-loop-holds c = omega arith
+loop-holds c = tt
 
 sub-left : tie.Need-sub-left Inv-loop μ-loop
 sub-left c = omega arith
 
-kind-of-requires : tie.Need-kind-of-requires Inv-loop μ-loop
-kind-of-requires c κs = tt
-
-try-orders-requires : tie.Need-try-orders-requires Inv-loop μ-loop
-try-orders-requires c κs = tt
-
-try-profiles-requires : tie.Need-try-profiles-requires Inv-loop μ-loop
-try-profiles-requires c κs = tt
-
-halves-kind-of-requires : tie.Need-halves-kind-of-requires Inv-loop μ-loop
-halves-kind-of-requires c κs = tt
-
-try-halves-requires : tie.Need-try-halves-requires Inv-loop μ-loop
-try-halves-requires c κs = tt
+play-round-requires : tie.Need-play-round-requires Inv-loop μ-loop
+play-round-requires c κs = tt
 
 loop-less : tie.Need-loop-less Inv-loop μ-loop
 loop-less c = omega arith
 
 loop-again : tie.Need-loop-again Inv-loop μ-loop
-loop-again c = omega arith
-
-same-length : tie.Need-same-length Inv-loop μ-loop
-same-length c = omega arith
+loop-again c = tt
 
 returns : tie.Need-returns Inv-loop μ-loop
 returns c = tt
@@ -51,14 +37,10 @@ play-rounds-spec =
     (tie.spec
     Inv-loop
     μ-loop
+    new-run-requires
     loop-holds
     sub-left
-    kind-of-requires
-    try-orders-requires
-    try-profiles-requires
-    halves-kind-of-requires
-    try-halves-requires
+    play-round-requires
     loop-less
     loop-again
-    same-length
     returns)

@@ -1,19 +1,20 @@
--- `judged_plans::play_rounds` is safe and ends: each turn leaves fewer orders. The counts stay as many.
+-- `judged_plans::play_rounds` ends: each turn leaves fewer orders.
 -- Assumes nothing.
-use mathlib.Core.Path.{_≡_}
 use native.Mathlib.Omega.{arith}
-use lib.ListN.{length}
 use Rattle.judged_plans.proofs.play_rounds.Statement.{statement}
 use Rattle.judged_plans.proofs.play_rounds.Tie as tie
 
 abbrev Inv-loop : tie.InvT-loop
-Inv-loop counts₀ seed₀ left₀ counts seed left = length counts ≡ length counts₀
+Inv-loop run₀ left₀ run left = Unit {0}
 
 abbrev μ-loop : tie.MeasureT-loop
-μ-loop counts₀ seed₀ left₀ counts seed left = left
+μ-loop run₀ left₀ run left = left
+
+new-run-requires : tie.Need-new-run-requires Inv-loop μ-loop
+new-run-requires c κs = tt
 
 loop-holds : tie.Need-loop-holds Inv-loop μ-loop
-loop-holds c = omega arith
+loop-holds c = tt
 
 sub-left : tie.Need-sub-left Inv-loop μ-loop
 sub-left c = omega arith
@@ -28,10 +29,7 @@ loop-less : tie.Need-loop-less Inv-loop μ-loop
 loop-less c = omega arith
 
 loop-again : tie.Need-loop-again Inv-loop μ-loop
-loop-again c = omega arith
-
-same-length : tie.Need-same-length Inv-loop μ-loop
-same-length c = omega arith
+loop-again c = tt
 
 returns : tie.Need-returns Inv-loop μ-loop
 returns c = tt
@@ -42,11 +40,11 @@ play-rounds-spec =
     (tie.spec
     Inv-loop
     μ-loop
+    new-run-requires
     loop-holds
     sub-left
     kind-of-requires
     try-order-requires
     loop-less
     loop-again
-    same-length
     returns)

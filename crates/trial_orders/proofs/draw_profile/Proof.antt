@@ -8,23 +8,28 @@ use Rattle.trial_orders.proofs.draw_profile.Statement.{statement}
 use Rattle.trial_orders.proofs.draw_profile.Tie as tie
 
 abbrev Inv-loop : tie.InvT-loop
-Inv-loop seed₀ kind profile₀ points rise time₀ weight₀ place₀ k₀ seed profile time weight place k =
-    length profile ≡ length profile₀
+Inv-loop seed kind profile₀ count-seed rise-seed points rise point₀ k₀ profile point k = length profile ≡ length profile₀
 
 abbrev μ-loop : tie.MeasureT-loop
-μ-loop seed₀ kind profile₀ points rise time₀ weight₀ place₀ k₀ seed profile time weight place k = points - k
+μ-loop seed kind profile₀ count-seed rise-seed points rise point₀ k₀ profile point k = points - k
 
-draw-requires : tie.Need-draw-requires Inv-loop μ-loop
-draw-requires c κs = tt
+next-requires : tie.Need-next-requires Inv-loop μ-loop
+next-requires c κs = tt
 
-draw-rise-requires : tie.Need-draw-rise-requires Inv-loop μ-loop
-draw-rise-requires c κs = tt
+next-requires-2 : tie.Need-next-requires-2 Inv-loop μ-loop
+next-requires-2 c κs = tt
 
-draw-free-requires : tie.Need-draw-free-requires Inv-loop μ-loop
-draw-free-requires c κs = tt
+drawn-byte-requires : tie.Need-drawn-byte-requires Inv-loop μ-loop
+drawn-byte-requires c κs = tt
 
-draw-first-weight-requires : tie.Need-draw-first-weight-requires Inv-loop μ-loop
-draw-first-weight-requires c κs = tt
+drawn-rise-requires : tie.Need-drawn-rise-requires Inv-loop μ-loop
+drawn-rise-requires c κs = tt
+
+next-requires-3 : tie.Need-next-requires-3 Inv-loop μ-loop
+next-requires-3 c κs = tt
+
+draw-point-requires : tie.Need-draw-point-requires Inv-loop μ-loop
+draw-point-requires c κs = tt
 
 loop-holds : tie.Need-loop-holds Inv-loop μ-loop
 loop-holds c = omega arith
@@ -32,17 +37,8 @@ loop-holds c = omega arith
 put-point-requires : tie.Need-put-point-requires Inv-loop μ-loop
 put-point-requires c κs = tt
 
-draw-from-requires : tie.Need-draw-from-requires Inv-loop μ-loop
-draw-from-requires c κs = tt
-
-plus-requires : tie.Need-plus-requires Inv-loop μ-loop
-plus-requires c κs = tt
-
-draw-from-requires-2 : tie.Need-draw-from-requires-2 Inv-loop μ-loop
-draw-from-requires-2 c κs = tt
-
-plus-requires-2 : tie.Need-plus-requires-2 Inv-loop μ-loop
-plus-requires-2 c κs = tt
+next-point-requires : tie.Need-next-point-requires Inv-loop μ-loop
+next-point-requires c κs = tt
 
 add-k : tie.Need-add-k Inv-loop μ-loop
 add-k c = omega arith
@@ -52,6 +48,9 @@ loop-less c = omega arith
 
 loop-again : tie.Need-loop-again Inv-loop μ-loop
 loop-again c = omega arith
+
+place-of-requires : tie.Need-place-of-requires Inv-loop μ-loop
+place-of-requires c κs = tt
 
 same-length : tie.Need-same-length Inv-loop μ-loop
 same-length c = omega arith
@@ -65,18 +64,18 @@ draw-profile-spec =
     (tie.spec
     Inv-loop
     μ-loop
-    draw-requires
-    draw-rise-requires
-    draw-free-requires
-    draw-first-weight-requires
+    next-requires
+    next-requires-2
+    drawn-byte-requires
+    drawn-rise-requires
+    next-requires-3
+    draw-point-requires
     loop-holds
     put-point-requires
-    draw-from-requires
-    plus-requires
-    draw-from-requires-2
-    plus-requires-2
+    next-point-requires
     add-k
     loop-less
     loop-again
+    place-of-requires
     same-length
     returns)

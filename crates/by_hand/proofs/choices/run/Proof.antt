@@ -14,11 +14,8 @@ abbrev μ-loop : tie.MeasureT-loop
 loop-holds : tie.Need-loop-holds Inv-loop μ-loop
 loop-holds c = tt
 
-keep-requires : tie.Need-keep-requires Inv-loop μ-loop
-keep-requires c κs = tt
-
-leave-requires : tie.Need-leave-requires Inv-loop μ-loop
-leave-requires c κs = tt
+step-requires : tie.Need-step-requires Inv-loop μ-loop
+step-requires c κs = tt
 
 add-place : tie.Need-add-place Inv-loop μ-loop
 add-place c = omega arith
@@ -39,8 +36,7 @@ run-spec =
     Inv-loop
     μ-loop
     loop-holds
-    keep-requires
-    leave-requires
+    step-requires
     add-place
     loop-less
     loop-again

@@ -14,8 +14,8 @@ abbrev μ-loop : tie.MeasureT-loop
 loop-holds : tie.Need-loop-holds Inv-loop μ-loop
 loop-holds c = tt
 
-tallied-requires : tie.Need-tallied-requires Inv-loop μ-loop
-tallied-requires c κs = tt
+with-job-requires : tie.Need-with-job-requires Inv-loop μ-loop
+with-job-requires c κs = tt
 
 add-place : tie.Need-add-place Inv-loop μ-loop
 add-place c = omega arith
@@ -32,4 +32,4 @@ returns c = tt
 pub tally-of-spec : {M : Type 1} → statement M
 tally-of-spec =
     tie.close
-    (tie.spec Inv-loop μ-loop loop-holds tallied-requires add-place loop-less loop-again returns)
+    (tie.spec Inv-loop μ-loop loop-holds with-job-requires add-place loop-less loop-again returns)

@@ -8,19 +8,19 @@ use Rattle.judged_plans.proofs.changes.put_bytes.Statement.{statement}
 use Rattle.judged_plans.proofs.changes.put_bytes.Tie as tie
 
 abbrev Inv-loop : tie.InvT-loop
-Inv-loop seed₀ plan₀ from place₀ seed plan place = length plan ≡ length plan₀
+Inv-loop seed plan₀ from last₀ place₀ plan last place = length plan ≡ length plan₀
 
 abbrev μ-loop : tie.MeasureT-loop
-μ-loop seed₀ plan₀ from place₀ seed plan place = length plan - place
+μ-loop seed plan₀ from last₀ place₀ plan last place = length plan - place
 
 loop-holds : tie.Need-loop-holds Inv-loop μ-loop
 loop-holds c = omega arith
 
-draw-requires : tie.Need-draw-requires Inv-loop μ-loop
-draw-requires c κs = tt
+next-requires : tie.Need-next-requires Inv-loop μ-loop
+next-requires c κs = tt
 
-cast-plan : tie.Need-cast-plan Inv-loop μ-loop
-cast-plan c = omega arith
+drawn-byte-requires : tie.Need-drawn-byte-requires Inv-loop μ-loop
+drawn-byte-requires c κs = tt
 
 slice-write-plan : tie.Need-slice-write-plan Inv-loop μ-loop
 slice-write-plan c = omega arith
@@ -47,8 +47,8 @@ put-bytes-spec =
     Inv-loop
     μ-loop
     loop-holds
-    draw-requires
-    cast-plan
+    next-requires
+    drawn-byte-requires
     slice-write-plan
     add-place
     loop-less
