@@ -30,6 +30,22 @@ pub fn leaves(work: &[i32], number: i32) -> bool {
     all_are(front(work, AREA), number) & (at(work, AREA) == MARK)
 }
 
+// What the work area must hold after a call that may be refused: it stays where it is.
+pub fn held_after(refusal: u32) -> i32 {
+    if refusal != 0 {
+        return MARK;
+    }
+    0
+}
+
+// The refusal by whether an order has a choice that may be run, 0 for none.
+pub fn no_choice(found: bool) -> u32 {
+    if found {
+        return 0;
+    }
+    11
+}
+
 // Writes a count on a line of its own, behind a word.
 pub fn write_count(word: &[u8], count: u64) {
     io::write_all(1, word);

@@ -10,6 +10,7 @@ use careful::more;
 use careful::plus;
 use careful::same;
 use comparing::MARK;
+use comparing::held_after;
 use comparing::leaves;
 use comparing::pack_order;
 use comparing::says;
@@ -38,15 +39,15 @@ fn expect_extended(profile: &[i32], numbers: &[i32], refusal: u32, out: &mut [i3
     by_hand::extend(profile, numbers, out)
 }
 
-// What the work area must hold after extending: it stays where the call is refused.
-fn held_after(refusal: u32) -> i32 {
-    if refusal != 0 {
-        return MARK;
+// Whether extending is refused as expected, or answers so many points.
+fn extended_agrees(answer: Extended, refusal: u32, points: usize) -> bool {
+    match answer {
+        Extended::Refused(told) => says(told, refusal, 0),
+        Extended::Points(many) => (refusal == 0) & (many == points),
     }
-    0
 }
 
-// Whether extending by an order is refused as expected, or writes so many points, the ones expected.
+// The same by an order, and whether it writes the points expected.
 fn extend_agrees(
     profile: &[i32],
     bytes: &[u8],
@@ -56,11 +57,9 @@ fn extend_agrees(
 ) -> bool {
     let mut out = [MARK; 604];
     let mut work = [MARK; 14_750];
-    let agrees = match extending::extend(profile, bytes, &mut out, &mut work) {
-        Extended::Refused(told) => says(told, refusal, 0),
-        Extended::Points(many) => (refusal == 0) & (many == points),
-    };
-    agrees & same(&out, expected) & leaves(&work, held_after(refusal))
+    let answer = extending::extend(profile, bytes, &mut out, &mut work);
+    let held = leaves(&work, held_after(refusal));
+    extended_agrees(answer, refusal, points) & same(&out, expected) & held
 }
 
 // The same for the numbers of an order.
@@ -113,15 +112,20 @@ fn expect_joined(one: &[i32], other: &[i32], valid: bool, out: &mut [i32]) -> us
     0
 }
 
-// Whether better-of is refused as expected, or writes so many points, the ones expected.
-fn join_agrees(one: &[i32], other: &[i32], valid: bool, points: usize, expected: &[i32]) -> bool {
-    let mut out = [MARK; 604];
-    let agrees = match better::better_of(one, other, &mut out) {
+// Whether better-of is refused as expected, or answers so many points.
+fn joined_agrees(answer: Joined, valid: bool, points: usize) -> bool {
+    match answer {
         Joined::NotValid => !valid,
         Joined::NoRoom => false,
         Joined::Points(many) => valid & (many == points),
-    };
-    agrees & same(&out, expected)
+    }
+}
+
+// The same of two profiles, and whether it writes the points expected.
+fn join_agrees(one: &[i32], other: &[i32], valid: bool, points: usize, expected: &[i32]) -> bool {
+    let mut out = [MARK; 604];
+    let answer = better::better_of(one, other, &mut out);
+    joined_agrees(answer, valid, points) & same(&out, expected)
 }
 
 // The better of two profiles, which is looked up.

@@ -10,6 +10,7 @@ use careful::more;
 use careful::same;
 use comparing::MARK;
 use comparing::leaves;
+use comparing::no_choice;
 use comparing::pack_order;
 use comparing::says;
 use halves::HalvesPlanned;
@@ -29,14 +30,6 @@ struct Wanted {
     free: i32,
     points: u64,
     held: i32,
-}
-
-// The refusal by whether there is a choice, 0 for none.
-fn no_choice(found: bool) -> u32 {
-    if found {
-        return 0;
-    }
-    11
 }
 
 // What planning must answer by the best choice: refusal 11 where there is none.
@@ -92,30 +85,40 @@ fn expect_starts(numbers: &[i32], t0: i32, best: Best, starts: &mut [i32]) {
     }
 }
 
+// Whether planning answers what is wanted.
+fn planned_agrees(answer: Planned, wanted: Wanted) -> bool {
+    match answer {
+        Planned::Refused(refusal) => (wanted.refusal == 11) & says(refusal, 11, 0),
+        Planned::Made(figures) => figures_agree(figures, wanted),
+    }
+}
+
 // Whether planning an order gives what is wanted and writes the starts expected.
 fn plan_agrees(order: &[u8], wanted: Wanted, expected: &[i32]) -> bool {
     let mut starts = [MARK; 12];
     let mut work = [MARK; 14_750];
-    let agrees = match planner::plan(order, &mut starts, &mut work) {
-        Planned::Refused(refusal) => (wanted.refusal == 11) & says(refusal, 11, 0),
-        Planned::Made(figures) => figures_agree(figures, wanted),
-    };
-    agrees & same(&starts, expected) & leaves(&work, 0)
+    let answer = planner::plan(order, &mut starts, &mut work);
+    planned_agrees(answer, wanted) & same(&starts, expected) & leaves(&work, 0)
 }
 
-// The same as one of halves, which also tells the optional seconds lost.
-fn halves_agree(order: &[u8], wanted: Wanted, expected: &[i32]) -> bool {
-    let mut starts = [MARK; 12];
-    let mut work = [MARK; 14_750];
-    let agrees = match halves::plan_halves(order, &mut starts, &mut work) {
+// Whether planning as one of halves, which also tells the optional seconds lost, answers what is wanted.
+fn halved_agrees(answer: HalvesPlanned, wanted: Wanted) -> bool {
+    match answer {
         HalvesPlanned::Refused(refusal) => {
             (wanted.refusal > 0) & says(refusal, wanted.refusal, wanted.place)
         }
         HalvesPlanned::Made(figures, seconds) => {
             is_count(seconds as u64, wanted.seconds) & figures_agree(figures, wanted)
         }
-    };
-    agrees & same(&starts, expected) & leaves(&work, wanted.held)
+    }
+}
+
+// Whether planning an order as one of halves gives what is wanted and writes the starts expected.
+fn halves_agree(order: &[u8], wanted: Wanted, expected: &[i32]) -> bool {
+    let mut starts = [MARK; 12];
+    let mut work = [MARK; 14_750];
+    let answer = halves::plan_halves(order, &mut starts, &mut work);
+    halved_agrees(answer, wanted) & same(&starts, expected) & leaves(&work, wanted.held)
 }
 
 // Whether planning numbers as an order gives what is wanted and writes the starts of the best choice.

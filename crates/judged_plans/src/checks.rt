@@ -12,7 +12,9 @@ use careful::front_bytes;
 use careful::more;
 use checking::Checked;
 use comparing::MARK;
+use comparing::held_after;
 use comparing::leaves;
+use comparing::no_choice;
 use comparing::says;
 use pack::Packed;
 
@@ -25,14 +27,6 @@ fn answers(answer: Checked, refusal: u32, verdict: bool) -> bool {
         Checked::Refused(told) => (refusal != 0) & says(told, refusal, 0),
         Checked::Answered(yes) => (refusal == 0) & (yes == verdict),
     }
-}
-
-// What the work area must hold after asking for best: it stays where the call is refused.
-fn held_after(refusal: u32) -> i32 {
-    if refusal != 0 {
-        return MARK;
-    }
-    0
 }
 
 // Whether asking for best gives the answer expected.
@@ -61,26 +55,28 @@ fn expect_plan(numbers: &[i32], t0: i32, best: Best, plan: &mut [u8]) -> usize {
     0
 }
 
+// Whether writing a plan is refused as expected, or where that is 0 answers so many bytes.
+fn written(answer: Packed, refusal: u32, size: usize) -> bool {
+    match answer {
+        Packed::Refused(told) => (refusal != 0) & says(told, refusal, 0),
+        Packed::Bytes(many) => (refusal == 0) & (many == size),
+    }
+}
+
 // Our own plan of an order written. Returns whether it has so many bytes, or is refused where there is
 // no choice.
 fn write_agrees(order: &[u8], found: bool, size: usize, out: &mut [u8]) -> bool {
     let mut work = [MARK; 14_750];
-    let agrees = match plan_writer::write_plan(order, out, &mut work) {
-        Packed::Refused(refusal) => !found & says(refusal, 11, 0),
-        Packed::Bytes(written) => found & (written == size),
-    };
-    agrees & leaves(&work, 0)
+    let answer = plan_writer::write_plan(order, out, &mut work);
+    written(answer, no_choice(found), size) & leaves(&work, 0)
 }
 
 // Whether writing a plan refuses a short room, and leaves it as it was.
 fn refuses_short(order: &[u8], work: &mut [i32]) -> bool {
     let marks = [MARK_BYTE; 113];
     let mut out = [MARK_BYTE; 113];
-    let refused = match plan_writer::write_plan(order, &mut out, work) {
-        Packed::Refused(refusal) => says(refusal, 10, 0),
-        Packed::Bytes(_) => false,
-    };
-    refused & check::same(&out, &marks)
+    let answer = plan_writer::write_plan(order, &mut out, work);
+    written(answer, 10, 0) & check::same(&out, &marks)
 }
 
 // Whether both calls with a room refuse a short one, and leave it as it was. A plan that keeps nothing is

@@ -43,6 +43,13 @@ pub struct Profile {
     pub seed: u64,
 }
 
+// A point of a profile, and the last seed that it was drawn by.
+struct Point {
+    time: i32,
+    weight: i32,
+    seed: u64,
+}
+
 // The next seed.
 pub fn next(seed: u64) -> u64 {
     seed % PRIME * FACTOR % PRIME
@@ -131,13 +138,6 @@ fn draw_point(seed: u64, kind: Kind) -> Point {
         weight: drawn_from(weight_seed, 0, 4),
         seed: weight_seed,
     }
-}
-
-// A point of a profile, and the last seed that it was drawn by.
-struct Point {
-    time: i32,
-    weight: i32,
-    seed: u64,
 }
 
 // The point behind one, so much later and heavier at least.
