@@ -4,7 +4,6 @@ use crate::lines::read_bytes;
 use crate::lines::read_numbers;
 use careful::at;
 use careful::front;
-use pack::Packed;
 
 // Packs a bus-free time and jobs of six numbers. Returns how many bytes, none for an order that is
 // refused: such an order is told by its bytes.
@@ -12,10 +11,7 @@ fn pack_order(numbers: &[i32], bytes: &mut [u8]) -> usize {
     if numbers.len() == 0 {
         return 0;
     }
-    match pack::pack(at(numbers, 0), &numbers[1..], bytes) {
-        Packed::Refused(_) => 0,
-        Packed::Bytes(written) => written,
-    }
+    comparing::pack_order(at(numbers, 0), &numbers[1..], bytes)
 }
 
 // The order that a part of a case tells, by its bytes or by its numbers. Returns how many bytes.

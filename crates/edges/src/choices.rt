@@ -1,11 +1,8 @@
 // Two openings: the question which of them wins at a time, and the choice between them, by either tie rule.
 use crate::WORK_MARK;
 use crate::calls;
-use careful::front_bytes;
 use careful::lend;
 use case_lines::count_setting;
-use case_lines::make_order;
-use case_lines::part;
 use case_lines::put_buffer;
 use case_lines::put_count;
 use case_lines::put_part;
@@ -42,35 +39,29 @@ fn put_answer<'a>(call: Call, first: &'a [u8], second: &'a [u8], t: i32, work: &
 }
 
 // Either of two orders at a time, with a work area lent.
-fn with_two_orders(line: &[u8], call: Call) {
-    let mut one = [0; 400];
-    let one_size = make_order(part(line, 1), &mut one);
-    let mut other = [0; 400];
-    let other_size = make_order(part(line, 2), &mut other);
+fn with_two_orders<'a>(line: &[u8], call: Call, first: &'a [u8], second: &'a [u8]) {
     let mut space = [WORK_MARK; 15_000];
     let work = lend(&mut space, count_setting(line, b'k'));
-    let first = front_bytes(&one, one_size);
-    let second = front_bytes(&other, other_size);
     put_answer(call, first, second, setting(line, b't'), work);
     put_buffer(work);
 }
 
 // Runs a case that is for one of these calls; false for any other.
-pub fn run(line: &[u8]) -> bool {
+pub fn run<'a>(line: &[u8], first: &'a [u8], second: &'a [u8]) -> bool {
     if calls(line, b"question") {
-        with_two_orders(line, Call::Question);
+        with_two_orders(line, Call::Question, first, second);
         return true;
     }
     if calls(line, b"question_first") {
-        with_two_orders(line, Call::QuestionFirst);
+        with_two_orders(line, Call::QuestionFirst, first, second);
         return true;
     }
     if calls(line, b"choose") {
-        with_two_orders(line, Call::Choose);
+        with_two_orders(line, Call::Choose, first, second);
         return true;
     }
     if calls(line, b"choose_first") {
-        with_two_orders(line, Call::ChooseFirst);
+        with_two_orders(line, Call::ChooseFirst, first, second);
         return true;
     }
     false

@@ -1,7 +1,7 @@
 // Answers the cases of standard input, one a line: a name that begins with the call's, the rooms that are
 // lent and the time, the place or the byte, and behind bars what the call is given. The answer is the name,
 // what the call answered, and behind bars all that the lent buffers hold after it. A call more is a function
-// that takes a case's line, and a word in the `run` of its file.
+// that takes a case's line and the bytes that its parts tell, and a word in the `run` of its file.
 mod choices;
 mod orders;
 mod packed_plans;
@@ -9,16 +9,17 @@ mod plans;
 mod points;
 mod readers;
 
+use careful::front_bytes;
 use case_lines::between;
 use case_lines::call_of;
 use case_lines::is_case;
+use case_lines::make_order;
+use case_lines::part;
 use case_lines::past;
 use case_lines::place_of;
 use case_lines::put_name;
 use case_lines::put_word;
 use check::same;
-ghost use mathlib.Core.Path.{_≡_};
-ghost use lib.ListN.{length};
 
 // What starts, points and jobs are written over, and what the work area holds before a call: a time so
 // early that a call which took it for one of its own would go wrong.
@@ -34,21 +35,34 @@ pub fn calls(line: &[u8], call: &[u8]) -> bool {
     same(call_of(line), call)
 }
 
-// The call that a case is for, in the file that has it.
-fn run(line: &[u8]) -> bool {
-    orders::run(line)
-        || plans::run(line)
-        || packed_plans::run(line)
-        || points::run(line)
-        || choices::run(line)
-        || readers::run(line)
+// The call that a case is for, in the file that has it, on the orders or other bytes that the case tells.
+fn run<'a>(line: &[u8], first: &'a [u8], second: &'a [u8]) -> bool {
+    orders::run(line, first)
+        || plans::run(line, first)
+        || packed_plans::run(line, first, second)
+        || points::run(line, first)
+        || choices::run(line, first, second)
+        || readers::run(line, first)
+}
+
+// The same, from the parts of the case; a part that tells no bytes has none that are used.
+fn run_case(line: &[u8]) -> bool {
+    let mut one = [0; 400];
+    let size = make_order(part(line, 1), &mut one);
+    let mut other = [0; 400];
+    let other_size = make_order(part(line, 2), &mut other);
+    run(
+        line,
+        front_bytes(&one, size),
+        front_bytes(&other, other_size),
+    )
 }
 
 // One line: a case's name and its answer.
 fn answer(line: &[u8]) {
     if is_case(line) {
         put_name(line);
-        if !run(line) {
+        if !run_case(line) {
             put_word(b" no such call");
         }
         put_word(b"\n");
@@ -64,15 +78,8 @@ fn answers(text: &[u8]) {
     }
 }
 
-// Room for all cases.
-fn room() -> [u8; 524288]
-    ensures { λ r. ⌜ 524288 ≡ length r ⌝ }
-{
-    [0; 524288]
-}
-
 fn main() {
-    let mut input = room();
+    let mut input = [0; 524_288];
     let n = io::read_full(0, &mut input);
-    answers(&input[..n]);
+    answers(front_bytes(&input, n));
 }

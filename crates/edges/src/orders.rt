@@ -3,7 +3,6 @@ use crate::BYTE_MARK;
 use crate::MARK;
 use crate::calls;
 use careful::front;
-use careful::front_bytes;
 use careful::lend;
 use careful::lend_bytes;
 use case_lines::count_setting;
@@ -14,7 +13,6 @@ use case_lines::put_bytes;
 use case_lines::put_count;
 use case_lines::put_refusal;
 use case_lines::put_refused;
-use case_lines::read_bytes;
 use case_lines::read_numbers;
 use case_lines::setting;
 use heat::Heating;
@@ -33,12 +31,10 @@ fn put_unpacked(answer: Unpacked) {
 }
 
 // `unpack`: bytes, into the room lent.
-fn unpack(line: &[u8]) {
-    let mut bytes = [0; 400];
-    let size = read_bytes(part(line, 1), &mut bytes);
+fn unpack(line: &[u8], bytes: &[u8]) {
     let mut space = [MARK; 300];
     let numbers = lend(&mut space, count_setting(line, b'm'));
-    put_unpacked(unpack::unpack(front_bytes(&bytes, size), numbers));
+    put_unpacked(unpack::unpack(bytes, numbers));
     put_buffer(numbers);
 }
 
@@ -69,9 +65,9 @@ fn heat_up(line: &[u8]) {
 }
 
 // Runs a case that is for one of these calls; false for any other.
-pub fn run(line: &[u8]) -> bool {
+pub fn run(line: &[u8], bytes: &[u8]) -> bool {
     if calls(line, b"unpack") {
-        unpack(line);
+        unpack(line, bytes);
         return true;
     }
     if calls(line, b"pack") {

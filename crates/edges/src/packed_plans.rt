@@ -7,13 +7,10 @@ use careful::front_bytes;
 use careful::lend;
 use careful::lend_bytes;
 use case_lines::count_setting;
-use case_lines::make_order;
-use case_lines::part;
 use case_lines::put_buffer;
 use case_lines::put_bytes;
 use case_lines::put_refusal;
 use case_lines::put_word;
-use case_lines::read_bytes;
 use checking::Checked;
 
 // A verdict.
@@ -33,74 +30,54 @@ fn put_checked(answer: Checked) {
 }
 
 // `legal`: an order and a plan.
-fn legal(line: &[u8]) {
-    let mut bytes = [0; 400];
-    let size = make_order(part(line, 1), &mut bytes);
-    let mut sent = [0; 130];
-    let many = read_bytes(part(line, 2), &mut sent);
-    put_checked(checking::legal(front_bytes(&bytes, size), front_bytes(&sent, many)));
+fn legal(order: &[u8], plan: &[u8]) {
+    put_checked(checking::legal(order, plan));
 }
 
-// The same for each front of a plan, from none of its bytes to all.
-fn put_fronts(order: &[u8], plan: &[u8]) {
+// `legal_cut`: the same for each front of a plan, from none of its bytes to all.
+fn legal_cut(order: &[u8], plan: &[u8]) {
     let mut many = 0;
     while many <= plan.len() {
-        put_checked(checking::legal(order, front_bytes(plan, many)));
+        legal(order, front_bytes(plan, many));
         many += 1;
     }
 }
 
-// `legal_cut`: an order, and a plan cut to each length.
-fn legal_cut(line: &[u8]) {
-    let mut bytes = [0; 400];
-    let size = make_order(part(line, 1), &mut bytes);
-    let mut sent = [0; 130];
-    let many = read_bytes(part(line, 2), &mut sent);
-    put_fronts(front_bytes(&bytes, size), front_bytes(&sent, many));
-}
-
 // `best`: an order and a plan, with a work area lent.
-fn best(line: &[u8]) {
-    let mut bytes = [0; 400];
-    let size = make_order(part(line, 1), &mut bytes);
-    let mut sent = [0; 130];
-    let many = read_bytes(part(line, 2), &mut sent);
+fn best(line: &[u8], order: &[u8], plan: &[u8]) {
     let mut space = [WORK_MARK; 15_000];
     let work = lend(&mut space, count_setting(line, b'k'));
-    let order = front_bytes(&bytes, size);
-    put_checked(best_plan::best(order, front_bytes(&sent, many), work));
+    put_checked(best_plan::best(order, plan, work));
     put_buffer(work);
 }
 
 // `write_plan`: an order, with room for bytes and a work area lent.
-fn write_plan(line: &[u8]) {
-    let mut bytes = [0; 400];
-    let size = make_order(part(line, 1), &mut bytes);
+fn write_plan(line: &[u8], order: &[u8]) {
     let mut out = [BYTE_MARK; 130];
     let mut space = [WORK_MARK; 15_000];
     let plan = lend_bytes(&mut out, count_setting(line, b'm'));
     let work = lend(&mut space, count_setting(line, b'k'));
-    put_packed(plan_writer::write_plan(front_bytes(&bytes, size), plan, work));
+    put_packed(plan_writer::write_plan(order, plan, work));
     put_bytes(plan);
     put_buffer(work);
 }
 
 // Runs a case that is for one of these calls; false for any other.
-pub fn run(line: &[u8]) -> bool {
+pub fn run(line: &[u8], order: &[u8], plan: &[u8]) -> bool {
     if calls(line, b"legal") {
-        legal(line);
+        legal(order, plan);
         return true;
     }
     if calls(line, b"legal_cut") {
-        legal_cut(line);
+        legal_cut(order, plan);
         return true;
     }
     if calls(line, b"best") {
-        best(line);
+        best(line, order, plan);
         return true;
     }
     if calls(line, b"write_plan") {
-        write_plan(line);
+        write_plan(line, order);
         return true;
     }
     false

@@ -5,8 +5,6 @@ use crate::calls;
 use careful::front_bytes;
 use careful::lend;
 use case_lines::count_setting;
-use case_lines::make_order;
-use case_lines::part;
 use case_lines::put;
 use case_lines::put_buffer;
 use case_lines::put_count;
@@ -46,59 +44,48 @@ fn put_halves(answer: HalvesPlanned) {
     }
 }
 
-// An order planned as one of halves, or as any other.
-fn answer_plan(of_halves: bool, bytes: &[u8], starts: &mut [i32], work: &mut [i32]) {
-    if of_halves {
-        return put_halves(halves::plan_halves(bytes, starts, work));
-    }
-    put_planned(planner::plan(bytes, starts, work))
-}
-
-// Either of an order, with room for starts and a work area lent.
-fn with_order(line: &[u8], of_halves: bool) {
-    let mut bytes = [0; 400];
-    let size = make_order(part(line, 1), &mut bytes);
+// `plan`: an order, with room for starts and a work area lent.
+fn plan(line: &[u8], order: &[u8]) {
     let mut out = [MARK; 700];
     let mut space = [WORK_MARK; 15_000];
     let starts = lend(&mut out, count_setting(line, b'm'));
     let work = lend(&mut space, count_setting(line, b'k'));
-    answer_plan(of_halves, front_bytes(&bytes, size), starts, work);
+    put_planned(planner::plan(order, starts, work));
     put_buffer(starts);
     put_buffer(work);
 }
 
-// `plan`.
-fn plan(line: &[u8]) {
-    with_order(line, false);
-}
-
-// `plan_halves`.
-fn plan_halves(line: &[u8]) {
-    with_order(line, true);
+// `plan_halves`: the same of an order of halves.
+fn plan_halves(line: &[u8], order: &[u8]) {
+    let mut out = [MARK; 700];
+    let mut space = [WORK_MARK; 15_000];
+    let starts = lend(&mut out, count_setting(line, b'm'));
+    let work = lend(&mut space, count_setting(line, b'k'));
+    put_halves(halves::plan_halves(order, starts, work));
+    put_buffer(starts);
+    put_buffer(work);
 }
 
 // `report`: any bytes; the text stands on lines of its own.
-fn report(line: &[u8]) {
-    let mut bytes = [0; 400];
-    let size = make_order(part(line, 1), &mut bytes);
+fn report(bytes: &[u8]) {
     let mut text = [0; report::ROOM];
-    let end = report::report(front_bytes(&bytes, size), &mut text);
+    let end = report::report(bytes, &mut text);
     put_word(b"\n");
     put_word(front_bytes(&text, end));
 }
 
 // Runs a case that is for one of these calls; false for any other.
-pub fn run(line: &[u8]) -> bool {
+pub fn run(line: &[u8], order: &[u8]) -> bool {
     if calls(line, b"plan") {
-        plan(line);
+        plan(line, order);
         return true;
     }
     if calls(line, b"plan_halves") {
-        plan_halves(line);
+        plan_halves(line, order);
         return true;
     }
     if calls(line, b"report") {
-        report(line);
+        report(order);
         return true;
     }
     false

@@ -5,10 +5,8 @@ use crate::calls;
 use better::Joined;
 use careful::at;
 use careful::front;
-use careful::front_bytes;
 use careful::lend;
 use case_lines::count_setting;
-use case_lines::make_order;
 use case_lines::make_profile;
 use case_lines::part;
 use case_lines::place_setting;
@@ -35,16 +33,13 @@ fn put_extended(answer: Extended) {
 }
 
 // `extend`: an order and a profile, with room for points and a work area lent.
-fn extend(line: &[u8]) {
-    let mut bytes = [0; 400];
-    let size = make_order(part(line, 1), &mut bytes);
+fn extend(line: &[u8], order: &[u8]) {
     let mut profile = [0; 604];
     let many = make_profile(part(line, 2), &mut profile);
     let mut out = [MARK; 700];
     let mut space = [WORK_MARK; 15_000];
     let points = lend(&mut out, count_setting(line, b'm'));
     let work = lend(&mut space, count_setting(line, b'k'));
-    let order = front_bytes(&bytes, size);
     put_extended(extending::extend(front(&profile, many), order, points, work));
     put_buffer(points);
     put_buffer(work);
@@ -119,9 +114,9 @@ fn records(line: &[u8]) {
 }
 
 // Runs a case that is for one of these calls; false for any other.
-pub fn run(line: &[u8]) -> bool {
+pub fn run(line: &[u8], order: &[u8]) -> bool {
     if calls(line, b"extend") {
-        extend(line);
+        extend(line, order);
         return true;
     }
     if calls(line, b"better") {

@@ -1,9 +1,9 @@
--- `edges::packed_plans::put_fronts` is safe and ends. The measure is how many fronts are left. Assumes nothing.
+-- `edges::packed_plans::legal_cut` is safe and ends. The measure is how many fronts are left. Assumes nothing.
 use Prim.Native.Nat.{_+_, _-_}
 use lib.ListN.{length}
 use borrow.Author.Needs.{needs}
-use Rattle.edges.proofs.packed_plans.put_fronts.Statement.{statement}
-use Rattle.edges.proofs.packed_plans.put_fronts.Tie as tie
+use Rattle.edges.proofs.packed_plans.legal_cut.Statement.{statement}
+use Rattle.edges.proofs.packed_plans.legal_cut.Tie as tie
 
 abbrev Inv-loop : tie.InvT-loop
 Inv-loop order plan many₀ many = Unit
@@ -20,9 +20,6 @@ front-bytes-requires c κs = search needs
 legal-requires : tie.Need-legal-requires Inv-loop μ-loop
 legal-requires c κs = search needs
 
-put-checked-requires : tie.Need-put-checked-requires Inv-loop μ-loop
-put-checked-requires c κs = search needs
-
 add-many : tie.Need-add-many Inv-loop μ-loop
 add-many c = search needs
 
@@ -35,8 +32,8 @@ loop-again c = search needs
 returns : tie.Need-returns Inv-loop μ-loop
 returns c = search needs
 
-pub put-fronts-spec : {M : Type 1} → statement M
-put-fronts-spec =
+pub legal-cut-spec : {M : Type 1} → statement M
+legal-cut-spec =
     tie.close
     (tie.spec
     Inv-loop
@@ -44,7 +41,6 @@ put-fronts-spec =
     loop-holds
     front-bytes-requires
     legal-requires
-    put-checked-requires
     add-many
     loop-less
     loop-again
