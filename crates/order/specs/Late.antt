@@ -11,6 +11,7 @@ use lib.IntN.{ℤ, pos, _+ℤ_}
 use lib.ListN.{getElem?}
 use lib.Signed.{_<ℤ_}
 use borrow.Table.Steps.{cases}
+use Rattle.seconds.specs.Limits.{leftOut}
 use Rattle.seconds.specs.Signed.{signed, add-is}
 use Rattle.order.specs.Job.{Rate, Job, oneRate, rateOf, allowed, busFree}
 use Rattle.order.specs.Choice.{Choice, feasible, startOf, starts}
@@ -61,9 +62,9 @@ late-left-out (k ∷ js) (x ∷ c) t (suc i) late at h =
     let both = and-eq-true-iff (allowed k x t) (feasible js c (busFree k x t)) .0 h in
     late-left-out js c (busFree k x t) i late at (both .1)
 
--- so the start that is told for it is 200,000;
+-- so the start that is told for it is that of a job left out;
 pub late-start : (js : List Job) (c : Choice) (t : ℤ) (i : ℕ) {j : Job} → Late j → getElem? js i ≡ some j
-    → feasible js c t ≡ true → getElem? (starts js c t) i ≡ some (pos 200000)
+    → feasible js c t ≡ true → getElem? (starts js c t) i ≡ some leftOut
 late-start js c t i late at h = start-at js c t i at (late-left-out js c t i late at h)
 
 -- and where it is critical, no choice is feasible.
@@ -73,5 +74,5 @@ late-critical js c t i {j} late must at = cases (feasible js c t) (λ h. absurd 
   where
     kept : feasible js c t ≡ true → _≢_ {A = ℕ} 0 0
     kept h =
-        feasible-holds js c t h .places i j 0 (pos 200000) at (late-left-out js c t i late at h) (late-start js c t i late at h)
+        feasible-holds js c t h .places i j 0 leftOut at (late-left-out js c t i late at h) (late-start js c t i late at h)
         .critical must
