@@ -39,7 +39,7 @@ cast-t13 : tie.Need-cast-t13
 cast-t13 c = let f = entry c .pre in omega (arith, weight-light f, total-light f)
 
 sub-t14 : tie.Need-sub-t14
-sub-t14 c = weight-light (entry c .pre)
+sub-t14 c = omega (arith, weight-light (entry c .pre))
 
 cast-t15 : tie.Need-cast-t15
 cast-t15 c = search needs
