@@ -10,6 +10,10 @@ use Rattle.better.specs.AnswerLaws.{joins-first-not, joins-second-not, j
 use Rattle.better.proofs.better_of.Statement.{statement}
 use Rattle.better.proofs.better_of.Tie as tie
 
+-- Where the code starts.
+abbrev start : tie.Else2 → tie.Start
+start c = c .before .before .before .before
+
 valid-requires : tie.Need-valid-requires
 valid-requires c κs = search needs
 
@@ -28,10 +32,14 @@ returns-2 c =
 
 -- Past the two tests both are valid profiles.
 module _ (c : tie.Else2) where
-  first : holdsProfile (c .before .before .before .before .args .p .now) ≡ true
-  first = sym (c .before .before .before .valid .ensures) ∙ not-false _ (c .before .before .if1 .left)
+  first : let s = start c in
+      holdsProfile (s .args .p .now) ≡ true
+  first =
+      let after-valid : tie.After-valid = c .before .before .before in
+      sym (after-valid .valid .ensures) ∙ not-false _ (c .before .before .if1 .left)
 
-  second : holdsProfile (c .before .before .before .before .args .q .now) ≡ true
+  second : let s = start c in
+      holdsProfile (s .args .q .now) ≡ true
   second = sym (c .before .valid2 .ensures) ∙ not-false _ (c .if2 .left)
 
 returns-3 : tie.Need-returns-3
@@ -41,8 +49,9 @@ returns-3 c =
 
 -- Past the third there is room.
 joinable : (c : tie.Else3)
-    → Joinable (c .before .before .before .before .before .args .p .now) (c .before .before .before .before .before .args .q .now)
-    (c .before .before .before .before .before .args .out .now)
+    → let s = start (c .before) in
+    Joinable (s .args .p .now) (s .args .q .now)
+    (s .args .out .now)
 joinable c = record { first = first (c .before); second = second (c .before); room = c .if3 .left }
 
 merge-requires : tie.Need-merge-requires
@@ -53,8 +62,9 @@ same-length c = search needs
 
 returns-4 : tie.Need-returns-4
 returns-4 c =
+    let else3 : tie.Else3 = c .before .before .before in
     let a = c .before .before .before .before .before .before .before .before .args in
-    joins-written (a .p .now) (a .q .now) (a .out .now) _ _ (joinable (c .before .before .before)) (c .before .merge .ensures)
+    joins-written (a .p .now) (a .q .now) (a .out .now) _ _ (joinable else3) (c .before .merge .ensures)
 
 pub better-of-spec : {M : Type 1} → statement M
 better-of-spec =

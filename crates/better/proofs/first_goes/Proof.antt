@@ -18,6 +18,10 @@ use Rattle.better.specs.MergingLaws.{first-ended, second-ended, both-lef
 use Rattle.better.proofs.first_goes.Statement.{statement}
 use Rattle.better.proofs.first_goes.Tie as tie
 
+-- Where the code starts.
+abbrev start : tie.After-other → tie.Start
+start c = c .before .before .before .before
+
 returns : tie.Need-returns
 returns c =
     let a = c .before .args in
@@ -60,7 +64,9 @@ mul-result : tie.Need-mul-result
 mul-result c = search needs
 
 shared-slice-copy-out-result : tie.Need-shared-slice-copy-out-result
-shared-slice-copy-out-result c = second-next (c .before .before .before .before) .more
+shared-slice-copy-out-result c =
+    let else2 : tie.Else2 = c .before .before .before .before in
+    second-next else2 .more
 
 add-result-2 : tie.Need-add-result-2
 add-result-2 c = search needs
@@ -69,21 +75,31 @@ mul-result-2 : tie.Need-mul-result-2
 mul-result-2 c = search needs
 
 shared-slice-copy-out-result-2 : tie.Need-shared-slice-copy-out-result-2
-shared-slice-copy-out-result-2 c = first-next (c .before .before .before .before .before .before) .more
+shared-slice-copy-out-result-2 c =
+    let else1 : tie.Else1 = c .before .before .before .before .before .before in
+    first-next else1 .more
 
 -- The numbers of both points, read back from their bits.
 module _ (c : tie.After-other) where
   abbrev p : List ℤ
-  p = c .before .before .before .before .args .p .now
+  p =
+      let s = start c in
+      s .args .p .now
 
   abbrev q : List ℤ
-  q = c .before .before .before .before .args .q .now
+  q =
+      let s = start c in
+      s .args .q .now
 
   abbrev i : ℕ
-  i = c .before .before .before .before .args .i
+  i =
+      let s = start c in
+      s .args .i
 
   abbrev j : ℕ
-  j = c .before .before .before .before .args .j
+  j =
+      let s = start c in
+      s .args .j
 
   time : toZ w32 (ofZ w32 (timeAt p i)) ≡ timeAt p i
   time = toZ-ofZ (record { sfits = c .before .time .given })
@@ -93,7 +109,9 @@ module _ (c : tie.After-other) where
 
   said : firstGoesAt p i q j
       ≡ (ltZ (timeAt p i) (timeAt q j) || (leZ (timeAt p i) (timeAt q j) && leZ (weightAt q j) (weightAt p i)))
-  said = both-left (first-next (c .before .before .before)) (second-next (c .before .before))
+  said =
+      let else1 : tie.Else1 = c .before .before .before in
+      both-left (first-next else1) (second-next (c .before .before))
 
 -- The first profile's point is earlier.
 returns-3 : tie.Need-returns-3
@@ -109,7 +127,7 @@ not-earlier c = rw (time (c .before), other (c .before)) at (c .if3 .left)
 -- it is as early, and the weights decide;
 returns-4 : tie.Need-returns-4
 returns-4 c =
-    let e = c .before .before .before in
+    let e : tie.Else3 = c .before .before .before in
     let o = e .before in
     let by : leZ (timeAt (p o) (i o)) (timeAt (q o) (j o)) ≡ true = rw (time o, other o) at (c .before .before .if4 .taken) in
     let weight : toZ w32 (ofZ w32 (weightAt (p o) (i o))) ≡ weightAt (p o) (i o) =

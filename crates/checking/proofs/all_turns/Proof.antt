@@ -30,6 +30,10 @@ Inv-loop order n t0 mask plan free₀ left₀ k₀ place₀ free left k place =
 abbrev μ-loop : tie.MeasureT-loop
 μ-loop order n t0 mask plan free₀ left₀ k₀ place₀ free left k place = n - place
 
+-- Where the code starts.
+abbrev start : tie.At-loop Inv-loop μ-loop → tie.Start Inv-loop μ-loop
+start c = c .before .before .before
+
 few : (s : tie.Start Inv-loop μ-loop) → s .args .n ≤ 48
 few s = omega (arith, s .pre .count, s .pre .accepted .header .few)
 
@@ -40,14 +44,18 @@ loop-holds c =
     (s .fits .mask .fits) (s .pre .none-beyond)
 
 mul-job-at : tie.Need-mul-job-at Inv-loop μ-loop
-mul-job-at c = omega (arith, few (c .before .before .before .before))
+mul-job-at c =
+    let s = start (c .before) in
+    omega (arith, few s)
 
 add-job-at : tie.Need-add-job-at Inv-loop μ-loop
-add-job-at c = omega (arith, few (c .before .before .before .before))
+add-job-at c =
+    let s = start (c .before) in
+    omega (arith, few s)
 
 job-at-requires : tie.Need-job-at-requires Inv-loop μ-loop
 job-at-requires c κs =
-    let s = c .before .before .before .before in
+    let s = start (c .before) in
     omega (arith, s .pre .accepted .header .whole, s .pre .count)
 
 -- The job at the place has been read.
@@ -100,7 +108,9 @@ returns c =
     (sym (ap (λ (r : Turn). r .fine) (turn-is t)) ∙ not-true (t .take-turn .result .fine) (c .if1 .taken)))
 
 mul-left : tie.Need-mul-left Inv-loop μ-loop
-mul-left c = omega (arith, c .before .before .before .before .before .loop .inv .fits)
+mul-left c =
+    let head : tie.At-loop Inv-loop μ-loop = c .before .before .before .before .before in
+    omega (arith, head .loop .inv .fits)
 
 add-place : tie.Need-add-place Inv-loop μ-loop
 add-place c = omega (arith, few (entry (at (c .before .before))))
@@ -126,7 +136,7 @@ loop-again c =
 
 returns-2 : tie.Need-returns-2 Inv-loop μ-loop
 returns-2 c =
-    let s = c .before .before .before .before in
+    let s = start (c .before) in
     rw (toZ-ofZ (s .fits .t0)) at
     (judging-ends (jobsIn (now (s .args .order))) (s .args .n) (toZ w32 (ofZ w32 (s .args .t0))) (s .args .mask) (now (s .args .plan))
     (omega arith) (omega (arith, jobs-count (now (s .args .order)), s .pre .count)) (c .before .loop .inv))

@@ -34,10 +34,14 @@ mask-of-requires c κs = search needs
 -- Past the first test, the mask has been read.
 module _ (c : tie.After-mask-of) where
   abbrev plan : List ℕ
-  plan = now (c .before .before .before .args .plan)
+  plan =
+      let s : tie.Start = c .before .before .before in
+      now (s .args .plan)
 
   abbrev n : ℕ
-  n = c .before .before .before .args .n
+  n =
+      let s : tie.Start = c .before .before .before in
+      s .args .n
 
   bytes : AreBytes plan
   bytes i = c .before .before .shared-slice-known .given i .fits

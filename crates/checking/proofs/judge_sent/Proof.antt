@@ -14,6 +14,10 @@ use Rattle.checking.specs.CallLaws.{stopped-by-order, judged-by-plan}
 use Rattle.checking.proofs.judge_sent.Statement.{statement}
 use Rattle.checking.proofs.judge_sent.Tie as tie
 
+-- Where the code starts.
+abbrev start : tie.After-enum-told → tie.Start
+start c = c .before .before .before .before .before
+
 judge-order-requires : tie.Need-judge-order-requires
 judge-order-requires c κs = search needs
 
@@ -25,22 +29,29 @@ enum-told c = search needs
 
 -- Past the order's own checks.
 module _ (c : tie.After-enum-told) where
-  passed : judge (orderChecks (now (c .before .before .before .before .before .args .order))) ≡ fine
+  passed : let s = start c in
+      judge (orderChecks (now (s .args .order))) ≡ fine
   passed =
-      told-fine (orderChecks (now (c .before .before .before .before .before .args .order)))
+      let s = start c in
+      told-fine (orderChecks (now (s .args .order)))
       (sym (c .before .before .judge-order .ensures) ∙ c .enum-told .given .1)
 
-  accepted : OrderFine (now (c .before .before .before .before .before .args .order))
-  accepted = order-fine (now (c .before .before .before .before .before .args .order)) .0 passed
+  accepted : let s = start c in
+      OrderFine (now (s .args .order))
+  accepted =
+      let s = start c in
+      order-fine (now (s .args .order)) .0 passed
 
 header-at-requires : tie.Need-header-at-requires
 header-at-requires c κs = accepted c .header .long
 
 -- The header's count is that of the jobs.
 counted : (c : tie.After-header-at) → let e = c .before in
-    c .header-at .result .count ≡ countOf (now (e .before .before .before .before .before .args .order))
+    let s = start e in
+    c .header-at .result .count ≡ countOf (now (s .args .order))
 counted c =
-    header-read (now (c .before .before .before .before .before .before .args .order)) (c .header-at .result) (c .header-at .ensures) .count
+    let s = start (c .before) in
+    header-read (now (s .args .order)) (c .header-at .result) (c .header-at .ensures) .count
 
 judge-plan-requires : tie.Need-judge-plan-requires
 judge-plan-requires c κs = omega (arith, counted c, accepted (c .before) .header .few)
@@ -48,7 +59,7 @@ judge-plan-requires c κs = omega (arith, counted c, accepted (c .before) .heade
 returns : tie.Need-returns
 returns c =
     let r = c .before .refusal .given in
-    let j = c .before .before .before in
+    let j : tie.After-judge-order = c .before .before .before in
     let a = j .before .before .before .args in
     stopped-by-order (now (a .order)) (now (a .plan)) (r .0 .0) (sym (j .judge-order .ensures) ∙ r .1)
 

@@ -32,7 +32,7 @@ is-legal-requires c κs = passed c
 returns : tie.Need-returns
 returns c =
     let r = c .before .refusal .given in
-    let j = c .before .before .before in
+    let j : tie.After-judge-sent = c .before .before .before in
     let a = j .before .before .before .args in
     legal-refused (now (a .order)) (now (a .plan)) (r .0 .0) (sym (j .judge-sent .ensures) ∙ r .1)
 

@@ -35,7 +35,7 @@ module _ (s : tie.Start) where
 
 returns : tie.Need-returns
 returns c =
-    let s = c .before .before .before .before .before .before in
+    let s : tie.Start = c .before .before .before .before .before .before in
     ap (λ z. record { fine = mathlib.Core.Bool.not (lib.Dec.eqb (ofZ w32 (s .args .job .critical)) 1); next = s .args .k; free = z })
     (toZ-ofZ (s .fits .free))
     ∙ sym (turn-left (s .args .job) (facts s) (startFrom (now (s .args .plan)) (s .args .k)) (s .args .free) (s .args .k))
@@ -43,7 +43,7 @@ returns c =
 
 start-at-requires : tie.Need-start-at-requires
 start-at-requires c κs =
-    let s = c .before .before .before .before .before .before in
+    let s : tie.Start = c .before .before .before .before .before .before in
     s .pre .there (not-false (s .args .kept) (c .if1 .left))
 
 -- The start has been read.

@@ -66,7 +66,10 @@ shared-slice-copy-out-t25 c = search needs
 
 returns : tie.Need-returns
 returns c =
-    let a = c .before .before .before .before .before .before in
+    let after-t : tie.After-t5 = c .before .before .before .before .before in
+    let after-t-here : tie.After-t9 = c .before .before .before .before in
+    let after-t-2 : tie.After-t13 = c .before .before .before in
+    let a : tie.Start = c .before .before .before .before .before .before in
     let l : List ℤ = now (a .args .numbers) in
     let at : ℕ = a .args .at in
     let job : Job =
@@ -80,9 +83,9 @@ returns c =
     } in
     let fits : JobFits job =
     record {
-      number = record { sfits = c .before .before .before .before .before .t5 .given };
-      critical = record { sfits = c .before .before .before .before .t9 .given };
-      weight = record { sfits = c .before .before .before .t13 .given };
+      number = record { sfits = after-t .t5 .given };
+      critical = record { sfits = after-t-here .t9 .given };
+      weight = record { sfits = after-t-2 .t13 .given };
       ready = record { sfits = c .before .before .t17 .given };
       long = record { sfits = c .before .t21 .given };
       deadline = record { sfits = c .t25 .given };

@@ -24,27 +24,27 @@ plain-bits-requires c κs = omega (signed, facts (c .before) .number, fits (c .b
 
 plain-bits-requires-2 : tie.Need-plain-bits-requires-2
 plain-bits-requires-2 c κs =
-    let a = c .before .before .before in
+    let a : tie.Start = c .before .before .before in
     omega (signed, facts a .critical, fits a .critical)
 
 plain-bits-requires-3 : tie.Need-plain-bits-requires-3
 plain-bits-requires-3 c κs =
-    let a = c .before .before .before .before .before in
+    let a : tie.Start = c .before .before .before .before .before in
     omega (signed, facts a .weight, fits a .weight)
 
 time-bits-requires : tie.Need-time-bits-requires
 time-bits-requires c κs =
-    let a = c .before .before .before .before .before .before .before in
+    let a : tie.Start = c .before .before .before .before .before .before .before in
     omega (signed, facts a .ready, fits a .ready)
 
 plain-bits-requires-4 : tie.Need-plain-bits-requires-4
 plain-bits-requires-4 c κs =
-    let a = c .before .before .before .before .before .before .before .before .before in
+    let a : tie.Start = c .before .before .before .before .before .before .before .before .before in
     omega (signed, facts a .long, fits a .long)
 
 time-bits-requires-2 : tie.Need-time-bits-requires-2
 time-bits-requires-2 c κs =
-    let a = c .before .before .before .before .before .before .before .before .before .before .before in
+    let a : tie.Start = c .before .before .before .before .before .before .before .before .before .before .before in
     omega (signed, facts a .deadline, fits a .deadline)
 
 -- All bits are at hand.
@@ -56,16 +56,24 @@ module _ (c : tie.After-time-bits2) where
   job = start .args .job
 
   abbrev number : ℕ
-  number = c .before .before .before .before .before .before .before .before .before .before .plain-bits .result
+  number =
+      let after-plain-bits : tie.After-plain-bits = c .before .before .before .before .before .before .before .before .before .before in
+      after-plain-bits .plain-bits .result
 
   abbrev critical : ℕ
-  critical = c .before .before .before .before .before .before .before .before .plain-bits2 .result
+  critical =
+      let after-plain-bits : tie.After-plain-bits2 = c .before .before .before .before .before .before .before .before in
+      after-plain-bits .plain-bits2 .result
 
   abbrev weight : ℕ
-  weight = c .before .before .before .before .before .before .plain-bits3 .result
+  weight =
+      let after-plain-bits : tie.After-plain-bits3 = c .before .before .before .before .before .before in
+      after-plain-bits .plain-bits3 .result
 
   abbrev ready : ℕ
-  ready = c .before .before .before .before .time-bits .result
+  ready =
+      let after-time-bits : tie.After-time-bits = c .before .before .before .before in
+      after-time-bits .time-bits .result
 
   abbrev long : ℕ
   long = c .before .before .plain-bits4 .result
@@ -75,11 +83,15 @@ module _ (c : tie.After-time-bits2) where
 
   bits : JobBits job number critical weight ready long deadline
   bits =
+      let after-plain-bits : tie.After-plain-bits = c .before .before .before .before .before .before .before .before .before .before in
+      let after-plain-bits-here : tie.After-plain-bits2 = c .before .before .before .before .before .before .before .before in
+      let after-plain-bits-2 : tie.After-plain-bits3 = c .before .before .before .before .before .before in
+      let after-time-bits : tie.After-time-bits = c .before .before .before .before in
       record {
-        number-is = c .before .before .before .before .before .before .before .before .before .before .plain-bits .ensures;
-        critical-is = c .before .before .before .before .before .before .before .before .plain-bits2 .ensures;
-        weight-is = c .before .before .before .before .before .before .plain-bits3 .ensures;
-        ready-is = c .before .before .before .before .time-bits .ensures;
+        number-is = after-plain-bits .plain-bits .ensures;
+        critical-is = after-plain-bits-here .plain-bits2 .ensures;
+        weight-is = after-plain-bits-2 .plain-bits3 .ensures;
+        ready-is = after-time-bits .time-bits .ensures;
         long-is = c .before .before .plain-bits4 .ensures;
         deadline-is = c .time-bits2 .ensures;
       }

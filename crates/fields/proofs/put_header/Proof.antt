@@ -36,7 +36,9 @@ add-word : tie.Need-add-word
 add-word c = omega (arith, small c, c .before .before .pre .few)
 
 put-word-requires : tie.Need-put-word-requires
-put-word-requires c κs = omega (arith, small (c .before), c .before .before .before .pre)
+put-word-requires c κs =
+    let s : tie.Start = c .before .before .before in
+    omega (arith, small (c .before), s .pre)
 
 same-length : tie.Need-same-length
 same-length c = search needs
@@ -44,11 +46,12 @@ same-length c = search needs
 returns : tie.Need-returns
 unfolding packedHeader
 returns c =
-    let a = c .before .before .before .before .before .before in
+    let after-time-bits : tie.After-time-bits = c .before .before .before .before in
+    let a : tie.Start = c .before .before .before .before .before .before in
     let l : List ℕ = now (a .args .bytes) in
     c .before .before .put-word .ensures
     ∙ ap (λ w. bytesOf 4 w ++ drop 4 l)
-    (ap (λ b. a .args .count * 2 ^ 26 + b * 2 ^ 8) (bits (c .before .before .before .before))
+    (ap (λ b. a .args .count * 2 ^ 26 + b * 2 ^ 8) (bits after-time-bits)
     ∙ sym (header-encode (a .args .count) (a .args .t0)))
 
 pub put-header-spec : {M : Type 1} → statement M

@@ -21,10 +21,11 @@ same-length c = search needs
 
 returns : tie.Need-returns
 returns c =
-    let a = c .before .before .before .before .before .before in
+    let after-job-word : tie.After-job-word = c .before .before .before .before in
+    let a : tie.Start = c .before .before .before .before .before .before in
     let l : List ℕ = now (a .args .bytes) in
     c .before .before .put-word .ensures
-    ∙ ap (λ w. take (a .args .at) l ++ bytesOf 8 w ++ drop (a .args .at + 8) l) (c .before .before .before .before .job-word .ensures)
+    ∙ ap (λ w. take (a .args .at) l ++ bytesOf 8 w ++ drop (a .args .at + 8) l) (after-job-word .job-word .ensures)
 
 pub put-job-spec : {M : Type 1} → statement M
 put-job-spec = tie.close (tie.spec job-word-requires put-word-requires same-length returns)

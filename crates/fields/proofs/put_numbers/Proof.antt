@@ -76,7 +76,7 @@ fits c =
 
 returns : tie.Need-returns
 returns c =
-    let told = c .before .before .before .before .before in
+    let told : tie.After-struct-told = c .before .before .before .before .before in
     let l : List ℤ = now (told .before .args .numbers) in
     let at : ℕ = told .before .args .at in
     let j : Job = told .before .args .job in

@@ -16,6 +16,10 @@ Inv-loop bytes at count word₀ i₀ word i = (i ≤ count) × (word ≡ numberO
 abbrev μ-loop : tie.MeasureT-loop
 μ-loop bytes at count word₀ i₀ word i = count - i
 
+-- Where the code starts.
+abbrev start : tie.After-shared-slice-known Inv-loop μ-loop → tie.Start Inv-loop μ-loop
+start c = c .before .before .before
+
 loop-holds : tie.Need-loop-holds Inv-loop μ-loop
 loop-holds c = (omega arith, word-none (now (c .args .bytes)) (c .args .at))
 
@@ -23,18 +27,23 @@ add-byte : tie.Need-add-byte Inv-loop μ-loop
 add-byte c = omega (arith, c .before .before .pre .room)
 
 shared-slice-read-byte : tie.Need-shared-slice-read-byte Inv-loop μ-loop
-shared-slice-read-byte c = omega (arith, c .before .before .before .pre .room)
+shared-slice-read-byte c =
+    let s = start c in
+    omega (arith, s .pre .room)
 
 cast-byte : tie.Need-cast-byte Inv-loop μ-loop
-cast-byte c = omega (arith, c .shared-slice-known .given (c .before .before .before .args .at + c .before .before .loop .i))
+cast-byte c =
+    let s = start c in
+    omega (arith, c .shared-slice-known .given (s .args .at + c .before .before .loop .i))
 
 -- The word with the byte that is read fits.
 next-fits : (c : tie.After-shared-slice-known Inv-loop μ-loop)
-    → c .before .before .loop .word * 256
-    + getD (now (c .before .before .before .args .bytes)) (c .before .before .before .args .at + c .before .before .loop .i) 0
+    → let s = start c in
+    c .before .before .loop .word * 256
+    + getD (now (s .args .bytes)) (s .args .at + c .before .before .loop .i) 0
     < 2 ^ 64
 next-fits c =
-    let a = c .before .before .before in
+    let a = start c in
     word-fits (now (a .args .bytes)) (a .args .at) (a .args .count) (c .before .before .loop .i) (a .pre)
     (c .before .loop-test .taken) (λ k. c .shared-slice-known .given k .fits) (c .before .before .loop .word) (c .before .before .loop .inv .1)
 
@@ -45,14 +54,16 @@ add-word : tie.Need-add-word Inv-loop μ-loop
 add-word c = omega (arith, next-fits c)
 
 add-i : tie.Need-add-i Inv-loop μ-loop
-add-i c = omega (arith, c .before .before .before .pre .short)
+add-i c =
+    let s = start c in
+    omega (arith, s .pre .short)
 
 loop-less : tie.Need-loop-less Inv-loop μ-loop
 loop-less c = omega arith
 
 loop-again : tie.Need-loop-again Inv-loop μ-loop
 loop-again c =
-    let a = c .before .before .before in (
+    let a = start c in (
       omega arith,
       word-on (now (a .args .bytes)) (a .args .at) (a .args .count) (c .before .before .loop .i) (a .pre)
           (c .before .loop-test .taken) (c .before .before .loop .word) (c .before .before .loop .inv .1),

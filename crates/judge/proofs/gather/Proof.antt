@@ -17,37 +17,42 @@ Inv-loop bytes numbers₀ count jobs₀ numbers jobs = Passing (numbersOf bytes)
 abbrev μ-loop : tie.MeasureT-loop
 μ-loop bytes numbers₀ count jobs₀ numbers jobs = jobs .end - jobs .place
 
+-- Where the code starts.
+abbrev entry : tie.At-loop Inv-loop μ-loop → tie.Start Inv-loop μ-loop
+entry c = c .before .before .before .before
+
 header-at-requires : tie.Need-header-at-requires Inv-loop μ-loop
 header-at-requires c κs = let s = c .before .before in header-fine (now (s .args .bytes)) .0 (s .pre .there) .long
 
 loop-holds : tie.Need-loop-holds Inv-loop μ-loop
 loop-holds c =
-    let s = c .before .before .before in
+    let s : tie.Start Inv-loop μ-loop = c .before .before .before in
     there-starts (now (s .args .bytes)) (s .pre .there) (c .header-at .result) (c .header-at .ensures) (s .pre .room)
 
 mul-job-at : tie.Need-mul-job-at Inv-loop μ-loop
 mul-job-at c =
-    let l = c .before .before .before in
+    let l : tie.At-loop Inv-loop μ-loop = c .before .before .before in
     omega (arith, c .before .if1 .taken, l .loop .inv .few, l .loop .inv .room)
 
 add-job-at : tie.Need-add-job-at Inv-loop μ-loop
 add-job-at c =
-    let l = c .before .before .before in
+    let l : tie.At-loop Inv-loop μ-loop = c .before .before .before in
     omega (arith, c .before .if1 .taken, l .loop .inv .few, l .loop .inv .room)
 
 job-at-requires : tie.Need-job-at-requires Inv-loop μ-loop
 job-at-requires c κs =
-    let l = c .before .before .before in
-    let s = l .before .before .before .before in
+    let l : tie.At-loop Inv-loop μ-loop = c .before .before .before in
+    let s = entry l in
     there-room (now (s .args .bytes)) (s .pre .there) (c .before .if1 .taken) (l .loop .inv)
 
 -- The job that was read is the job at the place.
 turn : (c : tie.After-job-at Inv-loop μ-loop)
-    → let l = c .before .before .before .before in
-    Turn (numbersOf (now (l .before .before .before .before .args .bytes))) (l .loop .numbers) (l .loop .jobs) (c .job-at .result)
+    → let l : tie.At-loop Inv-loop μ-loop = c .before .before .before .before in
+    let start = entry l in
+    Turn (numbersOf (now (start .args .bytes))) (l .loop .numbers) (l .loop .jobs) (c .job-at .result)
 turn c =
-    let l = c .before .before .before .before in
-    let s = l .before .before .before .before in
+    let l : tie.At-loop Inv-loop μ-loop = c .before .before .before .before in
+    let s = entry l in
     there-turn (now (s .args .bytes)) (s .pre .there) (c .before .before .if1 .taken) (l .loop .inv) (c .job-at .result) (c .job-at .ensures)
 
 take-in-requires : tie.Need-take-in-requires Inv-loop μ-loop
@@ -55,21 +60,26 @@ take-in-requires c κs = can-take-in (turn (c .before))
 
 loop-less : tie.Need-loop-less Inv-loop μ-loop
 loop-less c =
+    let after-job-at : tie.After-job-at Inv-loop μ-loop = c .before .before .before .before in
     let made = c .before .before .take-in in
-    passing-less (turn (c .before .before .before .before)) (made .result) (made .ensures .0)
+    passing-less (turn after-job-at) (made .result) (made .ensures .0)
 
 loop-again : tie.Need-loop-again Inv-loop μ-loop
 loop-again c =
+    let after-job-at : tie.After-job-at Inv-loop μ-loop = c .before .before .before .before in
     let made = c .before .before .take-in in
-    passing-on (turn (c .before .before .before .before)) (made .result) (made .ensures .0) (made .last .1 .1 .0) (made .ensures .1)
+    passing-on (turn after-job-at) (made .result) (made .ensures .0) (made .last .1 .1 .0) (made .ensures .1)
 
 same-length : tie.Need-same-length Inv-loop μ-loop
-same-length c = c .before .before .loop .inv .long ∙ sym (c .before .before .before .before .before .before .pre .room)
+same-length c =
+    let s = entry (c .before .before) in
+    c .before .before .loop .inv .long ∙ sym (s .pre .room)
 
 returns : tie.Need-returns Inv-loop μ-loop
 returns c =
-    let l = c .before .before in
-    passing-ends (numbersOf (now (l .before .before .before .before .args .bytes))) (l .loop .numbers) (l .loop .jobs) (c .if1 .left) (l .loop .inv)
+    let l : tie.At-loop Inv-loop μ-loop = c .before .before in
+    let s = entry l in
+    passing-ends (numbersOf (now (s .args .bytes))) (l .loop .numbers) (l .loop .jobs) (c .if1 .left) (l .loop .inv)
 
 pub gather-spec : {M : Type 1} → statement M
 gather-spec =

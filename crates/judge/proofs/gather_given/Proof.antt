@@ -20,22 +20,22 @@ loop-holds c = let s = c .before in given-starts (now (s .args .given)) (s .pre 
 
 mul-job-from : tie.Need-mul-job-from Inv-loop μ-loop
 mul-job-from c =
-    let l = c .before .before .before in
+    let l : tie.At-loop Inv-loop μ-loop = c .before .before .before in
     omega (arith, c .before .if1 .taken, l .loop .inv .few, l .loop .inv .room)
 
 job-from-requires : tie.Need-job-from-requires Inv-loop μ-loop
 job-from-requires c κs =
-    let l = c .before .before .before in
-    let s = l .before .before in
+    let l : tie.At-loop Inv-loop μ-loop = c .before .before .before in
+    let s : tie.Start Inv-loop μ-loop = l .before .before in
     given-room (now (s .args .given)) (s .pre .there) (c .before .if1 .taken) (l .loop .inv)
 
 -- The job that was read is the job at the place.
 turn : (c : tie.After-job-from Inv-loop μ-loop)
-    → let l = c .before .before .before .before in
+    → let l : tie.At-loop Inv-loop μ-loop = c .before .before .before .before in
     Turn (now (l .before .before .args .given)) (l .loop .numbers) (l .loop .jobs) (c .job-from .result)
 turn c =
-    let l = c .before .before .before .before in
-    let s = l .before .before in
+    let l : tie.At-loop Inv-loop μ-loop = c .before .before .before .before in
+    let s : tie.Start Inv-loop μ-loop = l .before .before in
     given-turn (now (s .args .given)) (s .pre .there) (c .before .before .if1 .taken) (l .loop .inv) (c .job-from .result) (c .job-from .ensures)
 
 take-in-requires : tie.Need-take-in-requires Inv-loop μ-loop
@@ -43,16 +43,20 @@ take-in-requires c κs = can-take-in (turn (c .before))
 
 loop-less : tie.Need-loop-less Inv-loop μ-loop
 loop-less c =
+    let after-job-from : tie.After-job-from Inv-loop μ-loop = c .before .before .before .before in
     let made = c .before .before .take-in in
-    passing-less (turn (c .before .before .before .before)) (made .result) (made .ensures .0)
+    passing-less (turn after-job-from) (made .result) (made .ensures .0)
 
 loop-again : tie.Need-loop-again Inv-loop μ-loop
 loop-again c =
+    let after-job-from : tie.After-job-from Inv-loop μ-loop = c .before .before .before .before in
     let made = c .before .before .take-in in
-    passing-on (turn (c .before .before .before .before)) (made .result) (made .ensures .0) (made .last .1 .1 .0) (made .ensures .1)
+    passing-on (turn after-job-from) (made .result) (made .ensures .0) (made .last .1 .1 .0) (made .ensures .1)
 
 same-length : tie.Need-same-length Inv-loop μ-loop
-same-length c = c .before .before .loop .inv .long ∙ sym (c .before .before .before .before .pre .room)
+same-length c =
+    let s : tie.Start Inv-loop μ-loop = c .before .before .before .before in
+    c .before .before .loop .inv .long ∙ sym (s .pre .room)
 
 returns : tie.Need-returns Inv-loop μ-loop
 returns c =

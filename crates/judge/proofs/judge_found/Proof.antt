@@ -21,7 +21,7 @@ returns c =
 
 slice-aggregate-repeat-in : tie.Need-slice-aggregate-repeat-in
 slice-aggregate-repeat-in c =
-    let s = c .before .before .before in
+    let s : tie.Start = c .before .before .before in
     sym (length-take-le (s .args .jobs .count) (now (s .args .numbers)) (s .pre))
 
 repeat-in-requires : tie.Need-repeat-in-requires

@@ -31,14 +31,15 @@ module _ (s : tie.Start) where
 
 returns : tie.Need-returns
 returns c =
+    let after-judge-found : tie.After-judge-found = c .before .before .before in
     let r = c .before .refusal .given in
-    let s = c .before .before .before .before .before in
-    sym (else-refused (found s) (sum s) (r .0 .0) (sym (c .before .before .before .judge-found .ensures) ∙ r .1))
+    let s : tie.Start = c .before .before .before .before .before in
+    sym (else-refused (found s) (sum s) (r .0 .0) (sym (after-judge-found .judge-found .ensures) ∙ r .1))
 
 returns-2 : tie.Need-returns-2
 returns-2 c =
     let e = c .before in
-    let s = e .before .before .before .before in
+    let s : tie.Start = e .before .before .before .before in
     let passed = fine-told (found s) (sym (e .before .before .judge-found .ensures) ∙ e .enum-told .given .1) in
     c .judge-sum .ensures ∙ sym (ap (λ (v : Verdict). verdictOf (orElse v (sum s))) passed)
 

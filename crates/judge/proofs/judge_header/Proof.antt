@@ -36,7 +36,9 @@ header-at-requires c κs = search needs
 -- Past the first test, the header has been read.
 module _ (c : tie.After-struct-told) where
   abbrev bytes : List ℕ
-  bytes = now (c .before .before .before .before .args .bytes)
+  bytes =
+      let s : tie.Start = c .before .before .before .before in
+      now (s .args .bytes)
 
   abbrev header : Header
   header = c .before .header-at .result
@@ -88,7 +90,7 @@ plainly-requires-4 c κs = search needs
 returns-4 : tie.Need-returns-4
 returns-4 c =
     let t = c .before in
-    let h = t .before .before .before in
+    let h : tie.After-struct-told = t .before .before .before in
     rw (
       c .plainly4 .ensures,
       header-told (bytes h) (header h) (says h),
@@ -111,10 +113,11 @@ module _ (c : tie.After-is-time) where
 
   left : judge (headerChecks (bytes read)) ≡ cond (not (isTime (header read .t0))) (refused (plainly 5)) fine
   left =
+      let else2 : tie.Else2 = c .before .before .before in
       rw (
         header-told (bytes read) (header read) (says read),
         le-ltb (length (bytes read)) 4 (read .before .before .if1 .left),
-        eq-eqb (header read .spare) 0 (c .before .before .before .if2 .left),
+        eq-eqb (header read .spare) 0 (else2 .if2 .left),
         le-ltb 48 (header read .count) (c .before .before .if3 .left),
         eq-eqb (length (bytes read)) (4 + 8 * header read .count) (c .before .if4 .left),
       )

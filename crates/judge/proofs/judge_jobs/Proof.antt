@@ -11,6 +11,10 @@ use Rattle.judge.specs.Told.{told-fine, told-refused, told-next, jobs-to
 use Rattle.judge.proofs.judge_jobs.Statement.{statement}
 use Rattle.judge.proofs.judge_jobs.Tie as tie
 
+-- Where the code starts.
+abbrev start : tie.After-enum-told → tie.Start
+start c = c .before .before .before .before
+
 judge-header-requires : tie.Need-judge-header-requires
 judge-header-requires c κs = search needs
 
@@ -21,9 +25,11 @@ enum-told : tie.Need-enum-told
 enum-told c = search needs
 
 -- Past 1 to 5.
-passed : (c : tie.After-enum-told) → judge (headerChecks (now (c .before .before .before .before .args .bytes))) ≡ fine
+passed : (c : tie.After-enum-told) → let s = start c in
+    judge (headerChecks (now (s .args .bytes))) ≡ fine
 passed c =
-    told-fine (headerChecks (now (c .before .before .before .before .args .bytes)))
+    let s = start c in
+    told-fine (headerChecks (now (s .args .bytes)))
     (sym (c .before .before .judge-header .ensures) ∙ c .enum-told .given .1)
 
 slice-aggregate-gather : tie.Need-slice-aggregate-gather
@@ -40,16 +46,19 @@ judge-found-requires c κs = search needs
 
 returns : tie.Need-returns
 returns c =
+    let s : tie.Start = c .before .before .before .before .before in
+    let after-judge-header : tie.After-judge-header = c .before .before .before in
     let r = c .before .refusal .given in
-    let bytes = now (c .before .before .before .before .before .args .bytes) in
+    let bytes = now (s .args .bytes) in
     sym (told-refused (headerChecks bytes) (jobChecks (numbersOf bytes)) (r .0 .0)
-    (sym (c .before .before .before .judge-header .ensures) ∙ r .1))
+    (sym (after-judge-header .judge-header .ensures) ∙ r .1))
 
 returns-2 : tie.Need-returns-2
 returns-2 c =
-    let g = c .before .before .before in
-    let h = g .before .before in
-    let bytes = now (h .before .before .before .before .args .bytes) in
+    let g : tie.After-gather = c .before .before .before in
+    let h : tie.After-enum-told = g .before .before in
+    let s = start h in
+    let bytes = now (s .args .bytes) in
     c .judge-found .ensures
     ∙ sym (ap verdictOf (told-next (headerChecks bytes) (jobChecks (numbersOf bytes)) (passed h)
     ∙ jobs-told (numbersOf bytes) (g .gather .last .1 .0) (g .gather .result) (g .gather .ensures)))

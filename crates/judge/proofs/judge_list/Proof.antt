@@ -17,6 +17,10 @@ use Rattle.packed.specs.Steps.{list-judge}
 use Rattle.judge.proofs.judge_list.Statement.{statement}
 use Rattle.judge.proofs.judge_list.Tie as tie
 
+-- Where the code starts.
+abbrev start : tie.After-is-time → tie.Start
+start c = c .before .before .before
+
 mul-if1 : tie.Need-mul-if1
 mul-if1 c = search needs
 
@@ -50,13 +54,19 @@ is-time-requires c κs = search needs
 -- The bus-free time has been tested, and only that check is left.
 module _ (c : tie.After-is-time) where
   abbrev t0 : ℤ
-  t0 = c .before .before .before .args .t0
+  t0 =
+      let s = start c in
+      s .args .t0
 
   abbrev zs : List ℤ
-  zs = now (c .before .before .before .args .given)
+  zs =
+      let s = start c in
+      now (s .args .given)
 
   timely : c .is-time .result ≡ isTime t0
-  timely = c .is-time .ensures ∙ ap isTime (toZ-ofZ (c .before .before .before .fits .t0))
+  timely =
+      let s = start c in
+      c .is-time .ensures ∙ ap isTime (toZ-ofZ (s .fits .t0))
 
   left : judge (listChecks t0 zs) ≡ cond (not (isTime t0)) (refused (plainly 5)) fine
   left =

@@ -32,10 +32,14 @@ list-says c =
 -- Past 3 to 5.
 module _ (c : tie.After-enum-told) where
   abbrev t0 : ℤ
-  t0 = c .before .before .before .args .t0
+  t0 =
+      let s : tie.Start = c .before .before .before in
+      s .args .t0
 
   abbrev zs : List ℤ
-  zs = now (c .before .before .before .args .given)
+  zs =
+      let s : tie.Start = c .before .before .before in
+      now (s .args .given)
 
   passed : judge (listChecks t0 zs) ≡ fine
   passed = told-fine (listChecks t0 zs) (sym (list-says (c .before .before)) ∙ c .enum-told .given .1)
@@ -56,16 +60,17 @@ judge-gathered-requires c κs = search needs
 
 returns : tie.Need-returns
 returns c =
+    let after-judge-list : tie.After-judge-list = c .before .before .before in
     let r = c .before .refusal .given in
     let a = c .before .before .before .before .args in
     let given = now (a .given) in
     sym (first-refused (listChecks (a .t0) given) (jobChecks given) (weightChecks 0 given) (r .0 .0)
-    (sym (list-says (c .before .before .before)) ∙ r .1))
+    (sym (list-says after-judge-list) ∙ r .1))
 
 returns-2 : tie.Need-returns-2
 returns-2 c =
-    let g = c .before .before .before in
-    let l = g .before .before in
+    let g : tie.After-gather-given = c .before .before .before in
+    let l : tie.After-enum-told = g .before .before in
     c .judge-gathered .ensures
     ∙ sym (ap verdictOf (rest-told (zs l) (g .gather-given .last .1 .0) (g .gather-given .result) (g .gather-given .ensures)
     (listChecks (t0 l) (zs l)) 0 (passed l)))

@@ -21,9 +21,11 @@ enum-told : tie.Need-enum-told
 enum-told c = search needs
 
 -- Past 1 to 5.
-passed : (c : tie.After-enum-told) → judge (headerChecks (now (c .before .before .before .before .args .bytes))) ≡ fine
+passed : (c : tie.After-enum-told) → let s : tie.Start = c .before .before .before .before in
+    judge (headerChecks (now (s .args .bytes))) ≡ fine
 passed c =
-    told-fine (headerChecks (now (c .before .before .before .before .args .bytes)))
+    let s : tie.Start = c .before .before .before .before in
+    told-fine (headerChecks (now (s .args .bytes)))
     (sym (c .before .before .judge-header .ensures) ∙ c .enum-told .given .1)
 
 slice-aggregate-gather : tie.Need-slice-aggregate-gather
@@ -40,16 +42,17 @@ judge-gathered-requires c κs = search needs
 
 returns : tie.Need-returns
 returns c =
+    let after-judge-header : tie.After-judge-header = c .before .before .before in
     let r = c .before .refusal .given in
     let a = c .before .before .before .before .before .args in
     let zs = numbersOf (now (a .bytes)) in
     sym (first-refused (headerChecks (now (a .bytes))) (jobChecks zs) (weightChecks (a .before) zs) (r .0 .0)
-    (sym (c .before .before .before .judge-header .ensures) ∙ r .1))
+    (sym (after-judge-header .judge-header .ensures) ∙ r .1))
 
 returns-2 : tie.Need-returns-2
 returns-2 c =
-    let g = c .before .before .before in
-    let h = g .before .before in
+    let g : tie.After-gather = c .before .before .before in
+    let h : tie.After-enum-told = g .before .before in
     let a = h .before .before .before .before .args in
     c .judge-gathered .ensures
     ∙ sym (ap verdictOf (rest-told (numbersOf (now (a .bytes))) (g .gather .last .1 .0) (g .gather .result) (g .gather .ensures)

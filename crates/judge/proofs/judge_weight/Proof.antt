@@ -32,8 +32,8 @@ judge-sum-requires c κs = search needs
 
 returns : tie.Need-returns
 returns c =
-    let g = c .before .before in
-    let s = g .before .before .before in
+    let g : tie.After-gather = c .before .before in
+    let s : tie.Start = g .before .before .before in
     c .judge-sum .ensures
     ∙ sym (ap verdictOf (weight-told (numbersOf (bytes s)) (g .gather .last .1 .0) (g .gather .result) (g .gather .ensures) (s .args .before)
     (passed s .1)))

@@ -38,7 +38,9 @@ returns c =
 -- Past the test the job is within its limits.
 module _ (c : tie.Else1) where
   abbrev job : Job
-  job = c .before .before .before .args .job
+  job =
+      let s : tie.Start = c .before .before .before in
+      s .args .job
 
   fine : fieldsWithin (fieldsOf job) ≡ true
   fine = no-bad-field job (sym (c .before .bad-field .ensures) ∙ c .if1 .left)
@@ -70,7 +72,7 @@ cast-gain c =
 
 add-total : tie.Need-add-total
 add-total c =
-    let e = c .before .before .before in
+    let e : tie.Else1 = c .before .before .before in
     let asks = e .before .before .before .pre in
     rw (weight-kept e)
     (omega (signed, facts e .weight, abs-is (job e .weight), asks .light, asks .room, asks .few))

@@ -22,8 +22,8 @@ same-length c = search needs
 
 returns : tie.Need-returns
 returns c =
-    let asked = c .before .before in
-    let s = asked .before .before .before .before in
+    let asked : tie.After-question = c .before .before in
+    let s : tie.Start = asked .before .before .before .before in
     let said = rw (toZ-ofZ (s .fits .t)) at (asked .question .ensures) in
     let numbers : Chosen → ChooseAnswer =
     λ won. chooseNumbers won (length (now (s .args .first))) (length (now (s .args .second))) in

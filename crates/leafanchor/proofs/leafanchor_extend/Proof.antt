@@ -22,7 +22,7 @@ same-length-2 c = search needs
 
 returns : tie.Need-returns
 returns c =
-    let called = c .before .before .before in
+    let called : tie.After-extend = c .before .before .before in
     let a = called .before .before .before .before .args in
     let said = called .extend .ensures in
     let numbers = ap extendNumbers {y = extendedOf (now (a .profile)) (now (a .order)) (now (a .out)) (now (a .work))} (said .answer) in

@@ -21,8 +21,8 @@ same-length c = search needs
 
 returns : tie.Need-returns
 returns c =
-    let called = c .before .before .before in
-    let s = called .before .before .before in
+    let called : tie.After-pack = c .before .before .before in
+    let s : tie.Start = called .before .before .before in
     let said = rw (toZ-ofZ (s .fits .t0)) at (called .pack .ensures) in
     let order = packOf (s .args .t0) (now (s .args .numbers)) (length (now (s .args .order))) in
     (c .pack-answer .ensures ∙ ap packNumbers {y = order} (said .0), said .1)

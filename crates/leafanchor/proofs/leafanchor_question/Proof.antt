@@ -18,8 +18,9 @@ same-length c = search needs
 
 returns : tie.Need-returns
 returns c =
-    let asked = c .before .before in
-    let said = rw (toZ-ofZ (asked .before .before .before .before .fits .t)) at (asked .question .ensures) in
+    let asked : tie.After-question = c .before .before in
+    let s : tie.Start = asked .before .before .before .before in
+    let said = rw (toZ-ofZ (s .fits .t)) at (asked .question .ensures) in
     (c .question-answer .ensures ∙ ap questionNumbers (said .answer), said .area)
 
 pub leafanchor-question-spec : {M : Type 1} → statement M

@@ -60,12 +60,12 @@ fits c =
 
 returns : tie.Need-returns
 returns c =
-    let five = c .before .before .before in
-    let four = five .before .before .before in
-    let three = four .before .before .before .before .before in
-    let two = three .before .before .before in
-    let one = two .before .before .before in
-    let start = one .before .before in
+    let five : tie.After-field-or5 = c .before .before .before in
+    let four : tie.After-field-or4 = five .before .before .before in
+    let three : tie.After-field-or3 = four .before .before .before .before .before in
+    let two : tie.After-field-or2 = three .before .before .before in
+    let one : tie.After-field-or = two .before .before .before in
+    let start : tie.After-struct-told = one .before .before in
     let j : Job = start .before .args .job in
     let f : JobFits j = fits start in
     let number : c .before .between3 .result ≡ isBetween (pos 0) (pos 63) (j .number) =

@@ -20,6 +20,10 @@ use Rattle.pack.specs.declared.Packed.the-variants.{Refused}
 use Rattle.pack.proofs.pack.Statement.{statement}
 use Rattle.pack.proofs.pack.Tie as tie
 
+-- Where the code starts.
+abbrev start : tie.After-enum-told → tie.Start
+start c = c .before .before .before .before
+
 judge-numbers-requires : tie.Need-judge-numbers-requires
 judge-numbers-requires c κs = search needs
 
@@ -39,7 +43,8 @@ told c =
 
 -- Past 3 to 9.
 passed : (c : tie.After-enum-told)
-    → judge (numberChecks (c .before .before .before .before .args .t0) (c .before .before .before .before .args .numbers .now)) ≡ fine
+    → let s = start c in
+    judge (numberChecks (s .args .t0) (s .args .numbers .now)) ≡ fine
 passed c =
     let a = c .before .before .before .before .args in
     told-fine (numberChecks (a .t0) (a .numbers .now)) (told (c .before .before) ∙ c .enum-told .given .1)
@@ -62,38 +67,41 @@ returns c =
 
 put-header-requires : tie.Need-put-header-requires
 put-header-requires c κs =
-    let a = c .before .before .before .before .before .before in
+    let a = start (c .before .before) in
     header-room (a .args .t0) (a .args .numbers .now) (a .args .bytes .now) (passed (c .before .before)) (c .before .if1 .left)
     (toZ w32 (ofZ w32 (a .args .t0))) (toZ-ofZ (a .fits .t0))
 
 write-jobs-requires : tie.Need-write-jobs-requires
 write-jobs-requires c κs =
-    let h = c .before .before .before .before .before in
+    let after-put-header : tie.After-put-header = c .before .before .before in
+    let h : tie.Else1 = c .before .before .before .before .before in
     let a = h .before .before .before .before .before .args in
     packable (a .t0) (a .numbers .now) (a .bytes .now) (passed (h .before)) (h .if1 .left)
-    (c .before .before .before .put-header .last .0) (c .before .before .before .put-header .kept .0)
+    (after-put-header .put-header .last .0) (after-put-header .put-header .kept .0)
 
 returns-2 : tie.Need-returns-2
 returns-2 c =
+    let after-judge-numbers : tie.After-judge-numbers = c .before .before .before in
     let a = c .before .before .before .before .before .args in
     let said = c .before .refusal .given in
     packs-refused (a .t0) (a .numbers .now) (a .bytes .now) (said .0 .0)
-    (told (c .before .before .before) ∙ said .1)
+    (told after-judge-numbers ∙ said .1)
 
 same-length : tie.Need-same-length
 same-length c = search needs
 
 returns-3 : tie.Need-returns-3
 returns-3 c =
-    let w = c .before .before in
-    let h = w .before .before .before .before .before .before in
-    let a = h .before .before .before .before .before in
+    let w : tie.After-write-jobs = c .before .before in
+    let after-put-header : tie.After-put-header = w .before .before .before .before in
+    let h : tie.Else1 = w .before .before .before .before .before .before in
+    let a = start (h .before) in
     let count : ℕ = length (a .args .numbers .now) / 6 in
     let header : ℤ → List ℕ = λ t. packedHeader count t ++ drop 4 (a .args .bytes .now) in
     packs-written (a .args .t0) (a .args .numbers .now) (a .args .bytes .now) (passed (h .before)) (h .if1 .left)
     (w .write-jobs .last .1 .1 .0)
     (w .write-jobs .ensures
-    ∙ ap (firstRecords (a .args .numbers .now) count) (w .before .before .before .before .put-header .ensures ∙ ap header (toZ-ofZ (a .fits .t0))))
+    ∙ ap (firstRecords (a .args .numbers .now) count) (after-put-header .put-header .ensures ∙ ap header (toZ-ofZ (a .fits .t0))))
 
 pub pack-spec : {M : Type 1} → statement M
 pack-spec =

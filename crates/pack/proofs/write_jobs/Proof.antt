@@ -45,14 +45,15 @@ kept c =
 
 -- The job that was read is the one at its place.
 read : (c : tie.After-job-from Inv-loop μ-loop)
-    → fieldsOf (c .job-from .result) ≡ fieldsAt (c .before .before .before .before .args .numbers .now) (c .before .before .loop .k)
+    → let s : tie.Start Inv-loop μ-loop = c .before .before .before .before in
+    fieldsOf (c .job-from .result) ≡ fieldsAt (s .args .numbers .now) (c .before .before .loop .k)
 read c =
-    let l = c .before .before in
+    let l : tie.At-loop Inv-loop μ-loop = c .before .before in
     read-from (l .before .before .args .numbers .now) (l .loop .k) (6 * l .loop .k) (c .job-from .result) refl (c .job-from .ensures)
 
 put-job-requires : tie.Need-put-job-requires Inv-loop μ-loop
 put-job-requires c κs =
-    let l = c .before .before .before in
+    let l : tie.At-loop Inv-loop μ-loop = c .before .before .before in
     record {
       room = omega (arith, kept l);
       within = ap fieldsWithin (read (c .before)) ∙ l .before .before .pre .within (l .loop .k) (omega arith);
@@ -66,10 +67,10 @@ loop-less c = omega arith
 
 loop-again : tie.Need-loop-again Inv-loop μ-loop
 loop-again c =
-    let l = c .before .before .before .before .before .before in
-    let a = l .before .before in
+    let l : tie.At-loop Inv-loop μ-loop = c .before .before .before .before .before .before in
+    let a : tie.Start Inv-loop μ-loop = l .before .before in
     let k : ℕ = l .loop .k in
-    let j = c .before .before .before .before in
+    let j : tie.After-job-from Inv-loop μ-loop = c .before .before .before .before in
     let job-bytes : List ℕ = bytesOf 8 (encode jobLayout (fieldsOf (j .job-from .result))) in
     let more : c .before .before .put-job .last .0 ≡ firstRecords (a .args .numbers .now) (k + 1) (a .args .bytes .now) =
     c .before .before .put-job .ensures

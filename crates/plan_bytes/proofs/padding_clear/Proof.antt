@@ -25,11 +25,14 @@ unit-requires : tie.Need-unit-requires
 unit-requires c κs = search needs
 
 rem-result : tie.Need-rem-result
-rem-result c = rw (c .unit .ensures) (pow-pos (padBits (c .before .before .before .args .n)))
+rem-result c =
+    let s : tie.Start = c .before .before .before in
+    rw (c .unit .ensures) (pow-pos (padBits (s .args .n)))
 
 returns : tie.Need-returns
 returns c =
-    let plan = now (c .before .before .before .args .plan) in
+    let s : tie.Start = c .before .before .before in
+    let plan = now (s .args .plan) in
     ap (λ u. eqb (getD plan (length plan - 1) 0 % u) 0) (c .unit .ensures)
 
 pub padding-clear-spec : {M : Type 1} → statement M

@@ -23,12 +23,12 @@ kept c =
 
 put-start-requires : tie.Need-put-start-requires
 put-start-requires c κs =
-    let s = c .before .before .before in
+    let s : tie.Start = c .before .before .before in
     rw (toZ-ofZ (s .fits .start)) (s .pre .if-kept (kept (c .before)))
 
 add-result : tie.Need-add-result
 add-result c =
-    let t = c .before .before .before .before in
+    let t : tie.Then1 = c .before .before .before .before in
     omega (arith, t .before .before .pre .if-kept (kept t) .few)
 
 same-length : tie.Need-same-length
@@ -36,8 +36,8 @@ same-length c = search needs
 
 returns : tie.Need-returns
 returns c =
-    let t = c .before .before .before .before in
-    let s = t .before .before in
+    let t : tie.Then1 = c .before .before .before .before in
+    let s : tie.Start = t .before .before in
     rw (kept t) (
       add-one (s .args .k),
       c .before .before .put-start .ensures ∙ ap (startPut (now (s .args .bytes)) (s .args .k)) (toZ-ofZ (s .fits .start)),

@@ -21,20 +21,24 @@ Inv-loop bytes₀ mask starts kept₀ place₀ bytes kept place = Writing bytes�
 abbrev μ-loop : tie.MeasureT-loop
 μ-loop bytes₀ mask starts kept₀ place₀ bytes kept place = length starts - place
 
+-- Where the code starts.
+abbrev entry : tie.After-put-word Inv-loop μ-loop → tie.Start Inv-loop μ-loop
+entry c = c .before .before .before
+
 put-word-requires : tie.Need-put-word-requires Inv-loop μ-loop
 put-word-requires c κs = search needs
 
 -- Behind the mask there is room for the starts.
-room : (c : tie.After-put-word Inv-loop μ-loop) → let s = c .before .before .before in
+room : (c : tie.After-put-word Inv-loop μ-loop) → let s = entry c in
     PlanRoom (c .put-word .last .0) (s .args .mask) (startsKept (now (s .args .starts)))
 room c =
-    let s = c .before .before .before in
+    let s = entry c in
     mask-room (now (s .args .bytes)) (c .put-word .last .0) (s .args .mask) (c .put-word .ensures) (s .pre)
 
 loop-holds : tie.Need-loop-holds Inv-loop μ-loop
 loop-holds c =
-    let w = c .before .before in
-    let s = w .before .before .before in
+    let w : tie.After-put-word Inv-loop μ-loop = c .before .before in
+    let s = entry w in
     writing-starts (w .put-word .last .0) (s .args .mask) (now (s .args .starts)) (room w)
     (mask-put (now (s .args .bytes)) (w .put-word .last .0) (s .args .mask) (w .put-word .ensures))
 
@@ -46,9 +50,9 @@ shared-slice-copy-out-start c = search needs
 
 put-kept-requires : tie.Need-put-kept-requires Inv-loop μ-loop
 put-kept-requires c κs =
-    let l = c .before .before .before in
-    let w = l .before .before .before in
-    let s = w .before .before .before in
+    let l : tie.At-loop Inv-loop μ-loop = c .before .before .before in
+    let w : tie.After-put-word Inv-loop μ-loop = l .before .before .before in
+    let s = entry w in
     rw (toZ-ofZ (record { sfits = c .before .start .given }))
     (kept-room (w .put-word .last .0) (s .args .mask) (now (s .args .starts)) (room w) (l .loop .bytes) (l .loop .kept) (l .loop .place)
     (l .loop .inv) (c .before .before .loop-test .taken))
@@ -61,25 +65,27 @@ loop-less c = omega arith
 
 loop-again : tie.Need-loop-again Inv-loop μ-loop
 loop-again c =
-    let k = c .before .before in
-    let l = k .before .before .before .before in
-    let w = l .before .before .before in
-    let s = w .before .before .before in
+    let k : tie.After-put-kept Inv-loop μ-loop = c .before .before in
+    let turn : tie.In-loop Inv-loop μ-loop = k .before .before .before in
+    let l : tie.At-loop Inv-loop μ-loop = k .before .before .before .before in
+    let w : tie.After-put-word Inv-loop μ-loop = l .before .before .before in
+    let s = entry w in
     writing-on (w .put-word .last .0) (s .args .mask) (now (s .args .starts)) (room w) (l .loop .bytes) (l .loop .kept) (l .loop .place)
-    (l .loop .inv) (k .before .before .before .loop-test .taken) (k .put-kept .last .0) (k .put-kept .result)
+    (l .loop .inv) (turn .loop-test .taken) (k .put-kept .last .0) (k .put-kept .result)
     (rw (toZ-ofZ (record { sfits = k .before .before .start .given })) at (k .put-kept .ensures .0))
     (rw (toZ-ofZ (record { sfits = k .before .before .start .given })) at (k .put-kept .ensures .1))
 
 plan-bytes-requires : tie.Need-plan-bytes-requires Inv-loop μ-loop
 plan-bytes-requires c κs =
     let l = c .before in
-    omega (arith, l .loop .inv .few, l .before .before .before .before .before .before .pre .few)
+    let s : tie.Start Inv-loop μ-loop = l .before .before .before .before .before .before in
+    omega (arith, l .loop .inv .few, s .pre .few)
 
 same-length : tie.Need-same-length Inv-loop μ-loop
 same-length c =
-    let l = c .before .before in
-    let w = l .before .before .before in
-    let s = w .before .before .before in
+    let l : tie.At-loop Inv-loop μ-loop = c .before .before in
+    let w : tie.After-put-word Inv-loop μ-loop = l .before .before .before in
+    let s = entry w in
     omega (
       arith,
       writing-long (w .put-word .last .0) (s .args .mask) (now (s .args .starts)) (room w) (l .loop .bytes) (l .loop .kept)
@@ -87,14 +93,14 @@ same-length c =
     )
 
 -- All are written.
-all : (c : tie.After-loop Inv-loop μ-loop) → let w = c .before .before .before .before in let s = w .before .before .before in
+all : (c : tie.After-loop Inv-loop μ-loop) → let w : tie.After-put-word Inv-loop μ-loop = c .before .before .before .before in let s = entry w in
     let kept = startsKept (now (s .args .starts)) in
     (c .before .loop .kept ≡ length kept)
     × (c .before .loop .bytes ≡ packPlan (s .args .mask) kept ++ drop (planBytes (length kept)) (w .put-word .last .0))
 all c =
     let l = c .before in
-    let w = l .before .before .before in
-    let s = w .before .before .before in
+    let w : tie.After-put-word Inv-loop μ-loop = l .before .before .before in
+    let s = entry w in
     writing-all (w .put-word .last .0) (s .args .mask) (now (s .args .starts)) (room w) (l .loop .bytes) (l .loop .kept) (l .loop .place)
     (l .loop .inv) (c .loop-test .left)
 

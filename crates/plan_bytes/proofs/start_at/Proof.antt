@@ -32,7 +32,9 @@ unit-requires : tie.Need-unit-requires
 unit-requires c κs = search needs
 
 div-time-of : tie.Need-div-time-of
-div-time-of c = rw (c .unit .ensures) (pow-pos (padBits (c .before .before .before .before .args .k + 1)))
+div-time-of c =
+    let s : tie.Start = c .before .before .before .before in
+    rw (c .unit .ensures) (pow-pos (padBits (s .args .k + 1)))
 
 time-of-requires : tie.Need-time-of-requires
 time-of-requires c κs = search needs

@@ -14,7 +14,9 @@ returns-2 : tie.Need-returns-2
 returns-2 c = sym (ap (λ e. 2 ^ e) (pad-1 (c .before .before .args .n) (c .if2 .taken)))
 
 returns-3 : tie.Need-returns-3
-returns-3 c = sym (ap (λ e. 2 ^ e) (pad-2 (c .before .before .before .args .n) (c .if3 .taken)))
+returns-3 c =
+    let s : tie.Start = c .before .before .before in
+    sym (ap (λ e. 2 ^ e) (pad-2 (s .args .n) (c .if3 .taken)))
 
 returns-4 : tie.Need-returns-4
 returns-4 c =

@@ -55,7 +55,7 @@ time-fits c = record { sfits = c .if12 .given }
 
 returns : tie.Need-returns Inv-loop μ-loop
 returns c =
-    let h = c .before .before .before in
+    let h : tie.At-loop Inv-loop μ-loop = c .before .before .before in
     let fits = h .before .fits .t in
     let later : t h <ℤ timeAt (numbers h) (i h) = omega (signed, time-fits (c .before), fits, c .if1 .taken) in
     omega (arith, counted h, count-stops (t h) (numbers h) (i h) (c .before .before .loop-test .taken) later)
@@ -68,7 +68,7 @@ loop-less c = omega arith
 
 loop-again : tie.Need-loop-again Inv-loop μ-loop
 loop-again c =
-    let h = c .before .before .before in
+    let h : tie.At-loop Inv-loop μ-loop = c .before .before .before in
     let fits = h .before .fits .t in
     let by : timeAt (numbers h) (i h) ≤ℤ t h = omega (signed, time-fits (c .before), fits, c .if1 .left) in
     rw (toZ-ofZ fits)

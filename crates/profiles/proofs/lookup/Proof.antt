@@ -22,6 +22,10 @@ use Rattle.profiles.specs.declared.Finding.the-variants.{Found}
 use Rattle.profiles.proofs.lookup.Statement.{statement}
 use Rattle.profiles.proofs.lookup.Tie as tie
 
+-- Where the code starts.
+abbrev start : tie.After-count-by → tie.Start
+start c = c .before .before .before
+
 valid-requires : tie.Need-valid-requires
 valid-requires c κs = search needs
 
@@ -36,16 +40,22 @@ count-by-requires c κs = search needs
 -- Past the first test the numbers hold a profile, and the count is that of the time as it was given.
 module _ (c : tie.After-count-by) where
   abbrev numbers : List ℤ
-  numbers = c .before .before .before .args .numbers .now
+  numbers =
+      let s = start c in
+      s .args .numbers .now
 
   abbrev t : ℤ
-  t = c .before .before .before .args .t
+  t =
+      let s = start c in
+      s .args .t
 
   valid : holdsProfile numbers ≡ true
   valid = sym (c .before .before .valid .ensures) ∙ not-false _ (c .before .if1 .left)
 
   count : c .count-by .result ≡ countBy t numbers
-  count = c .count-by .ensures ∙ ap (λ (z : ℤ). countBy z numbers) (toZ-ofZ (c .before .before .before .fits .t))
+  count =
+      let s = start c in
+      c .count-by .ensures ∙ ap (λ (z : ℤ). countBy z numbers) (toZ-ofZ (s .fits .t))
 
 returns-2 : tie.Need-returns-2
 returns-2 c =

@@ -14,6 +14,10 @@ use Rattle.reader.specs.declared.Opened.the-variants.{Accepted}
 use Rattle.reader.proofs.open.Statement.{statement}
 use Rattle.reader.proofs.open.Tie as tie
 
+-- Where the code starts.
+abbrev start : tie.After-enum-told → tie.Start
+start c = c .before .before .before .before
+
 judge-header-requires : tie.Need-judge-header-requires
 judge-header-requires c κs = search needs
 
@@ -24,25 +28,32 @@ enum-told : tie.Need-enum-told
 enum-told c = search needs
 
 -- Past checks 1 to 5.
-passed : (c : tie.After-enum-told) → judge (headerChecks (now (c .before .before .before .before .args .bytes))) ≡ fine
+passed : (c : tie.After-enum-told) → let s = start c in
+    judge (headerChecks (now (s .args .bytes))) ≡ fine
 passed c =
-    told-fine (headerChecks (now (c .before .before .before .before .args .bytes)))
+    let s = start c in
+    told-fine (headerChecks (now (s .args .bytes)))
     (sym (c .before .before .judge-header .ensures) ∙ c .enum-told .given .1)
 
 header-at-requires : tie.Need-header-at-requires
-header-at-requires c κs = header-fine (now (c .before .before .before .before .args .bytes)) .0 (passed c) .long
+header-at-requires c κs =
+    let s = start c in
+    header-fine (now (s .args .bytes)) .0 (passed c) .long
 
 returns : tie.Need-returns
 returns c =
-    let bytes = now (c .before .before .before .before .before .args .bytes) in
+    let s : tie.Start = c .before .before .before .before .before in
+    let after-judge-header : tie.After-judge-header = c .before .before .before in
+    let bytes = now (s .args .bytes) in
     let r = c .before .refusal .given in
     sym (ap (openedBy (countOf bytes))
     (refusal-told (judge (headerChecks bytes)) (r .0 .0)
-    (sym (c .before .before .before .judge-header .ensures) ∙ r .1)))
+    (sym (after-judge-header .judge-header .ensures) ∙ r .1)))
 
 returns-2 : tie.Need-returns-2
 returns-2 c =
-    let bytes = now (c .before .before .before .before .before .args .bytes) in
+    let s = start (c .before) in
+    let bytes = now (s .args .bytes) in
     let read = header-read bytes (c .header-at .result) (c .header-at .ensures) in
     ap Accepted (read .count) ∙ sym (ap (openedBy (countOf bytes)) (passed (c .before)))
 

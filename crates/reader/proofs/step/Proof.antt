@@ -41,13 +41,19 @@ refusedAt place r = record { answer = Read.Refused r; place = place }
 -- Past opening.
 module _ (c : tie.After-known-told2) where
   abbrev bytes : List ℕ
-  bytes = now (c .before .before .before .before .before .args .bytes)
+  bytes =
+      let s : tie.Start = c .before .before .before .before .before in
+      now (s .args .bytes)
 
   abbrev place : ℕ
-  place = c .before .before .before .before .before .args .place
+  place =
+      let s : tie.Start = c .before .before .before .before .before in
+      s .args .place
 
   opened : OpenFine bytes (c .before .count .given .0 .0)
-  opened = open-accepted bytes _ (sym (c .before .before .before .open .ensures) ∙ c .before .count .given .1)
+  opened =
+      let after-open : tie.After-open = c .before .before .before in
+      open-accepted bytes _ (sym (after-open .open .ensures) ∙ c .before .count .given .1)
 
 returns : tie.Need-returns
 returns c =
@@ -102,23 +108,27 @@ returns-2 c =
     (tested read ∙ ne-eqb (read .bad-field .result) 0 (t .if2 .taken)))
 
 add-t14 : tie.Need-add-t14
-add-t14 c = record { fits = omega (arith, below (c .before .before .before), opened (there (c .before)) .header .few) }
+add-t14 c =
+    let else1 : tie.Else1 = c .before .before .before in
+    record { fits = omega (arith, below else1, opened (there (c .before)) .header .few) }
 
 returns-3 : tie.Need-returns-3
 returns-3 c =
     let t = c .before in
-    let a = t .before .before .before .before .before in
+    let after-open : tie.After-open = t .before .before .before in
+    let a : tie.Start = t .before .before .before .before .before in
     let says : c .plainly .result ≡ plainly (t .before .number .given .0 .0) = c .plainly .ensures in
     ap (refusedAt (a .args .place)) says
     ∙ sym (open-refused (now (a .args .bytes)) (a .args .place) _
-    (sym (t .before .before .before .open .ensures) ∙ t .before .number .given .1))
+    (sym (after-open .open .ensures) ∙ t .before .number .given .1))
 
 returns-4 : tie.Need-returns-4
 returns-4 c =
+    let else1 : tie.Else1 = c .before .before .before in
     let a = there (c .before) in
     let made : Job → Moved = λ j. record { answer = Read.Job j; place = place a + 1 } in
     ap made (made-again (job (c .before)) (read (c .before)))
-    ∙ sym (step-job (bytes a) (place a) (opened a .passed) (below (c .before .before .before))
+    ∙ sym (step-job (bytes a) (place a) (opened a .passed) (below else1)
     (tested (c .before) ∙ eq-eqb (c .before .bad-field .result) 0 (c .if2 .left)))
 
 pub step-spec : {M : Type 1} → statement M

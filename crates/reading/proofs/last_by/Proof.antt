@@ -59,6 +59,9 @@ module _ (c : tie.After-after) where
   abbrev s : tie.Start
   s = c .before .before .before .before
 
+  abbrev not-early : tie.Else1
+  not-early = c .before .before .before
+
   abbrev Searched : ℤ → Type 0
   Searched limit = After (s .args .work .now) (s .args .place) (s .args .place + s .args .count) limit (c .after .result)
 
@@ -75,7 +78,7 @@ module _ (c : tie.After-after) where
 returns-2 : tie.Need-returns-2
 returns-2 c =
     let a = c .before in
-    sym (ap found (none-found (s a .pre) (late (a .before .before .before)) (searched a) (omega (arith, c .if2 .taken))))
+    sym (ap found (none-found (s a .pre) (late (not-early a)) (searched a) (omega (arith, c .if2 .taken))))
 
 sub-code : tie.Need-sub-code
 sub-code c = search needs
@@ -101,7 +104,7 @@ module _ (c : tie.After-code) where
   more = omega (arith, searched a .low)
 
   there : pos 0 ≤ℤ number
-  there = found-number (s a .pre) (late (a .before .before .before)) (searched a) more
+  there = found-number (s a .pre) (late (not-early a)) (searched a) more
 
 weight-in-requires : tie.Need-weight-in-requires
 weight-in-requires c κs = let f = fits c in omega (signed, there c)
@@ -118,7 +121,7 @@ returns-3 c =
     c .before .weight-in .ensures ∙ ap (λ (z : ℤ). pointOf z .weight) (toZ-ofZ (fits r)) in
     let time : toZ w32 (ofZ w32 (c .time-in .result)) ≡ p .time =
     toZ-ofZ t ∙ c .time-in .ensures ∙ ap (λ (z : ℤ). pointOf z .time) (toZ-ofZ (fits r)) in
-    ap₂ At weight time ∙ sym (ap found (last-found (s (a r) .pre) (late (a r .before .before .before)) (searched (a r)) (more r)))
+    ap₂ At weight time ∙ sym (ap found (last-found (s (a r) .pre) (late (not-early (a r))) (searched (a r)) (more r)))
 
 pub last-by-spec : {M : Type 1} → statement M
 last-by-spec =

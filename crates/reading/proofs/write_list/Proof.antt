@@ -58,7 +58,7 @@ cast-put-point c = omega (signed, c .weight-in .ensures)
 
 put-point-requires : tie.Need-put-point-requires Inv-loop μ-loop
 put-point-requires c κs =
-    let r = c .before .before .before in
+    let r : tie.After-code Inv-loop μ-loop = c .before .before .before in
     omega (arith, s r .pre .places, r .before .before .loop .inv .writing .size)
 
 add-k : tie.Need-add-k Inv-loop μ-loop

@@ -37,7 +37,9 @@ returns : tie.Need-returns Inv-loop μ-loop
 returns c e = absurd (true≢false (sym e))
 
 array-write-met : tie.Need-array-write-met Inv-loop μ-loop
-array-write-met c = omega (arith, c .before .shared-slice-known .given (c .before .before .before .loop .k))
+array-write-met c =
+    let head : tie.At-loop Inv-loop μ-loop = c .before .before .before in
+    omega (arith, c .before .shared-slice-known .given (head .loop .k))
 
 add-k : tie.Need-add-k Inv-loop μ-loop
 add-k c = omega arith
@@ -47,7 +49,7 @@ loop-less c = omega arith
 
 loop-again : tie.Need-loop-again Inv-loop μ-loop
 loop-again c =
-    let l = c .before .before .before in
+    let l : tie.At-loop Inv-loop μ-loop = c .before .before .before in
     let ns = now (l .before .args .numbers) in
     let k = l .loop .k in
     let met = l .loop .met in

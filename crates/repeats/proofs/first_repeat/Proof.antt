@@ -47,8 +47,8 @@ loop-less c = omega arith
 
 loop-again : tie.Need-loop-again Inv-loop μ-loop Inv-pairs μ-pairs
 loop-again c =
-    let l = c .before .before .before .before in
-    let o = l .before .before in (
+    let l : tie.At-loop Inv-loop μ-loop Inv-pairs μ-pairs = c .before .before .before .before in
+    let o : tie.At-pairs Inv-loop μ-loop Inv-pairs μ-pairs = l .before .before in (
       omega arith,
       l .loop .inv .1,
       l .loop .inv .2 ∙ alike-on (now (o .before .args .numbers)) (l .loop .earlier) (o .pairs .later) (omega arith) (c .if1 .left),
@@ -62,7 +62,7 @@ pairs-less c = omega arith
 
 pairs-again : tie.Need-pairs-again Inv-loop μ-loop Inv-pairs μ-pairs
 pairs-again c =
-    let o = c .before .before .before in
+    let o : tie.At-pairs Inv-loop μ-loop Inv-pairs μ-pairs = c .before .before .before in
     let ns = now (o .before .args .numbers) in
     let later = o .pairs .later in
     let e : c .before .loop .earlier ≡ later = omega arith in
@@ -78,8 +78,8 @@ returns c =
 
 returns-2 : tie.Need-returns-2 Inv-loop μ-loop Inv-pairs μ-pairs
 returns-2 c =
-    let l = c .before .before .before .before in
-    let o = l .before .before in
+    let l : tie.At-loop Inv-loop μ-loop Inv-pairs μ-pairs = c .before .before .before .before in
+    let o : tie.At-pairs Inv-loop μ-loop Inv-pairs μ-pairs = l .before .before in
     sym (o .pairs .inv .2
     ∙ again-here (now (o .before .args .numbers)) (l .loop .earlier) (o .pairs .later) (omega arith) (omega arith) (c .if1 .taken)
     (l .loop .inv .2))

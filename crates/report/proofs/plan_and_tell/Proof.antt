@@ -18,18 +18,19 @@ enum-known-refusal c = search needs
 
 -- What planning refused.
 told : (c : tie.After-refusal)
-    → (reportOf (c .before .before .before .before .before .before .before .before .before .args .bytes .now)
+    → let start : tie.Start = c .before .before .before .before .before .before .before .before .before in
+    (reportOf (start .args .bytes .now)
     ≡ refusalLine (c .refusal .given .0 .0)) × (c .refusal .given .0 .0 .place ≤ mostJobs)
 told c =
-    let planned = c .before .before .before .before in
-    let s = planned .before .before .before .before .before in
+    let planned : tie.After-plan = c .before .before .before .before in
+    let s : tie.Start = planned .before .before .before .before .before in
     let r = c .refusal .given in
     refusal-told (s .args .bytes .now) (s .args .starts .now) (s .args .work .now) (s .args .out .now) (s .pre)
     (r .0 .0) (sym (r .1) ∙ planned .plan .ensures .answer)
 
 put-refusal-requires : tie.Need-put-refusal-requires
 put-refusal-requires c κs =
-    let s = c .before .before .before .before .before .before .before .before .before .before .before in
+    let s : tie.Start = c .before .before .before .before .before .before .before .before .before .before .before in
     record { early = told (c .before .before) .1; room = record { fits = omega (arith, s .pre .room) } }
 
 enum-known-figures : tie.Need-enum-known-figures
@@ -37,9 +38,9 @@ enum-known-figures c = search needs
 
 tell-plan-requires : tie.Need-tell-plan-requires
 tell-plan-requires c κs =
-    let made = c .before .before .before in
-    let planned = made .before .before .before .before in
-    let s = planned .before .before .before .before .before in
+    let made : tie.After-figures = c .before .before .before in
+    let planned : tie.After-plan = made .before .before .before .before in
+    let s : tie.Start = planned .before .before .before .before .before in
     let r = made .figures .given in
     plan-tellable (s .args .bytes .now) (s .args .starts .now) (s .args .work .now) (s .args .out .now) (s .pre)
     (r .0 .0) (planned .plan .last .1 .0) (sym (r .1) ∙ planned .plan .ensures .answer) (planned .plan .ensures .written)
@@ -55,7 +56,7 @@ same-length-3 c = search needs
 
 returns : tie.Need-returns
 returns c =
-    let refused = c .before .before .before .before .before in
+    let refused : tie.After-refusal = c .before .before .before .before .before in
     rw (told refused .0) (c .before .before .put-refusal .ensures)
 
 same-length-4 : tie.Need-same-length-4

@@ -23,9 +23,9 @@ same-length c = search needs
 returns : tie.Need-returns
 unfolding jobLine
 returns c =
-    let end = c .before .before in
-    let start = end .before .before .before .before in
-    let number = start .before .before .before .before in
+    let end : tie.After-put-byte = c .before .before in
+    let start : tie.After-put-start = end .before .before .before .before in
+    let number : tie.After-put-figure = start .before .before .before .before in
     let fits = number .before .before .before .fits .start in
     let both = wrote-more (number .put-figure .ensures .0) (rw (toZ-ofZ fits) at (start .put-start .ensures .0)) in
     (simp append-assoc at (wrote-more both (end .put-byte .ensures)), search needs)

@@ -27,6 +27,10 @@ Inv-loop out₀ at bytes n starts next₀ i₀ out next i =
 abbrev μ-loop : tie.MeasureT-loop
 μ-loop out₀ at bytes n starts next₀ i₀ out next i = n - i
 
+-- Where the code starts.
+abbrev begun : tie.In-loop Inv-loop μ-loop → tie.Start Inv-loop μ-loop
+begun c = c .before .before .before .before
+
 -- There are at most 48 jobs.
 few : (s : tie.Start Inv-loop μ-loop) → s .args .n ≤ 48
 few s = omega (arith, s .pre .count, s .pre .order .header .few)
@@ -37,21 +41,29 @@ loop-holds c =
     (omega arith, omega arith, rw (listed-none (s .args .bytes .now) (s .args .starts .now)) (wrote-none (omega arith)))
 
 mul-job-at : tie.Need-mul-job-at Inv-loop μ-loop
-mul-job-at c = omega (arith, few (c .before .before .before .before))
+mul-job-at c =
+    let s = begun c in
+    omega (arith, few s)
 
 add-job-at : tie.Need-add-job-at Inv-loop μ-loop
-add-job-at c = omega (arith, few (c .before .before .before .before))
+add-job-at c =
+    let s = begun c in
+    omega (arith, few s)
 
 job-at-requires : tie.Need-job-at-requires Inv-loop μ-loop
 job-at-requires c κs =
-    let s = c .before .before .before .before in
+    let s = begun c in
     omega (arith, s .pre .order .header .whole, s .pre .count)
 
 mul-start : tie.Need-mul-start Inv-loop μ-loop
-mul-start c = omega (arith, few (c .before .before .before .before .before .before))
+mul-start c =
+    let s = begun (c .before .before) in
+    omega (arith, few s)
 
 shared-slice-copy-out-start : tie.Need-shared-slice-copy-out-start Inv-loop μ-loop
-shared-slice-copy-out-start c = omega (arith, c .before .before .before .before .before .before .pre .places)
+shared-slice-copy-out-start c =
+    let s = begun (c .before .before) in
+    omega (arith, s .pre .places)
 
 -- The number that was read at the place can be handed on, and is the job's.
 module _ (c : tie.After-job-at Inv-loop μ-loop) where
@@ -77,23 +89,28 @@ module _ (c : tie.After-job-at Inv-loop μ-loop) where
   number-there = number-is bytes (entry .pre .order) place below (c .job-at .result) (c .job-at .ensures)
 
 cast-put-job : tie.Need-cast-put-job Inv-loop μ-loop
-cast-put-job c = casts (c .before .before .before)
+cast-put-job c =
+    let after-job-at : tie.After-job-at Inv-loop μ-loop = c .before .before .before in
+    casts after-job-at
 
 put-job-requires : tie.Need-put-job-requires Inv-loop μ-loop
 put-job-requires c κs =
-    let loop = c .before .before .before .before .before in
-    record { fits = omega (arith, entry (c .before .before .before) .pre .room, loop .loop .inv .2 .kept) }
+    let after-job-at : tie.After-job-at Inv-loop μ-loop = c .before .before .before in
+    let loop : tie.At-loop Inv-loop μ-loop = c .before .before .before .before .before in
+    record { fits = omega (arith, entry after-job-at .pre .room, loop .loop .inv .2 .kept) }
 
 add-i : tie.Need-add-i Inv-loop μ-loop
-add-i c = omega (arith, few (entry (c .before .before .before .before .before .before)))
+add-i c =
+    let after-job-at : tie.After-job-at Inv-loop μ-loop = c .before .before .before .before .before .before in
+    omega (arith, few (entry after-job-at))
 
 loop-less : tie.Need-loop-less Inv-loop μ-loop
 loop-less c = omega arith
 
 loop-again : tie.Need-loop-again Inv-loop μ-loop
 loop-again c =
-    let put = c .before .before in
-    let read = put .before .before .before .before in
+    let put : tie.After-put-job Inv-loop μ-loop = c .before .before in
+    let read : tie.After-job-at Inv-loop μ-loop = put .before .before .before .before in
     let loop = read .before .before .loop in
     let starts = entry read .args .starts .now in
     let room : place read < length starts = omega (arith, entry read .pre .places) in
@@ -107,7 +124,8 @@ same-length c = c .before .loop .inv .2 .kept
 
 returns : tie.Need-returns Inv-loop μ-loop
 returns c =
-    let all : c .before .loop .i ≡ c .before .before .before .before .args .n = omega (arith, c .before .loop .inv .0) in
+    let s : tie.Start Inv-loop μ-loop = c .before .before .before .before in
+    let all : c .before .loop .i ≡ s .args .n = omega (arith, c .before .loop .inv .0) in
     rw all at (c .before .loop .inv .2)
 
 pub put-jobs-spec : {M : Type 1} → statement M

@@ -22,9 +22,9 @@ same-length c = search needs
 returns : tie.Need-returns
 unfolding keptWords
 returns c =
-    let lost = c .before .before in
-    let weight = lost .before .before .before .before in
-    let kept = weight .before .before .before .before in (
+    let lost : tie.After-put-figure3 = c .before .before in
+    let weight : tie.After-put-figure2 = lost .before .before .before .before in
+    let kept : tie.After-put-figure = weight .before .before .before .before in (
       simp append-assoc at
           (wrote-more (wrote-more (kept .put-figure .ensures .0) (weight .put-figure2 .ensures .0)) (lost .put-figure3 .ensures .0)),
       search needs,

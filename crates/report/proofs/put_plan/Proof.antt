@@ -28,12 +28,12 @@ same-length c = search needs
 
 returns : tie.Need-returns
 returns c =
-    let points = c .before .before in
-    let gap = points .before .before .before .before in
-    let finish = gap .before .before .before .before in
-    let kept = finish .before .before .before .before .before in
-    let front = kept .before .before .before .before in
-    let start = front .before .before .before in
+    let points : tie.After-put-figure = c .before .before in
+    let gap : tie.After-put-byte = points .before .before .before .before in
+    let finish : tie.After-put-number = gap .before .before .before .before in
+    let kept : tie.After-put-kept = finish .before .before .before .before .before in
+    let front : tie.After-put-front = kept .before .before .before .before in
+    let start : tie.Start = front .before .before .before in
     let fits : SFits w32 (start .args .figures .finish) =
     record { sfits = finish .before .struct-told .given .1 .1 .1 .1 .0 .1 } in
     let first = wrote-more (front .put-front .ensures .0) (kept .put-kept .ensures .0) in

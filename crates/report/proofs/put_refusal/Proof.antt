@@ -20,8 +20,8 @@ same-length c = search needs
 
 returns : tie.Need-returns
 returns c =
-    let front = c .before .before .before .before .before .before in
-    let s = front .before .before .before .before in
+    let front : tie.After-put-front = c .before .before .before .before .before .before in
+    let s : tie.Start = front .before .before .before .before in
     rw (refusal-line (s .args .refusal)) (wrote-more (front .put-front .ensures .0) (c .before .before .put-figure .ensures .0))
 
 pub put-refusal-spec : {M : Type 1} → statement M

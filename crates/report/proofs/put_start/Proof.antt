@@ -19,7 +19,7 @@ same-length c = search needs
 
 returns : tie.Need-returns
 returns c =
-    let branch = c .before .before .before .before in
+    let branch : tie.Then1 = c .before .before .before .before in
     let left-out = same-bits {y = leftOut} (branch .before .before .fits .start) (omega signed) (branch .if1 .taken) in
     rw (word-left-out left-out) (c .before .before .put-byte .ensures, search needs)
 
@@ -31,8 +31,8 @@ same-length-2 c = search needs
 
 returns-2 : tie.Need-returns-2
 returns-2 c =
-    let branch = c .before .before .before .before in
-    let start = branch .before .before in
+    let branch : tie.Else1 = c .before .before .before .before in
+    let start : tie.Start = branch .before .before in
     let put = c .before .before .put-number in
     rw (word-kept (λ e. branch .if1 .left (ap (ofZ w32) e)))
     (wrote-number (start .fits .start) (put .ensures .0), put .ensures .1)

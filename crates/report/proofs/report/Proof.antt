@@ -7,7 +7,7 @@ use Rattle.report.proofs.report.Tie as tie
 
 returns : tie.Need-returns
 returns c =
-    let s = c .before .before .before in
+    let s : tie.Start = c .before .before .before in
     nothing-reported (s .args .bytes .now) (s .args .out .now) (c .if1 .taken)
 
 slice-aggregate-plan-and-tell : tie.Need-slice-aggregate-plan-and-tell
@@ -24,9 +24,10 @@ same-length c = search needs
 
 returns-2 : tie.Need-returns-2
 returns-2 c =
-    let told = c .before .before .before .before in
-    let s = told .before .before .before .before .before .before .before in
-    text-reported (s .args .bytes .now) (s .args .out .now) (told .before .before .before .before .if1 .left)
+    let told : tie.After-plan-and-tell = c .before .before .before .before in
+    let else1 : tie.Else1 = told .before .before .before .before in
+    let s : tie.Start = told .before .before .before .before .before .before .before in
+    text-reported (s .args .bytes .now) (s .args .out .now) (else1 .if1 .left)
     (told .plan-and-tell .ensures)
 
 pub report-spec : {M : Type 1} → statement M

@@ -26,7 +26,7 @@ put-plan-requires c κs = search needs
 
 put-jobs-requires : tie.Need-put-jobs-requires
 put-jobs-requires c κs =
-    let head = c .before .before .before .before .before in
+    let head : tie.After-header-at = c .before .before .before .before .before in
     let line = c .before .before .before .put-plan in
     let pre = entry head .pre in
     record {
@@ -41,11 +41,12 @@ same-length c = search needs
 
 returns : tie.Need-returns
 returns c =
-    let jobs = c .before .before in
-    let head = jobs .before .before .before .before .before .before in
+    let jobs : tie.After-put-jobs = c .before .before in
+    let after-put-plan : tie.After-put-plan = jobs .before .before .before .before in
+    let head : tie.After-header-at = jobs .before .before .before .before .before .before in
     let s = entry head in
     rw (plan-told (s .args .bytes .now) (s .args .figures) (s .args .starts .now) (s .args .out .now) (s .pre), ← counted head)
-    (wrote-more (jobs .before .before .before .before .put-plan .ensures .0) (jobs .put-jobs .ensures))
+    (wrote-more (after-put-plan .put-plan .ensures .0) (jobs .put-jobs .ensures))
 
 pub tell-plan-spec : {M : Type 1} → statement M
 tell-plan-spec =

@@ -72,7 +72,7 @@ rested-requires c κs = rw (end-back (c .before .before)) (turn (c .before .befo
 
 returns-2 : tie.Need-returns-2
 returns-2 c =
-    let called = c .before .before .before in
+    let called : tie.After-greater = c .before .before .before in
     let free : toZ w32 (ofZ w32 (c .rested .result)) ≡ end called +ℤ pos rest =
     toZ-ofZ (record { sfits = c .rested .ok }) ∙ c .rested .ensures ∙ ap (λ (z : ℤ). z +ℤ pos rest) (end-back called) in
     rw (start-is called, free) (sym (turn called .1))

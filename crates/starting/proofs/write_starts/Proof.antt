@@ -23,6 +23,10 @@ Inv-loop bytes n t0 mask starts₀ free₀ left₀ i₀ starts free left i =
 abbrev μ-loop : tie.MeasureT-loop
 μ-loop bytes n t0 mask starts₀ free₀ left₀ i₀ starts free left i = n - i
 
+-- Where the code starts.
+abbrev begun : tie.In-loop Inv-loop μ-loop → tie.Start Inv-loop μ-loop
+begun c = c .before .before .before
+
 -- The bus-free time as the code reads it back from its bits, and as many jobs as the header says, at most 48.
 module _ (s : tie.Start Inv-loop μ-loop) where
   abbrev bytes : List ℕ
@@ -42,14 +46,18 @@ loop-holds c =
     (s .fits .mask .fits) (s .pre .may))
 
 mul-job-at : tie.Need-mul-job-at Inv-loop μ-loop
-mul-job-at c = omega (arith, few (c .before .before .before))
+mul-job-at c =
+    let s = begun c in
+    omega (arith, few s)
 
 add-job-at : tie.Need-add-job-at Inv-loop μ-loop
-add-job-at c = omega (arith, few (c .before .before .before))
+add-job-at c =
+    let s = begun c in
+    omega (arith, few s)
 
 job-at-requires : tie.Need-job-at-requires Inv-loop μ-loop
 job-at-requires c κs =
-    let s = c .before .before .before in
+    let s = begun c in
     omega (arith, s .pre .order .header .whole, s .pre .count)
 
 -- The turn of the job at the place.
@@ -83,24 +91,27 @@ mul-left c =
     record { fits = left-fits (l .left) (l .inv .fits) }
 
 add-i : tie.Need-add-i Inv-loop μ-loop
-add-i c = omega (arith, few (entry (c .before .before .before)))
+add-i c =
+    let after-job-at : tie.After-job-at Inv-loop μ-loop = c .before .before .before in
+    omega (arith, few (entry after-job-at))
 
 loop-less : tie.Need-loop-less Inv-loop μ-loop
 loop-less c = omega arith
 
 loop-again : tie.Need-loop-again Inv-loop μ-loop
 loop-again c =
+    let after-job-at : tie.After-job-at Inv-loop μ-loop = c .before .before .before in
     let taken = c .before .before .take-turn in
     let told = c .before .struct-told .given in
     rw (read-back (taken .result .start) (told .0 .1), read-back (taken .result .free) (told .1 .0 .1))
-    (turn (c .before .before .before) .keeps (taken .result) (taken .ensures))
+    (turn after-job-at .keeps (taken .result) (taken .ensures))
 
 same-length : tie.Need-same-length Inv-loop μ-loop
 same-length c = c .before .loop .inv .size
 
 returns : tie.Need-returns Inv-loop μ-loop
 returns c =
-    let s = c .before .before .before in
+    let s : tie.Start Inv-loop μ-loop = c .before .before .before in
     let l = c .before .loop in
     let all : l .i ≡ s .args .n = omega (arith, l .inv .few) in
     let count : length (jobsIn (bytes s)) ≡ s .args .n = omega (arith, jobs-count (bytes s), s .pre .count) in

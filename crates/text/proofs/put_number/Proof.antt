@@ -16,6 +16,10 @@ use Rattle.text.specs.BufferLaws.{wrote-more}
 use Rattle.text.proofs.put_number.Statement.{statement}
 use Rattle.text.proofs.put_number.Tie as tie
 
+-- Where the code starts.
+abbrev start : tie.After-without-sign → tie.Start
+start c = c .before .before
+
 without-sign-requires : tie.Need-without-sign-requires
 without-sign-requires c κs = search needs
 
@@ -27,14 +31,18 @@ size-is : (c : tie.After-without-sign) → natAbs (c .before .before .args .valu
 size-is c = sym (c .without-sign .ensures ∙ ap natAbs (value-is (c .before .before)))
 
 -- The text of the value, on each side of the test.
-text-below : (c : tie.Then1) → figure (c .before .before .before .args .value) ≡ minus ∷ digits (c .before .without-sign .result)
+text-below : (c : tie.Then1) → let s = start (c .before) in
+    figure (s .args .value) ≡ minus ∷ digits (c .before .without-sign .result)
 text-below c =
-    figure-below (c .before .before .before .args .value) (omega (signed, value-is (c .before .before .before)))
+    let s = start (c .before) in
+    figure-below (s .args .value) (omega (signed, value-is s))
     ∙ ap (λ (n : ℕ). minus ∷ digits n) (size-is (c .before))
 
-text-above : (c : tie.Else1) → figure (c .before .before .before .args .value) ≡ digits (c .before .without-sign .result)
+text-above : (c : tie.Else1) → let s = start (c .before) in
+    figure (s .args .value) ≡ digits (c .before .without-sign .result)
 text-above c =
-    figure-above (c .before .before .before .args .value) (omega (signed, value-is (c .before .before .before)))
+    let s = start (c .before) in
+    figure-above (s .args .value) (omega (signed, value-is s))
     ∙ ap digits (size-is (c .before))
 
 put-byte-requires : tie.Need-put-byte-requires
@@ -48,8 +56,9 @@ same-length c = search needs
 
 returns : tie.Need-returns
 returns c =
+    let then1 : tie.Then1 = c .before .before .before .before .before .before .before .before in
     let sign = c .before .before .before .before .before .before .put-byte in
-    rw (text-below (c .before .before .before .before .before .before .before .before))
+    rw (text-below then1)
     (wrote-more (sign .ensures) (c .before .before .put-count .ensures .0), omega (arith, sign .ensures .behind))
 
 put-count-requires-2 : tie.Need-put-count-requires-2
@@ -60,7 +69,8 @@ same-length-2 c = search needs
 
 returns-2 : tie.Need-returns-2
 returns-2 c =
-    rw (text-above (c .before .before .before .before)) (c .before .before .put-count2 .ensures .0, omega arith)
+    let else1 : tie.Else1 = c .before .before .before .before in
+    rw (text-above else1) (c .before .before .put-count2 .ensures .0, omega arith)
 
 pub put-number-spec : {M : Type 1} → statement M
 put-number-spec =

@@ -28,10 +28,10 @@ to-first-requires : tie.Need-to-first-requires
 to-first-requires c κs = search needs
 
 -- What the tie says.
-said : (c : tie.After-to-first) → let s = c .before .before .before in
+said : (c : tie.After-to-first) → let s : tie.Start = c .before .before .before in
     c .to-first .result ≡ ruleOf (s .args .tie) (s .args .time) (s .args .since)
 said c =
-    let s = c .before .before .before in
+    let s : tie.Start = c .before .before .before in
     rw (toZ-ofZ (s .fits .time), toZ-ofZ (s .fits .since)) at (c .to-first .ensures)
 
 returns-3 : tie.Need-returns-3

@@ -41,7 +41,9 @@ kept c =
     ap length (c .loop .inv .1) ∙ written-length (a .args .bytes .now) (a .args .numbers .now) (c .loop .k) room
 
 put-numbers-requires : tie.Need-put-numbers-requires Inv-loop μ-loop
-put-numbers-requires c κs = omega (arith, kept (c .before .before .before))
+put-numbers-requires c κs =
+    let head : tie.At-loop Inv-loop μ-loop = c .before .before .before in
+    omega (arith, kept head)
 
 add-k : tie.Need-add-k Inv-loop μ-loop
 add-k c = omega arith
@@ -51,7 +53,7 @@ loop-less c = omega arith
 
 loop-again : tie.Need-loop-again Inv-loop μ-loop
 loop-again c =
-    let l = c .before .before .before .before .before in
+    let l : tie.At-loop Inv-loop μ-loop = c .before .before .before .before .before in
     let a = l .before .before .args in
     let k : ℕ = l .loop .k in
     let j = c .before .before .before .job-at in
