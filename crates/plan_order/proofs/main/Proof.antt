@@ -32,15 +32,18 @@ array-share-prefix-out c = search needs
 
 slice-aggregate-write-2 : tie.Need-slice-aggregate-write-2
 slice-aggregate-write-2 c =
-    let told = c .before .before .before .report-read in
+    let behind : tie.After-report-read = c .before .before .before in
+    let told = behind .report-read in
     omega
     (arith, length-take-le (told .result) (told .last .1 .1 .0) (omega (arith, told .ensures .within, told .kept .1 .1 .0)))
 
 -- The text's length is said of the bytes read too, so that a report of other bytes is refused by what differs.
 write-requires : tie.Need-write-requires
 write-requires c κs =
-    let told = c .before .before .before .report-read in
-    let read = c .before .before .before .before .before .before .before .read in
+    let behind : tie.After-report-read = c .before .before .before in
+    let first : tie.After-read = behind .before .before .before .before in
+    let told = behind .report-read in
+    let read = first .read in
     let bytes = take (read .result) (read .last .0) in
     let count : told .result ≡ length (printed bytes _) = told .ensures .count in
     let text : take (told .result) (told .last .1 .1 .0) ≡ reportOf bytes =
