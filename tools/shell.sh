@@ -5,6 +5,9 @@
 # A line for each case; ends with 0 if every one is as it should be.
 # shellcheck disable=SC2016,SC2034
 set -u
+
+# A signal that is shut out of us, as nohup does, would be shut out of all that we start, and some cases are about signals.
+[ -n "${SIGNALS_HEARD-}" ] || SIGNALS_HEARD=yes exec env --default-signal=HUP,INT,TERM "$0" "$@"
 cd "$(dirname "$0")/.." || exit 1
 root=$(pwd -P)
 room=$(mktemp -d) || exit 1
