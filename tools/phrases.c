@@ -1,7 +1,8 @@
 /* Holds the header's words to include/phrases.txt, which comes on standard input: each line of a refusal is what
- * leafanchor_phrase says, and behind its bar what leafanchor_tell says for every place of an order and every field;
- * each line of a field is what leafanchor_field_name says. None is missing, and LEAFANCHOR_PHRASE_ROOM is enough for
- * each text. Says which line differs. Compiles as C11 and as C++17. */
+ * leafanchor_phrase says, behind its bar what leafanchor_tell says for every place of an order and every field, and
+ * behind a second bar what it says for every field without a place; each line of a field is what leafanchor_field_name
+ * says. None is missing, and LEAFANCHOR_PHRASE_ROOM is enough for each text. Says which line differs. Compiles as C11
+ * and as C++17. */
 #include "leafanchor.h"
 
 #include <stdio.h>
@@ -47,21 +48,32 @@ static void told(const char *phrase, uint32_t refusal, size_t place, uint32_t fi
     check(strcmp(leafanchor_tell(refusal, place, field, out, sizeof out), wanted) == 0, out);
 }
 
-/* One refusal: its phrase, and the one behind the bar where there is one, in every place. */
+/* What stands behind the next bar of a line, which ends there; NULL where there is none. */
+static char *behind_bar(char *phrase)
+{
+    char *bar = phrase == NULL ? NULL : strstr(phrase, " | ");
+    if (bar == NULL) {
+        return NULL;
+    }
+    *bar = '\0';
+    return bar + strlen(" | ");
+}
+
+/* One refusal: its phrase; the one behind the bar where there is one, in every place; and the one behind a second bar. */
 static void hold_refusal(uint32_t refusal, char *phrase)
 {
-    char *bar = strstr(phrase, " | ");
-    const uint32_t first = refusal == LEAFANCHOR_JOB_OUT_OF_RANGE ? LEAFANCHOR_FIELD_NUMBER : LEAFANCHOR_NO_FIELD;
-    const uint32_t last = refusal == LEAFANCHOR_JOB_OUT_OF_RANGE ? LEAFANCHOR_FIELD_DEADLINE : LEAFANCHOR_NO_FIELD;
-    if (bar != NULL) {
-        *bar = '\0';
-    }
+    char *placed = behind_bar(phrase), *named = behind_bar(placed);
+    const int of_field = named != NULL;
+    const uint32_t first = of_field ? LEAFANCHOR_FIELD_NUMBER : LEAFANCHOR_NO_FIELD;
+    const uint32_t last = of_field ? LEAFANCHOR_FIELD_DEADLINE : LEAFANCHOR_NO_FIELD;
+    check(of_field == (refusal == LEAFANCHOR_JOB_OUT_OF_RANGE), phrase);
     want(phrase, 0, 0);
     check(strcmp(leafanchor_phrase(refusal), wanted) == 0, leafanchor_phrase(refusal));
     told(phrase, refusal, LEAFANCHOR_NO_PLACE, LEAFANCHOR_NO_FIELD);
-    for (size_t place = 0; place < LEAFANCHOR_MOST_JOBS; place++) {
-        for (uint32_t field = first; field <= last; field++) {
-            told(bar != NULL ? bar + strlen(" | ") : phrase, refusal, place, field);
+    for (uint32_t field = first; field <= last; field++) {
+        told(of_field ? named : phrase, refusal, LEAFANCHOR_NO_PLACE, field);
+        for (size_t place = 0; place < LEAFANCHOR_MOST_JOBS; place++) {
+            told(placed != NULL ? placed : phrase, refusal, place, field);
         }
     }
 }

@@ -1,4 +1,4 @@
-//! Which field of a job is out of range (R24).
+//! Which field of a job is out of range (R36).
 
 use core::fmt;
 
@@ -50,6 +50,11 @@ macro_rules! fields {
                     $($figure => Field::$name,)*
                     _ => Field::Other { figure },
                 }
+            }
+
+            /// Whether this version of the crate has a name for it.
+            pub(crate) const fn has_name(self) -> bool {
+                !matches!(self, Field::Other { .. })
             }
         }
 

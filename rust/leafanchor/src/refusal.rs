@@ -4,11 +4,12 @@ use crate::field::Field;
 use core::fmt;
 
 /// Declares every refusal once, in the words of include/phrases.txt: its number, its name, the place where it is about
-/// one job and the field where it is about one of that job's, a phrase for a person, and one that tells the place.
+/// one job and the field where it is about one of that job's, a phrase for a person, one that tells the place, and one
+/// that tells the field alone.
 macro_rules! refusals {
     ($(
         $number:literal $name:ident $({ $place:ident $(, $field:ident)? })?
-        $phrase:literal $(| $told:literal)?,
+        $phrase:literal $(| $told:literal $(| $named:literal)?)?,
     )*) => {
         /// Why a call refused. Where several reasons apply, the one of the lowest number is given, but for 13,
         /// 14 and 15, which come after 9 and before 10.
@@ -99,7 +100,12 @@ macro_rules! refusals {
             fn fmt(&self, f: &mut fmt::Formatter<'_>) -> fmt::Result {
                 match self {
                     $(
-                        $(Refusal::$name { $place: Some($place), $($field,)? .. } => write!(f, $told),)?
+                        $(
+                            Refusal::$name { $place: Some($place), $($field,)? .. } $(if $field.has_name())? => {
+                                write!(f, $told)
+                            }
+                            $(Refusal::$name { $field, .. } if $field.has_name() => write!(f, $named),)?
+                        )?
                         Refusal::$name { .. } => f.write_str($phrase),
                     )*
                     Refusal::Other { number, .. } => write!(f, "refusal {number}, unknown to this version"),
@@ -116,7 +122,7 @@ refusals! {
     4 WrongLength "the length does not fit the number of jobs",
     5 BusFreeOutOfRange "the bus-free time is out of range",
     6 JobOutOfRange { place, field }
-        "a job's field is out of range" | "job at place {place}: {field} out of range",
+        "a job's field is out of range" | "job at place {place}: {field} out of range" | "{field} out of range",
     7 NumberRepeated { place }
         "a job's number stood earlier" | "job at place {place}: its number stood earlier",
     8 ProfileNotValid "a given profile is not valid",
@@ -194,10 +200,17 @@ mod phrases {
     #[test]
     fn every_refusal_says_the_words_of_the_list() {
         for (number, words) in lines("") {
-            let (plain, told) = words.split_once(" | ").unwrap_or((words, words));
-            let told = told.replace("{place}", "40").replace("{field}", "ready time");
-            assert_eq!(Refusal::check(number, Some(40), 4).unwrap_err().to_string(), told);
-            assert_eq!(Refusal::check(number, None, 4).unwrap_err().to_string(), plain);
+            let forms: Vec<_> = words.split(" | ").collect();
+            let says = |place, field, form| {
+                let words = *forms.get(form).unwrap_or(&forms[0]);
+                let words = words.replace("{place}", "40").replace("{field}", "ready time");
+                assert_eq!(Refusal::check(number, place, field).unwrap_err().to_string(), words);
+            };
+            says(Some(40), 4, 1);
+            says(None, 4, 2);
+            // Of a field that has no name nothing is told, and nor is its place.
+            says(Some(40), 99, if number == 6 { 0 } else { 1 });
+            says(None, 99, 0);
         }
         let beyond = Refusal::check(99, Some(0), 0).unwrap_err();
         assert_eq!(beyond.to_string(), "refusal 99, unknown to this version");

@@ -278,5 +278,5 @@ fn a_plain_call_on_two_openings_tells_a_field_and_no_place() {
     bad[4 + 8 + 4] = 0; // and its length is 0
     let refusal = ask(&bad).unwrap_err();
     assert_eq!((refusal.place(), refusal.field()), (None, Some(Field::Length)));
-    assert_eq!(refusal.to_string(), "a job's field is out of range");
+    assert_eq!(refusal.to_string(), "length out of range");
 }
