@@ -100,6 +100,11 @@ pub mod calls {
     };
 }
 
+/// The README's program, which the tests of the documentation run.
+#[cfg(doctest)]
+#[doc = include_str!("../../../README.md")]
+pub struct Readme;
+
 /// Jobs of one order, at most.
 pub const MOST_JOBS: usize = 48;
 /// Bytes of a packed order's header.
