@@ -10,7 +10,8 @@
  * place over the packed bytes. A choice says which jobs are kept; it is feasible if all critical ones are and every
  * deadline is met. A plan is a choice and the start of each job kept. A point is a bus-free time and the weight that
  * can be kept by then; a profile is a list of points, both figures rising (R11). An opening is an order that the
- * hangar may pick for the front of a morning; the tail is the order behind it.
+ * hangar may pick for the front of a morning; the tail is the order behind it. A repeating job comes again with every
+ * period; the frame of repeating jobs is the time after which all of them begin anew (R42).
  *
  * Machines. The library is for x86-64, where it is called by the System V convention, and for aarch64; where pointers
  * or size_t do not have 64 bits, or a number's greater byte comes first, this header stops with one sentence. Of the
@@ -18,9 +19,9 @@
  *
  * What the caller owes, and no call checks: a pointer is never null, also where its length is 0; it points to as many
  * elements as the length beside it says; it is aligned as C aligns its type, which is to 4 bytes for int32_t,
- * leafanchor_job and leafanchor_point, to 8 for leafanchor_profile, to 1 for bytes; a buffer that a call writes
- * overlaps no other buffer of that call, but for profiles where a call says so. Beyond that a call takes any numbers
- * and any bytes and ends with an answer.
+ * leafanchor_job, leafanchor_repeating and leafanchor_point, to 8 for leafanchor_profile, to 1 for bytes; a buffer that
+ * a call writes overlaps no other buffer of that call, but for profiles where a call says so. Beyond that a call takes
+ * any numbers and any bytes and ends with an answer.
  *
  * Lengths count elements: bytes of an order or a plan, numbers of a list, records of a list of points. A buffer may
  * be longer than a call needs; what lies past the part needed stays as it was.
@@ -31,9 +32,9 @@
  * call takes LEAFANCHOR_STACK bytes of stack at most, as measured (docs/SPEED.md).
  *
  * A refused call says why by a number (leafanchor_refusal). Of several the lowest is given, but for 13, 14 and 15,
- * which come after 9 and before 10; those of a second opening, 1 to 9, come after all of the first's (R25). In a
- * refused answer every figure is 0 but the refusal, the place for 6, 7 and 13, the field for 6, and where a reader
- * stands (R26).
+ * which come after 9 and before 10; those of a second opening, 1 to 9, come after all of the first's; for a frame 16
+ * and 17 come behind 3 and 4 of the numbers given, before 3 and 9 of the order made (R25). In a refused answer every
+ * figure is 0 but the refusal, the place for 6, 7, 13 and 16, the field for 6, and where a reader stands (R26).
  *
  * The work area is room that a call is lent for its search. It may hold anything before; its first
  * LEAFANCHOR_WORK_AREA numbers are 0 after every call that has one and passes refusal 10, refused with 11 or not
@@ -62,7 +63,7 @@ extern "C" {
  * one rises then. */
 #define LEAFANCHOR_VERSION_MAJOR 0
 /** The version's second figure: it rises when something is added. */
-#define LEAFANCHOR_VERSION_MINOR 7
+#define LEAFANCHOR_VERSION_MINOR 8
 /** The version's third figure: it rises when something is mended or made smaller. */
 #define LEAFANCHOR_VERSION_PATCH 0
 /** The version as text, "MAJOR.MINOR.PATCH". */
@@ -103,6 +104,9 @@ extern "C" {
 #define LEAFANCHOR_HIGHEST_HALF 31       /**< the highest number of a critical half */
 #define LEAFANCHOR_HALVES_APART 32       /**< an optional half's number less that of its critical half */
 #define LEAFANCHOR_SECONDS_PER_WEIGHT 60 /**< seconds that an optional half takes for each weight */
+#define LEAFANCHOR_MOST_REPEATING 16     /**< repeating jobs of one frame, at most */
+#define LEAFANCHOR_REPEATING_NUMBERS 96  /**< numbers of so many, six a job */
+#define LEAFANCHOR_LONGEST_FRAME 86400   /**< seconds of the longest frame, and of the longest period */
 #define LEAFANCHOR_STACK 8192            /**< bytes of stack that a call takes at most, those of this header too */
 #define LEAFANCHOR_PHRASE_ROOM 64        /**< bytes that the longest text of leafanchor_tell takes, its end included */
 #define LEAFANCHOR_NO_PLACE ((size_t)-1) /**< tells leafanchor_tell that an answer has no place */
@@ -112,8 +116,9 @@ enum leafanchor_refusal {
     LEAFANCHOR_NONE = 0,                  /**< not refused */
     LEAFANCHOR_ORDER_TOO_SHORT = 1,       /**< the packed order is under 4 bytes */
     LEAFANCHOR_SPARE_BITS = 2,            /**< the header's spare bits are not zero */
-    LEAFANCHOR_TOO_MANY_JOBS = 3,         /**< more than 48 jobs (packing: more than 288 numbers) */
-    LEAFANCHOR_WRONG_LENGTH = 4,          /**< not 4 + 8n bytes (packing: not a multiple of 6 numbers) */
+    LEAFANCHOR_TOO_MANY_JOBS = 3,         /**< more than 48 jobs (packing: more than 288 numbers; a frame: more than 96
+                                           * numbers, or more than 48 repeats) */
+    LEAFANCHOR_WRONG_LENGTH = 4,          /**< not 4 + 8n bytes (packing and a frame: not a multiple of 6 numbers) */
     LEAFANCHOR_BUS_FREE_OUT_OF_RANGE = 5, /**< the bus-free time is out of range */
     LEAFANCHOR_JOB_OUT_OF_RANGE = 6,      /**< a job's field is out of range; the place is the first such job's,
                                            * the field its first such one */
@@ -121,13 +126,16 @@ enum leafanchor_refusal {
     LEAFANCHOR_PROFILE_NOT_VALID = 8,     /**< a given profile is not valid (R11): too long, an odd length, not rising,
                                            * or a figure out of range */
     LEAFANCHOR_TOO_MUCH_WEIGHT = 9,       /**< the weights sum to more than 300 (extending: with the last weight of the
-                                           * profile) */
+                                           * profile; a frame: of all repeats) */
     LEAFANCHOR_BUFFER_TOO_SHORT = 10,     /**< a buffer is too short */
     LEAFANCHOR_NO_FEASIBLE_CHOICE = 11,   /**< no choice is feasible (choosing: neither has a point by t) */
     LEAFANCHOR_CELL_TOO_COLD = 12,        /**< the cell is below -30 degrees */
     LEAFANCHOR_NOT_OF_HALVES = 13,        /**< the order is not of halves; the place is the first offending job's */
     LEAFANCHOR_PLAN_WRONG_LENGTH = 14,    /**< the packed plan is under 6 bytes, or not as long as its mask asks for */
-    LEAFANCHOR_PLAN_STRAY_BITS = 15       /**< the packed plan has bits set beyond the order's jobs or at its end */
+    LEAFANCHOR_PLAN_STRAY_BITS = 15,      /**< the packed plan has bits set beyond the order's jobs or at its end */
+    LEAFANCHOR_REPEATING_NOT_VALID = 16,  /**< a repeating job's field is out of range, or its phase, deadline and rest
+                                           * pass its period; the place is the first such job's */
+    LEAFANCHOR_FRAME_TOO_LONG = 17        /**< the least common multiple of the periods is above 86,400 */
 };
 
 /** A refusal in words for a person, those of include/phrases.txt.
@@ -140,7 +148,7 @@ static inline const char *leafanchor_phrase(uint32_t refusal)
     case LEAFANCHOR_NONE: return "not refused";
     case LEAFANCHOR_ORDER_TOO_SHORT: return "the packed order is under 4 bytes";
     case LEAFANCHOR_SPARE_BITS: return "the header's spare bits are not zero";
-    case LEAFANCHOR_TOO_MANY_JOBS: return "there are more than 48 jobs";
+    case LEAFANCHOR_TOO_MANY_JOBS: return "there are more than 48 jobs, or more than 16 that repeat";
     case LEAFANCHOR_WRONG_LENGTH: return "the length does not fit the number of jobs";
     case LEAFANCHOR_BUS_FREE_OUT_OF_RANGE: return "the bus-free time is out of range";
     case LEAFANCHOR_JOB_OUT_OF_RANGE: return "a job's field is out of range";
@@ -153,6 +161,8 @@ static inline const char *leafanchor_phrase(uint32_t refusal)
     case LEAFANCHOR_NOT_OF_HALVES: return "the order is not of halves";
     case LEAFANCHOR_PLAN_WRONG_LENGTH: return "the length does not fit the packed plan's mask";
     case LEAFANCHOR_PLAN_STRAY_BITS: return "the packed plan has bits set that must be zero";
+    case LEAFANCHOR_REPEATING_NOT_VALID: return "a repeating job's field is out of range, or its deadline late";
+    case LEAFANCHOR_FRAME_TOO_LONG: return "the frame is longer than 86,400 seconds";
     default: return "no such refusal";
     }
 }
@@ -197,6 +207,7 @@ static inline const char *leafanchor_words_behind_place(uint32_t refusal)
     case LEAFANCHOR_JOB_OUT_OF_RANGE: return " out of range";
     case LEAFANCHOR_NUMBER_REPEATED: return "its number stood earlier";
     case LEAFANCHOR_NOT_OF_HALVES: return "it does not fit an order of halves";
+    case LEAFANCHOR_REPEATING_NOT_VALID: return "out of range, or its deadline late";
     default: return "";
     }
 }
@@ -290,6 +301,14 @@ typedef struct leafanchor_pack_answer {
     uint32_t field;   /**< of that job, for 6 */
     size_t bytes;     /**< written */
 } leafanchor_pack_answer;
+
+/** What a frame of repeating jobs gives beside its order. */
+typedef struct leafanchor_frame_answer {
+    uint32_t refusal; /**< 3, 4, 9, 10, 16, 17 or 0 */
+    size_t place;     /**< of the refused repeating job, for 16 */
+    size_t bytes;     /**< written */
+    uint32_t frame;   /**< its seconds: the least common multiple of the periods */
+} leafanchor_frame_answer;
 
 /** What a reader will meet. */
 typedef struct leafanchor_open_answer {
@@ -418,6 +437,17 @@ leafanchor_unpack_answer leafanchor_unpack(const uint8_t *order, size_t order_le
 LEAFANCHOR_MUST_USE
 leafanchor_pack_answer leafanchor_pack(int32_t t0, const int32_t *numbers, size_t numbers_len, uint8_t *order,
                                        size_t order_len);
+
+/** Packs the order of one frame of repeating jobs (R43): each at its phase and every period from there, below the
+ * frame; t0 is 0. Refusals 3, 4, 16, 17, then 3 and 9 of the order made, then 10; they write nothing.
+ * @param repeating six numbers a job: critical, weight, phase, length, deadline behind each ready time, and period
+ * @param repeating_len how many numbers, LEAFANCHOR_REPEATING_NUMBERS at most; with none the frame is 1
+ * @param order written: the packed order, by ready time and then by the place given, numbered 0, 1, 2 and so on
+ * @param order_len room for 4 bytes and 8 a repeat, LEAFANCHOR_ORDER_BYTES at most
+ * @return the bytes written and the frame */
+LEAFANCHOR_MUST_USE
+leafanchor_frame_answer leafanchor_frame(const int32_t *repeating, size_t repeating_len, uint8_t *order,
+                                         size_t order_len);
 
 /** Whether a reader may stand over these bytes (R23). Refusals 1 to 5 give 0 jobs.
  * @param order the packed order
@@ -610,6 +640,17 @@ typedef struct leafanchor_job {
     int32_t deadline; /**< the second by which it must have ended; the rest after it does not count */
 } leafanchor_job;
 
+/** A repeating job (R41). An array of them is the list of numbers that a frame is made of, six a job. Phase, deadline
+ * and LEAFANCHOR_REST, added, may not pass the period. */
+typedef struct leafanchor_repeating {
+    int32_t critical; /**< 1 where no repeat may be left out, else 0 */
+    int32_t weight;   /**< of each repeat: 0 where it is critical, else 1 to 50 */
+    int32_t phase;    /**< the second from which the first repeat may run, 0 or more */
+    int32_t length;   /**< in seconds, 1 to 10,000 */
+    int32_t deadline; /**< the seconds from a repeat's ready time by which it must have ended, 1 to 86,400 */
+    int32_t period;   /**< the seconds from one ready time to the next, 1 to 86,400 */
+} leafanchor_repeating;
+
 /** A profile (R11) with its length: one call writes both, and the next reads just what was written. It takes 2,416
  * bytes, on a stack too. {0, {0}} is the profile of no points. */
 typedef struct leafanchor_profile {
@@ -643,6 +684,19 @@ static inline leafanchor_pack_answer leafanchor_pack_jobs(int32_t t0, const leaf
 {
     return leafanchor_pack(t0, (const int32_t *)(const void *)jobs, LEAFANCHOR_JOB_NUMBERS * jobs_len, order,
                            order_len);
+}
+
+/** leafanchor_frame of repeating jobs. It takes no stack of its own.
+ * @param jobs the repeating jobs
+ * @param jobs_len how many
+ * @param order written: the packed order of one frame
+ * @param order_len room for 4 bytes and 8 a repeat, LEAFANCHOR_ORDER_BYTES at most
+ * @return the bytes written and the frame */
+LEAFANCHOR_MUST_USE
+static inline leafanchor_frame_answer leafanchor_frame_jobs(const leafanchor_repeating *jobs, size_t jobs_len,
+                                                            uint8_t *order, size_t order_len)
+{
+    return leafanchor_frame((const int32_t *)(const void *)jobs, LEAFANCHOR_JOB_NUMBERS * jobs_len, order, order_len);
 }
 
 /** The job that a reader's step gave.
@@ -788,6 +842,9 @@ static inline leafanchor_lookup_answer leafanchor_profile_lookup(const leafancho
     SIZE(pack_answer, 32)                                                                                     \
     OFFSET(pack_answer, refusal, 0) OFFSET(pack_answer, place, 8) OFFSET(pack_answer, field, 16)              \
     OFFSET(pack_answer, bytes, 24)                                                                            \
+    SIZE(frame_answer, 32)                                                                                    \
+    OFFSET(frame_answer, refusal, 0) OFFSET(frame_answer, place, 8) OFFSET(frame_answer, bytes, 16)           \
+    OFFSET(frame_answer, frame, 24)                                                                           \
     SIZE(open_answer, 16)                                                                                     \
     OFFSET(open_answer, refusal, 0) OFFSET(open_answer, jobs, 8)                                              \
     SIZE(step_answer, 56)                                                                                     \
@@ -848,12 +905,20 @@ LEAFANCHOR_LIES_AT(job, weight, 8)
 LEAFANCHOR_LIES_AT(job, ready, 12)
 LEAFANCHOR_LIES_AT(job, length, 16)
 LEAFANCHOR_LIES_AT(job, deadline, 20)
+LEAFANCHOR_HAS_SIZE(repeating, LEAFANCHOR_JOB_NUMBERS * sizeof(int32_t))
+LEAFANCHOR_LIES_AT(repeating, critical, 0)
+LEAFANCHOR_LIES_AT(repeating, weight, 4)
+LEAFANCHOR_LIES_AT(repeating, phase, 8)
+LEAFANCHOR_LIES_AT(repeating, length, 12)
+LEAFANCHOR_LIES_AT(repeating, deadline, 16)
+LEAFANCHOR_LIES_AT(repeating, period, 20)
 LEAFANCHOR_HAS_SIZE(profile, 2416)
 LEAFANCHOR_HOLDS(LEAFANCHOR_ORDER_BYTES == 4 + 8 * LEAFANCHOR_MOST_JOBS, "bytes of an order")
 LEAFANCHOR_HOLDS(LEAFANCHOR_ORDER_NUMBERS == LEAFANCHOR_JOB_NUMBERS * LEAFANCHOR_MOST_JOBS, "numbers of an order")
 LEAFANCHOR_HOLDS(LEAFANCHOR_STARTS == LEAFANCHOR_MOST_JOBS, "starts of a plan")
 LEAFANCHOR_HOLDS(LEAFANCHOR_PLAN_BYTES == (48 + 18 * LEAFANCHOR_STARTS + 7) / 8, "bytes of a plan")
 LEAFANCHOR_HOLDS(LEAFANCHOR_HALVES_APART == LEAFANCHOR_HIGHEST_HALF + 1, "numbers of halves")
+LEAFANCHOR_HOLDS(LEAFANCHOR_REPEATING_NUMBERS == 6 * LEAFANCHOR_MOST_REPEATING, "numbers of repeating jobs")
 LEAFANCHOR_HOLDS(LEAFANCHOR_PROFILE_ROOM == 2 * 301, "numbers of a profile")
 LEAFANCHOR_HOLDS(LEAFANCHOR_PROFILE_ROOM >= LEAFANCHOR_ORDER_NUMBERS, "an order unpacks into a profile's room")
 LEAFANCHOR_HOLDS(LEAFANCHOR_WORK_AREA == (1 + LEAFANCHOR_MOST_JOBS) * 301, "numbers of the work area")

@@ -17,7 +17,7 @@ PARTS = [
     ('The calls: bytes, refusals, answers', '''
         seconds Twos, heat Heat, heat Answer,
         packed Layout, packed Places, packed Packed, packed Judge, packed Refusals,
-        unpack Answer, pack Answer, fields Fields, reader Reading, reader_struct Standing,
+        unpack Answer, pack Answer, multiples Multiples, frames Frames, framing Answer, fields Fields, reader Reading, reader_struct Standing,
         profiles Numbers, profiles Answer, point_records Records, better Answer,
         area Area, filling After, planner Calls, halves Calls, extending Calls, ties Winning, choosing Choosing,
         packed_plan Plan, plan_writer Calls, checking Calls, best_plan Calls,

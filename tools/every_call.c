@@ -1,7 +1,7 @@
 /* Calls every function of the header, on the worked figures P1 to P11, at the edges of the rest, on orders of halves,
- * on plans of P1, on openings of the same weight and on each field out of range, and says which answer differs. That
- * the header declares what the library defines, and that its own calls over jobs and profiles give what the plain ones
- * give, into another profile and in place, is seen here from C. Compiles as C99, as C11 and as C++17. */
+ * on plans of P1, on frames, on openings of the same weight and on each field out of range, and says which answer
+ * differs. That the header declares what the library defines, and that its own calls over jobs and profiles give what
+ * the plain ones give, into another profile and in place, is seen here from C. Compiles as C99, as C11 and as C++17. */
 #include "leafanchor.h"
 
 #include <stdio.h>
@@ -382,6 +382,106 @@ static void checked_plans(void)
     CHECK(leafanchor_legal(order, 3, plan, 0).refusal == LEAFANCHOR_ORDER_TOO_SHORT);
 }
 
+/* A coolant pump's check, critical, every 1,200 seconds, and a fan's of weight 5, every 1,800 from 100 on. */
+static const leafanchor_repeating pump_and_fan[] = {{1, 0, 0, 60, 300, 1200}, {0, 5, 100, 120, 400, 1800}};
+
+/* Their frame of 3,600: five jobs, ready at 0, 100, 1,200, 1,900 and 2,400. */
+static const uint8_t one_frame[] = {
+    0x14, 0, 0, 0, 0x02, 0x00, 0x00, 0x00, 0x00, 0xF0, 0x01, 0x2C, 0x04, 0x14, 0x00, 0x64, 0x01, 0xE0, 0x01, 0xF4,
+    0x0A, 0x00, 0x04, 0xB0, 0x00, 0xF0, 0x05, 0xDC, 0x0C, 0x14, 0x07, 0x6C, 0x01, 0xE0, 0x08, 0xFC,
+    0x12, 0x00, 0x09, 0x60, 0x00, 0xF0, 0x0A, 0x8C};
+
+/* The worked frame, from jobs and from numbers, with what is past its order, a room that is too short, and no jobs. */
+static void frames(void)
+{
+    static const int32_t none[] = {0};
+    static uint8_t out[LEAFANCHOR_ORDER_BYTES];
+    memset(out, 0xAA, sizeof out);
+    leafanchor_frame_answer made = leafanchor_frame_jobs(pump_and_fan, 2, out, 43);
+    CHECK(made.refusal == LEAFANCHOR_BUFFER_TOO_SHORT && made.place == 0 && made.bytes == 0 && made.frame == 0);
+    CHECK(out[0] == 0xAA && out[43] == 0xAA);
+    made = leafanchor_frame_jobs(pump_and_fan, 2, out, sizeof out);
+    CHECK(made.refusal == 0 && made.place == 0 && made.bytes == 44 && made.frame == 3600);
+    CHECK(memcmp(out, one_frame, sizeof one_frame) == 0 && out[44] == 0xAA);
+    memset(out, 0xAA, sizeof out);
+    made = leafanchor_frame(&pump_and_fan[0].critical, 12, out, 44);
+    CHECK(made.refusal == 0 && made.bytes == 44 && made.frame == 3600 && memcmp(out, one_frame, 44) == 0);
+    made = leafanchor_frame(none, 0, out, 4);
+    CHECK(made.refusal == 0 && made.place == 0 && made.bytes == 4 && made.frame == 1);
+    CHECK(memcmp(out, "\0\0\0\0", 4) == 0 && out[4] == one_frame[4]);
+    CHECK(leafanchor_frame(none, 0, out, 3).refusal == LEAFANCHOR_BUFFER_TOO_SHORT);
+}
+
+/* Whether a frame of so many of these jobs is refused so, and nothing is written. */
+static int no_frame(const leafanchor_repeating *repeating, size_t count, uint32_t refusal, size_t place)
+{
+    static uint8_t out[LEAFANCHOR_ORDER_BYTES];
+    memset(out, 0xAA, sizeof out);
+    leafanchor_frame_answer made = leafanchor_frame_jobs(repeating, count, out, sizeof out);
+    for (size_t byte = 0; byte < sizeof out; byte++) {
+        if (out[byte] != 0xAA) {
+            return 0;
+        }
+    }
+    return made.refusal == refusal && made.place == place && made.bytes == 0 && made.frame == 0;
+}
+
+/* Every refusal of a frame but 10, and the edges of the frame, of late deadlines and of 16 and 48. */
+static void no_frames(void)
+{
+    static leafanchor_repeating many[LEAFANCHOR_MOST_REPEATING + 1];
+    for (size_t place = 0; place <= LEAFANCHOR_MOST_REPEATING; place++) {
+        many[place] = pump_and_fan[0];
+    }
+    CHECK(leafanchor_frame_jobs(many, LEAFANCHOR_MOST_REPEATING, order, LEAFANCHOR_ORDER_BYTES).bytes == 132);
+    CHECK(no_frame(many, LEAFANCHOR_MOST_REPEATING + 1, LEAFANCHOR_TOO_MANY_JOBS, 0));
+    CHECK(leafanchor_frame(&many[0].critical, LEAFANCHOR_REPEATING_NUMBERS - 1, order, 0).refusal == 4);
+    CHECK(leafanchor_frame(&many[0].critical, LEAFANCHOR_REPEATING_NUMBERS + 1, order, 0).refusal == 3);
+    many[1].phase = 885; /* and the deadline of 300 and the rest of 15 end with the period */
+    CHECK(leafanchor_frame_jobs(many, 2, order, LEAFANCHOR_ORDER_BYTES).frame == 1200);
+    many[1].phase = 886;
+    CHECK(no_frame(many, 2, LEAFANCHOR_REPEATING_NOT_VALID, 1));
+    many[1].phase = INT32_MAX;
+    CHECK(no_frame(many, 2, LEAFANCHOR_REPEATING_NOT_VALID, 1));
+    many[1].phase = 0;
+    many[1].period = LEAFANCHOR_LONGEST_FRAME;
+    CHECK(no_frame(many, 2, LEAFANCHOR_TOO_MANY_JOBS, 0)); /* 72 repeats of the first */
+    many[0].period = 1800;
+    CHECK(no_frame(many, 2, LEAFANCHOR_TOO_MANY_JOBS, 0)); /* 48 repeats of the first, and one more */
+    many[0].period = 1920;
+    CHECK(leafanchor_frame_jobs(many, 2, order, LEAFANCHOR_ORDER_BYTES).bytes == 4 + 8 * 46);
+    many[0].period = LEAFANCHOR_LONGEST_FRAME - 1;
+    CHECK(no_frame(many, 2, LEAFANCHOR_FRAME_TOO_LONG, 0));
+    many[0].critical = many[1].critical = 0;
+    many[0].weight = many[1].weight = 50;
+    many[0].period = 1200;
+    many[1].period = 7200;
+    CHECK(no_frame(many, 2, LEAFANCHOR_TOO_MUCH_WEIGHT, 0)); /* 350 */
+    many[1].weight = 0;
+    CHECK(no_frame(many, 2, LEAFANCHOR_REPEATING_NOT_VALID, 1));
+    many[1].critical = 1;
+    CHECK(leafanchor_frame_jobs(many, 2, order, LEAFANCHOR_ORDER_BYTES).bytes == 4 + 8 * 7);
+}
+
+/* Two frames joined, the second numbered on and set a frame later: planned, they keep twice what one keeps. */
+static void two_frames(void)
+{
+    static leafanchor_job both[10];
+    CHECK(leafanchor_unpack_jobs(one_frame, sizeof one_frame, both, 5).jobs == 5);
+    for (size_t place = 0; place < 5; place++) {
+        both[5 + place] = both[place];
+        both[5 + place].number += 5;
+        both[5 + place].ready += 3600;
+        both[5 + place].deadline += 3600;
+    }
+    size_t bytes = leafanchor_pack_jobs(0, both, 10, order, LEAFANCHOR_ORDER_BYTES).bytes;
+    leafanchor_plan_answer one =
+        leafanchor_plan(one_frame, sizeof one_frame, starts, LEAFANCHOR_STARTS, work, LEAFANCHOR_WORK_AREA);
+    leafanchor_plan_answer two = leafanchor_plan(order, bytes, starts, LEAFANCHOR_STARTS, work, LEAFANCHOR_WORK_AREA);
+    CHECK(one.refusal == 0 && one.kept == 5 && one.kept_weight == 10 && one.finish == 2475);
+    CHECK(two.refusal == 0 && two.kept == 10 && two.kept_weight == 20 && two.finish == 3600 + 2475);
+}
+
 /* Whether the question names this winner. */
 static int names(leafanchor_question_answer asked, uint32_t winner)
 {
@@ -535,9 +635,11 @@ static void in_words(void)
     CHECK(told(6, 2, LEAFANCHOR_NO_FIELD, leafanchor_phrase(6)) && told(6, 2, 7, leafanchor_phrase(6)));
     CHECK(told(7, LEAFANCHOR_NO_PLACE, 0, leafanchor_phrase(7)));
     CHECK(told(13, LEAFANCHOR_NO_PLACE, 0, leafanchor_phrase(13)));
-    CHECK(told(0, 0, 0, "not refused") && told(16, 3, 4, "no such refusal"));
+    CHECK(told(16, LEAFANCHOR_NO_PLACE, 0, leafanchor_phrase(16)));
+    CHECK(told(0, 0, 0, "not refused") && told(18, 3, 4, "no such refusal"));
     /* a place of 14 digits has room, the greatest is cut, and so is any text in a shorter room */
     CHECK(told(13, 99999999999999, 0, "job at place 99999999999999: it does not fit an order of halves"));
+    CHECK(told(16, 99999999999999, 0, "job at place 99999999999999: out of range, or its deadline late"));
     CHECK(told(13, LEAFANCHOR_NO_PLACE - 1, 0, "job at place 18446744073709551614: it does not fit an order of "));
     CHECK(strcmp(leafanchor_tell(6, 2, 5, out, 8), "job at ") == 0);
     CHECK(strcmp(leafanchor_tell(6, 2, 5, out, 1), "") == 0);
@@ -581,6 +683,9 @@ int main(void)
     rival_openings();
     fields_out_of_range();
     in_words();
+    frames();
+    no_frames();
+    two_frames();
     heat_up();
     version();
     puts(wrong ? "every call: differs" : "every call: as worked out");

@@ -158,6 +158,7 @@ hold_c() {
     compile_both check_plan examples/check_plan.c
     compile_both choose_opening examples/choose_opening.c
     compile_both plan_tail examples/plan_tail.c
+    compile_both make_frame examples/make_frame.c
     for made in c11 cxx17; do
         $emulator "$out/every_call.$made"
         $emulator "$out/phrases.$made" <include/phrases.txt
@@ -228,12 +229,13 @@ prints() {
 }
 
 hold_worked() {
-    say "the worked order of halves, the plans checked, the openings and the tail, from C and C++"
+    say "the worked order of halves, the plans checked, the openings, the tail and the frame, from C and C++"
     prints plan_halves halves.expected
     prints check_plan check_plan.expected
     prints choose_opening choose_opening.expected
     prints plan_tail plan_tail.expected
-    for lines in halves check_plan choose_opening plan_tail; do
+    prints make_frame make_frame.expected
+    for lines in halves check_plan choose_opening plan_tail make_frame; do
         shown "examples/$lines.expected" docs/EXAMPLES.md
     done
 }

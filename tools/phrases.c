@@ -103,7 +103,7 @@ int main(void)
         }
     }
     want("nothing more", 0, 0);
-    check(refusals == LEAFANCHOR_PLAN_STRAY_BITS, leafanchor_phrase(refusals + 1));
+    check(refusals == LEAFANCHOR_FRAME_TOO_LONG, leafanchor_phrase(refusals + 1));
     check(strcmp(leafanchor_phrase(refusals + 1), "no such refusal") == 0, leafanchor_phrase(refusals + 1));
     check(fields == LEAFANCHOR_FIELD_DEADLINE, leafanchor_field_name(fields + 1));
     puts(wrong ? "phrases: differ from the list" : "phrases: those of the list");

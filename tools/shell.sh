@@ -414,7 +414,7 @@ built_checkout stand_ins
 cp p1 order
 leafanchor=$here/leafanchor
 numbers=$(sed -n 's/^\([0-9][0-9]*\) .*/\1/p' "$list" | tr '\n' ' ')
-holds "the list has every refusal, 1 to 15" '[ "$numbers" = "1 2 3 4 5 6 7 8 9 10 11 12 13 14 15 " ]'
+holds "the list has every refusal, 1 to 17" '[ "$numbers" = "1 2 3 4 5 6 7 8 9 10 11 12 13 14 15 16 17 " ]'
 for number in $numbers; do
     set -- "$number"
     ! grep -q "^$number .* | " "$list" || set -- "$number" 47 3
@@ -433,9 +433,9 @@ done
 program 'echo 6 2 9'
 try env PATH="$machine:$PATH" "$leafanchor" plan order
 gives "a field with no name: no place is told" 1 '6 2 9' "leafanchor: refusal 6: $(listed 6)"
-program 'echo 16 0 0'
+program 'echo 18 0 0'
 try env PATH="$machine:$PATH" "$leafanchor" plan order
-gives "a number that the list has not" 1 '16 0 0' "leafanchor: refusal 16: there is no phrase for it"
+gives "a number that the list has not" 1 '18 0 0' "leafanchor: refusal 18: there is no phrase for it"
 program 'echo 0 0 0 0 0 7 0'
 printf 'text' >order
 try env PATH="$machine:$PATH" "$leafanchor" plan order

@@ -27,6 +27,7 @@ static int32_t starts[LEAFANCHOR_STARTS], work[LEAFANCHOR_WORK_AREA];
 static uint8_t packed[LEAFANCHOR_ORDER_BYTES];
 static uint8_t plans[INPUTS][LEAFANCHOR_PLAN_BYTES];
 static size_t plan_bytes[INPUTS];
+static leafanchor_repeating repeating[INPUTS][LEAFANCHOR_MOST_REPEATING];
 static leafanchor_job job_list[LEAFANCHOR_MOST_JOBS];
 static const leafanchor_profile bus_free = {2, {0, 0}};
 static leafanchor_profile long_profile, long_other, made;
@@ -43,6 +44,11 @@ static uint32_t unpack(size_t i)
 static uint32_t pack(size_t i)
 {
     return leafanchor_pack(0, numbers, 6 * jobs[i], packed, LEAFANCHOR_ORDER_BYTES).refusal;
+}
+static uint32_t frame(size_t i)
+{
+    return leafanchor_frame(&repeating[i][0].critical, LEAFANCHOR_REPEATING_NUMBERS, packed,
+                            LEAFANCHOR_ORDER_BYTES).refusal;
 }
 static uint32_t open(size_t i) { return leafanchor_open(orders[i], bytes[i]).refusal; }
 static uint32_t step(size_t i) { return leafanchor_step(orders[i], bytes[i], i).refusal; }
@@ -101,6 +107,10 @@ static uint32_t pack_jobs(size_t i)
 {
     return leafanchor_pack_jobs(0, job_list, jobs[i], packed, LEAFANCHOR_ORDER_BYTES).refusal;
 }
+static uint32_t frame_jobs(size_t i)
+{
+    return leafanchor_frame_jobs(repeating[i], LEAFANCHOR_MOST_REPEATING, packed, LEAFANCHOR_ORDER_BYTES).refusal;
+}
 static uint32_t profile_of_order(size_t i)
 {
     return leafanchor_profile_of_order(orders[i], bytes[i], &made, work, LEAFANCHOR_WORK_AREA).refusal;
@@ -126,12 +136,13 @@ static uint32_t better_in_place(size_t i)
 static uint32_t profile_lookup(size_t i) { return leafanchor_profile_lookup(&long_profile, 500 * (int32_t)i).refusal; }
 
 static const struct { const char *name; call *run; } calls[] = {
-    {"heat_up", heat_up}, {"unpack", unpack}, {"pack", pack}, {"open", open}, {"step", step}, {"lookup", lookup},
-    {"lookup_records", lookup_records}, {"better_of", better_of}, {"extend", extend}, {"plan", plan},
-    {"plan_halves", plan_halves}, {"write_plan", write_plan}, {"legal", legal}, {"best", best},
+    {"heat_up", heat_up}, {"unpack", unpack}, {"pack", pack}, {"frame", frame}, {"open", open}, {"step", step},
+    {"lookup", lookup}, {"lookup_records", lookup_records}, {"better_of", better_of}, {"extend", extend},
+    {"plan", plan}, {"plan_halves", plan_halves}, {"write_plan", write_plan}, {"legal", legal}, {"best", best},
     {"question", question}, {"question_first", question_first}, {"choose", choose}, {"choose_first", choose_first},
-    {"unpack_jobs", unpack_jobs}, {"pack_jobs", pack_jobs}, {"profile_of_order", profile_of_order},
-    {"profile_extended", profile_extended}, {"profile_extended in place", extended_in_place},
+    {"unpack_jobs", unpack_jobs}, {"pack_jobs", pack_jobs}, {"frame_jobs", frame_jobs},
+    {"profile_of_order", profile_of_order}, {"profile_extended", profile_extended},
+    {"profile_extended in place", extended_in_place},
     {"profile_better", profile_better}, {"profile_better in place", better_in_place},
     {"profile_lookup", profile_lookup}};
 
@@ -184,6 +195,26 @@ static size_t deepest(call *run)
     return most;
 }
 
+/* 16 repeating jobs whose periods of 60, 100 and 300 make 48 repeats that meet at many times, falling by their phases;
+ * the same with one that is late at the end, with too long a frame, with too many repeats and with too much weight. */
+static void make_repeating(void)
+{
+    static const int32_t periods[LEAFANCHOR_MOST_REPEATING] = {300, 60, 300, 60, 100, 60, 300, 60,
+                                                               300, 60, 300, 60, 100, 60, 300, 300};
+    for (int32_t place = 0; place < LEAFANCHOR_MOST_REPEATING; place++) {
+        const leafanchor_repeating job = {place % 2, 2 * (1 - place % 2), 15 - place, 5, 20, periods[place]};
+        for (size_t input = 0; input < INPUTS; input++) {
+            repeating[input][place] = job;
+        }
+    }
+    repeating[1][LEAFANCHOR_MOST_REPEATING - 1].deadline = 286;
+    repeating[2][LEAFANCHOR_MOST_REPEATING - 1].period = LEAFANCHOR_LONGEST_FRAME - 1;
+    repeating[3][LEAFANCHOR_MOST_REPEATING - 1].period = LEAFANCHOR_LONGEST_FRAME;
+    for (size_t place = 0; place < LEAFANCHOR_MOST_REPEATING; place += 2) {
+        repeating[4][place].weight = 50;
+    }
+}
+
 /* 48 jobs with windows that overlap, critical halves and behind each its optional one, so that every call goes all the
  * way; packed with 48, 24, 1 and no jobs, and one order that is refused; and the packed plan of each. */
 static void make_inputs(void)
@@ -219,6 +250,7 @@ int main(void)
     stack = (unsigned char *)aligned_alloc(4096, STACK);
     must(stack == NULL, "memory");
     make_inputs();
+    make_repeating();
     size_t empty = deepest(nothing);
     for (size_t i = 0; i < sizeof calls / sizeof calls[0]; i++) {
         size_t used = deepest(calls[i].run);

@@ -87,6 +87,11 @@ def pack(case):
     return told(answer) + ' |' + plain(written(data, BYTE_MARK, case.room))
 
 
+def frame(case):
+    answer, data = rules.frame(numbers_in(case.parts[0]), case.room)
+    return told(answer) + ' |' + plain(written(data, BYTE_MARK, case.room))
+
+
 def heat(case):
     seconds = rules.heat(case.figures['byte'])
     return ' refused 12' if seconds is None else ' %d' % seconds
@@ -184,9 +189,9 @@ def read(case):
 
 
 CALLS = {
-    'unpack': unpack, 'pack': pack, 'heat': heat, 'plan': plan, 'plan_halves': plan_halves, 'legal': legal,
-    'legal_cut': legal_cut, 'best': best, 'write_plan': write_plan, 'report': report, 'extend': extend, 'better': better,
-    'lookup': lookup, 'records': records, 'question': question, 'choose': choose,
+    'unpack': unpack, 'pack': pack, 'frame': frame, 'heat': heat, 'plan': plan, 'plan_halves': plan_halves,
+    'legal': legal, 'legal_cut': legal_cut, 'best': best, 'write_plan': write_plan, 'report': report, 'extend': extend,
+    'better': better, 'lookup': lookup, 'records': records, 'question': question, 'choose': choose,
     'question_first': lambda case: question(case, rules.to_first),
     'choose_first': lambda case: choose(case, rules.to_first),
     'read': read, 'open': lambda case: opened(order_in(case.parts[0])),

@@ -12,6 +12,7 @@ PROFILE_ROOM = 602
 PLAN_ROOM = 114  # bytes of the longest packed plan
 LEFT_OUT = 200_000
 HIGHEST_HALF, APART, PER_WEIGHT = 31, 32, 60  # of an order of halves
+LONGEST_FRAME = 86_400  # and the longest deadline and period of a repeating job
 MANY = 10  # up to so many jobs every choice is tried as well
 ACCEPTED = (0, 0, 0)  # no refusal
 
@@ -157,6 +158,53 @@ def pack(t0, numbers, room):
     if refusal != ACCEPTED:
         return refused(refusal), []
     return ('bytes', 4 + 8 * len(jobs)), packed(t0, jobs)
+
+
+# ---- frames of repeating jobs (R41 to R43): critical, weight, phase, length, deadline, period of each
+
+def repeats_well(job):
+    """Whether a repeating job's fields are in range, and the rest after its deadline ends within its period."""
+    critical, weight, phase, length, deadline, period = job
+    weighs = weight == 0 if critical == 1 else 1 <= weight <= 50
+    return (critical in (0, 1) and weighs and phase >= 0 and 1 <= length <= 10_000 and 1 <= deadline <= LONGEST_FRAME
+            and 1 <= period <= LONGEST_FRAME and phase + deadline + REST <= period)
+
+
+def frame_of(periods):
+    """The least time that every period divides, 1 where there is none; none where it is too long."""
+    step = max(periods, default=1)
+    common = (time for time in range(step, LONGEST_FRAME + 1, step) if not any(time % period for period in periods))
+    return next(common, None)
+
+
+def repeats(jobs, frame):
+    """The jobs of one frame, by ready time and then by the place given."""
+    ready = sorted((time, place) for place, job in enumerate(jobs) for time in range(job[2], frame, job[5]))
+    made = []
+    for number, (time, place) in enumerate(ready):
+        critical, weight, _, length, deadline, _ = jobs[place]
+        made.append((number, critical, weight, time, length, time + deadline))
+    return made
+
+
+def frame(numbers, room):
+    """The packed order of one frame. Only 16 has a place, and none a field."""
+    jobs = [tuple(numbers[at:at + 6]) for at in range(0, len(numbers) - 5, 6)]
+    refusal = then(ACCEPTED, len(numbers) > 96, 3)
+    refusal = then(refusal, len(numbers) % 6, 4)
+    offending = [place for place, job in enumerate(jobs) if not repeats_well(job)]
+    if refusal == ACCEPTED and offending:
+        refusal = 16, offending[0], 0
+    seconds = frame_of([job[5] for job in jobs]) if refusal == ACCEPTED else None
+    refusal = then(refusal, seconds is None, 17)
+    made = repeats(jobs, seconds) if refusal == ACCEPTED else []
+    refusal = then(refusal, len(made) > 48, 3)
+    refusal = then(refusal, weigh(made) > 300, 9)
+    refusal = then(refusal, room < 4 + 8 * len(made), 10)
+    if refusal != ACCEPTED:
+        return refused(refusal), []
+    assert judge_jobs(made) == ACCEPTED, made
+    return ('frame', 4 + 8 * len(made), seconds), packed(0, made)
 
 
 # ---- the reader (R23), heat-up (R19, R20)

@@ -10,7 +10,7 @@ use lib.Dec.{T}
 use lib.IntN.{ℤ}
 use Rattle.packed.specs.declared.Refusal.{Refusal}
 use Rattle.packed.specs.Judge.{inField, plainly, noRefusal, Check, Verdict, fine, refused, judge}
-use Rattle.packed.specs.JudgeLaws.{refused-fine, refused-same, without, never, given-behind}
+use Rattle.packed.specs.JudgeLaws.{refused-fine, refused-same, without, never, given-behind, everyNumber, number-passes}
 use Rattle.packed.specs.Packed.{countOf, numbersOf, orderOf}
 use Rattle.packed.specs.Refusals.{headerChecks, jobChecks, weightChecks, orderChecks}
 use Rattle.packed.specs.RefusalPlaces.{BadField, RefusalIs, nowhere, SixIs, six-behind, six-order, answer-refusal, answer-says}
@@ -38,7 +38,15 @@ module _ (cs : List Check) (b : Bool) where
   pub checked-says : (s : Refusal) → s .number ≢ 0 → answered .refusal ≡ s ↔ (judge cs ≡ refused s)
   checked-says s some = answer-says [] told (λ r. refl) (nowhere {n = 0} refl) s (λ e. some (sym e)) (judge cs)
 
-  -- A number that no check has is never told.
+  -- A test that 0 and the number of every check pass is passed by the number told,
+  pub checked-passes : (test : ℕ → Bool) → T (test 0) → T (everyNumber test cs) → T (test (answered .refusal .number))
+  checked-passes test none t = go (judge cs) refl
+    where
+      go : (v : Verdict) → judge cs ≡ v → T (test (told v .number))
+      go fine p = none
+      go (refused r) p = number-passes test cs t p
+
+  -- and a number that no check has is never told.
   pub checked-never : (n : ℕ) → n ≢ 0 → T (without n cs) → answered .refusal .number ≢ n
   checked-never n some t = go (judge cs) refl
     where

@@ -1,4 +1,4 @@
-// Packed orders and heat-up: unpacking, packing, and the length for a sampler's byte.
+// Packed orders and heat-up: unpacking, packing, the order of a frame, and the length for a sampler's byte.
 use crate::BYTE_MARK;
 use crate::MARK;
 use crate::calls;
@@ -15,6 +15,7 @@ use case_lines::put_refusal;
 use case_lines::put_refused;
 use case_lines::read_numbers;
 use case_lines::setting;
+use framing::Framed;
 use heat::Heating;
 use pack::Packed;
 use unpack::Unpacked;
@@ -56,6 +57,27 @@ fn pack(line: &[u8]) {
     put_bytes(bytes);
 }
 
+// What making a frame's order answered.
+fn put_framed(answer: Framed) {
+    match answer {
+        Framed::Refused(refusal) => put_refusal(refusal),
+        Framed::Made(made) => {
+            put_count(made.bytes as u64);
+            put_count(made.frame as u64);
+        }
+    }
+}
+
+// `frame`: numbers of repeating jobs, into the room lent.
+fn frame(line: &[u8]) {
+    let mut numbers = [0; 300];
+    let many = read_numbers(part(line, 1), &mut numbers);
+    let mut space = [BYTE_MARK; 400];
+    let bytes = lend_bytes(&mut space, count_setting(line, b'm'));
+    put_framed(framing::frame(front(&numbers, many), bytes));
+    put_bytes(bytes);
+}
+
 // `heat`: a byte.
 fn heat_up(line: &[u8]) {
     match heat::heat_up((count_setting(line, b'e') % 256) as u8) {
@@ -72,6 +94,10 @@ pub fn run(line: &[u8], bytes: &[u8]) -> bool {
     }
     if calls(line, b"pack") {
         pack(line);
+        return true;
+    }
+    if calls(line, b"frame") {
+        frame(line);
         return true;
     }
     if calls(line, b"heat") {

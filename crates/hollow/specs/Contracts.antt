@@ -23,6 +23,9 @@ use Rattle.unpack.specs.declared.Unpacked.the-variants as unpacked
 use Rattle.pack.specs.Answer.{packOf, bytesAfter}
 use Rattle.pack.specs.declared.Packed.{Packed}
 use Rattle.pack.specs.declared.Packed.the-variants as packed
+use Rattle.framing.specs.Answer.{framedOf, orderAfter}
+use Rattle.framing.specs.declared.Framed.{Framed}
+use Rattle.framing.specs.declared.Framed.the-variants as framed
 use Rattle.reader.specs.Reading.{openOf, stepOf}
 use Rattle.reader.specs.declared.Opened.{Opened}
 use Rattle.reader.specs.declared.Opened.the-variants as opened
@@ -88,6 +91,10 @@ unpackRefused (unpacked.Jobs n t0) = false
 abbrev packRefused : Packed → Bool
 packRefused (packed.Refused r) = true
 packRefused (packed.Bytes n) = false
+
+abbrev frameRefused : Framed → Bool
+frameRefused (framed.Refused r) = true
+frameRefused (framed.Made f) = false
 
 abbrev openRefused : Opened → Bool
 openRefused (opened.Refused n) = true
@@ -182,6 +189,10 @@ unpacking =
 abbrev pub packing : Contract (ℤ × List ℤ × List ℕ) Packed (List ℕ)
 packing =
     writing (λ x. packOf (x .0) (x .1) (length (x .2))) (λ x. bytesAfter (x .0) (x .1) (x .2)) (λ x. x .2) packRefused
+
+-- The numbers of repeating jobs, and bytes to write the order of their frame to.
+abbrev pub framing : Contract (List ℤ × List ℕ) Framed (List ℕ)
+framing = writing (λ x. framedOf (x .0) (length (x .1))) (λ x. orderAfter (x .0) (x .1)) (λ x. x .1) frameRefused
 
 -- Bytes to read from.
 abbrev pub openingReader : Contract (List ℕ) Opened (Unit {0})

@@ -21,6 +21,9 @@ use Rattle.unpack.proofs.unpack.Reads as unpack-reads
 use Rattle.pack.specs.declared.Packed.{Packed}
 use Rattle.pack.proofs.pack as pack
 use Rattle.pack.proofs.pack.Reads as pack-reads
+use Rattle.framing.specs.declared.Framed.{Framed}
+use Rattle.framing.proofs.frame as frame
+use Rattle.framing.proofs.frame.Reads as frame-reads
 use Rattle.reader.specs.declared.Opened.{Opened}
 use Rattle.reader.specs.declared.Moved.{Moved}
 use Rattle.reader.proofs.open as opens
@@ -66,7 +69,7 @@ use Rattle.best_plan.proofs.best as best
 use Rattle.best_plan.proofs.best.Reads as best-reads
 use Rattle.plan_writer.proofs.write_plan as write-plan
 use Rattle.plan_writer.proofs.write_plan.Reads as write-plan-reads
-use Rattle.hollow.specs.Contracts.{planning, extending, joiningProfiles, lookingUp, lookingUpRecords, unpacking, packing}
+use Rattle.hollow.specs.Contracts.{planning, extending, joiningProfiles, lookingUp, lookingUpRecords, unpacking, packing, framing}
 use Rattle.hollow.specs.Contracts.{openingReader, stepping, beginning, steppingReader, readingAt, reporting, heatingUp}
 use Rattle.ties.specs.Winning.{sooner, toFirst}
 use Rattle.hollow.specs.Contracts.{planningHalves, asking, choosing, checkingLegal, checkingBest, writingPlan}
@@ -103,6 +106,10 @@ lookup-records-is κs a r x = refl
 pub unpack-is : (κs : Lfts 2) (a : Args unpack.signature κs) (r : Unpacked) (x : AtExit unpack.ended κs)
     → unpack-reads.Post κs a r x ≡ unpacking .allows (a .0 .now, a .1 .0 .now) r (x .1 .0 .now)
 unpack-is κs a r x = refl
+
+pub frame-is : (κs : Lfts 2) (a : Args frame.signature κs) (r : Framed) (x : AtExit frame.ended κs)
+    → frame-reads.Post κs a r x ≡ framing .allows (a .0 .now, a .1 .0 .now) r (x .1 .0 .now)
+frame-is κs a r x = refl
 
 pub pack-is : (κs : Lfts 2) (a : Args pack.signature κs) (r : Packed) (x : AtExit pack.ended κs)
     → pack-reads.Post κs a r x ≡ packing .allows (a .0, a .1 .0 .now, a .1 .1 .0 .now) r (x .1 .1 .0 .now)

@@ -6,6 +6,7 @@ use denote.Ref.{RefT}
 use lib.IntN.{ℤ, pos, negsuc}
 use lib.ListN.{getD, set, replicate}
 use Rattle.packed.specs.Packed.{numbersOf}
+use Rattle.worked.specs.Frames.{checks}
 use Rattle.profiles.specs.Numbers.{mostNumbers}
 use Rattle.point_records.specs.declared.Point.{Point}
 use Rattle.area.specs.Area.{area}
@@ -109,6 +110,13 @@ packMorning = (negsuc 599, numbersOf morningBytes, replicate 44 1)
 
 abbrev pub packOneJob : ℤ × List ℤ × List ℕ
 packOneJob = (pos 0, numbersOf oneJobBytes, replicate 12 1)
+
+-- Framing a pump's and a fan's check, and no jobs.
+abbrev pub frameChecks : List ℤ × List ℕ
+frameChecks = (checks, replicate 44 1)
+
+abbrev pub frameNothing : List ℤ × List ℕ
+frameNothing = ([], replicate 4 1)
 
 -- A reader over P1's bytes at a place.
 abbrev pub readerAt : ℕ → Reader

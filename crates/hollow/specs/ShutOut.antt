@@ -23,6 +23,10 @@ use Rattle.better.specs.Answer.{pointsWritten as pointsJoined}
 use Rattle.unpack.specs.Answer.{jobsUnpacked}
 use Rattle.pack.specs.Answer.{bytesWritten}
 use Rattle.pack.specs.declared.Packed.{Packed}
+use Rattle.multiples.specs.Multiples.{gcdIn, gcd, lcm}
+use Rattle.frames.specs.Frames.{mayRepeat, jobsGiven, givenAt, firstUnfit, frameOf, repeatsOf, sequenceOf, frameNumbers}
+use Rattle.frames.specs.Frames.{givenChecks, madeChecks}
+use Rattle.framing.specs.Answer.{frameTold}
 use Rattle.reader.specs.Reading.{openCount, readNumbers}
 use Rattle.heat.specs.Answer.{lengthOf}
 use Rattle.extending.specs.Calls.{pointsWritten}
@@ -40,14 +44,14 @@ use Rattle.report.specs.AsPrinted.{morningBytes}
 use Rattle.worked.specs.Plans.{ownPlan, lighterPlan}
 use Rattle.hollow.specs.Contract.{Allowed, ShutOut, Leaves, NotHollow, NotHollowIn}
 use Rattle.hollow.specs.Contracts.{PlanInput, planning, ExtendInput, extending, joiningProfiles, lookingUp, lookingUpRecords}
-use Rattle.hollow.specs.Contracts.{unpacking, packing, openingReader, stepping, beginning, steppingReader, readingAt}
+use Rattle.hollow.specs.Contracts.{unpacking, packing, framing, openingReader, stepping, beginning, steppingReader, readingAt}
 use Rattle.hollow.specs.Contracts.{planningHalves, reporting, heatingUp, asking, choosing}
 use Rattle.hollow.specs.Contracts.{checkingLegal, BestInput, checkingBest, WriteInput, writingPlan}
 use Rattle.hollow.specs.Laws.{answered-wrongly, same-buffers, unwritten, not-hollow, not-hollow-in}
 use Rattle.hollow.specs.Named.{ones, front, workArea, oneJobBytes, planMorning, planOneJob, halvesChecked}
 use Rattle.hollow.specs.Named.{extendMorning, extendOneJob}
 use Rattle.hollow.specs.Named.{joinTwo, joinOne, lookupAt, lookupRecordsAt, unpackMorning, unpackOneJob}
-use Rattle.hollow.specs.Named.{packMorning, packOneJob, block, readerAt, page, askAt, chooseAt}
+use Rattle.hollow.specs.Named.{packMorning, packOneJob, frameChecks, frameNothing, block, readerAt, page, askAt, chooseAt}
 use Rattle.hollow.specs.Named.{oneJobPlan, bestMorning, bestOneJob, writeMorning, writeOneJob}
 use Rattle.hollow.specs.Computed.{accepted, length-ones, front-ones, front-cleared}
 use Rattle.hollow.specs.Computed.{morning-on-page, one-job-on-page, page-front}
@@ -141,6 +145,7 @@ choose-not-hollow rule =
 pub record PackedNotHollow : Type 0 where
   pub unpacks : NotHollowIn unpacking (λ b. b) unpackMorning unpackOneJob
   pub packs : NotHollowIn packing (λ b. b) packMorning packOneJob
+  pub makes-frames : NotHollowIn framing (λ b. b) frameChecks frameNothing
   pub opens : NotHollow openingReader morningBytes oneJobBytes
   pub steps : NotHollowIn stepping (λ b. b) (morningBytes, 0) (morningBytes, 1)
   pub begins : NotHollow beginning (block 0 morningBytes) (block 0 oneJobBytes)
@@ -150,11 +155,13 @@ pub record PackedNotHollow : Type 0 where
 pub packed-not-hollow : PackedNotHollow
 unfolding bitsTo toBits decode encode numberOf bytesOf part flat each first headerWord headerOf countOf t0Of spareOf
     recordAt jobWord jobFields numbersOf jobCount fieldsAt packedHeader packedJob packOrder jobOf jobsOf
-    fieldsWithin firstBad numberAt firstRepeat headerChecks listChecks jobChecks weightChecks ones
+    fieldsWithin firstBad numberAt firstRepeat headerChecks listChecks jobChecks weightChecks ones rest gcdIn gcd lcm mayRepeat
+    jobsGiven givenAt firstUnfit frameOf repeatsOf sequenceOf frameNumbers givenChecks madeChecks
 packed-not-hollow =
     record {
       unpacks = not-hollow-in unpacking refl jobsUnpacked (omega arith) (λ b. b) front (omega signed);
       packs = not-hollow-in packing refl bytesWritten (omega arith) (λ b. b) (λ l. pos (getD l 0 0)) (omega signed);
+      makes-frames = not-hollow-in framing refl frameTold (omega arith) (λ b. b) (λ l. pos (getD l 0 0)) (omega signed);
       opens = not-hollow openingReader refl openCount (omega arith);
       steps =
           not-hollow-in stepping refl (λ r. natAbs (front (readNumbers r))) (omega arith) (λ b. b) (λ p. pos p) (omega signed);

@@ -38,11 +38,11 @@ use Rattle.judge.specs.declared.Gathered.{Gathered}
 -- ---- a number of a job, from 0 to a greatest, as the code casts it
 
 -- It is what its bits say.
-pub kept : (greatest : ℕ) (z : ℤ) → Between (pos 0) (pos greatest) z → greatest < 65536 → toZ w32 (ofZ w32 z) ≡ z
+pub kept : (greatest : ℕ) (z : ℤ) → Between (pos 0) (pos greatest) z → greatest < 1048576 → toZ w32 (ofZ w32 z) ≡ z
 kept greatest z b l = toZ-ofZ (omega signed)
 
 -- It has room in any unsigned number that has room for the greatest.
-pub casts : (w : Width) (greatest : ℕ) (z : ℤ) → Between (pos 0) (pos greatest) z → greatest < 65536 → greatest < 2 ^ bits w
+pub casts : (w : Width) (greatest : ℕ) (z : ℤ) → Between (pos 0) (pos greatest) z → greatest < 1048576 → greatest < 2 ^ bits w
     → T (nonNeg (toZ w32 (ofZ w32 z))) × Fits w (natAbs (toZ w32 (ofZ w32 z)))
 casts w greatest z b l h = rw (kept greatest z b l) (omega (signed, abs-is z))
 
@@ -80,14 +80,13 @@ passing-starts zs count numbers c m l =
       sum = rw c (zero-add (weightOf (each (jobAt zs) 0 (jobCount zs))));
     }
 
--- One number more is gathered.
-gather-on : (zs : List ℤ) (numbers : List ℕ) (k v : ℕ) → k < length numbers → numberAt zs k ≡ pos v
-    → ((i : ℕ) → i < k → numberAt zs i ≡ pos (getD numbers i 0))
-    → (i : ℕ) → i < k + 1 → numberAt zs i ≡ pos (getD (set numbers k v) i 0)
-gather-on zs numbers k v b e g i h = cases (ltb i k)
+-- One number more is noted: what holds of each number at its place holds of it too.
+pub noted-on : (Q : ℕ → ℕ → Type 0) (numbers : List ℕ) (k v : ℕ) → k < length numbers → Q k v
+    → ((i : ℕ) → i < k → Q i (getD numbers i 0)) → (i : ℕ) → i < k + 1 → Q i (getD (set numbers k v) i 0)
+noted-on Q numbers k v b e g i h = cases (ltb i k)
     (λ q. let l : i < k = ltb-true i k q in
-    g i l ∙ ap pos (sym (getD-set-other numbers k i v 0 (λ s. absurd (omega arith)))))
-    (λ q. let s : i ≡ k = omega (arith, ltb-false i k q) in rw s (e ∙ ap pos (sym (getD-set-same numbers k v 0 b))))
+    rw (getD-set-other numbers k i v 0 (λ s. absurd (omega arith))) (g i l))
+    (λ q. let s : i ≡ k = omega (arith, ltb-false i k q) in rw (s, getD-set-same numbers k v 0 b) e)
 
 -- A turn: a job was read, and is the job at the place.
 pub record Turn (zs : List ℤ) (numbers : List ℕ) (jobs : Gathered) (j : Job) : Type 0 where
@@ -135,7 +134,9 @@ module _ {zs : List ℤ} {numbers : List ℕ} {jobs : Gathered} {j : Job} (t : T
         search = b .search
             ∙ first-on (badAt zs) (jobs .place) (jobs .end) (t .more) (ap not (ap fieldsWithin (sym (t .read)) ∙ w));
         named = b .named;
-        gathered = gather-on zs numbers (jobs .place) (natAbs (j .number)) (can-take-in .room) (number-noted w) (b .gathered);
+        gathered =
+            noted-on (λ i n. numberAt zs i ≡ pos n) numbers (jobs .place) (natAbs (j .number)) (can-take-in .room) (number-noted w)
+            (b .gathered);
         light = omega (signed, b .light, f .weight, abs-is (j .weight));
         sum = omega (arith, weights-on zs (jobs .place) (jobs .count) (omega (arith, t .more, b .few)), e, b .sum);
       }

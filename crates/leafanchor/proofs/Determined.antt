@@ -9,6 +9,7 @@ use Rattle.seconds.specs.Determined.{Determines, determined, two, three}
 use Rattle.heat.specs.Answer.{heatingOf}
 use Rattle.unpack.specs.Answer.{unpackOf, numbersAfter}
 use Rattle.pack.specs.Answer.{packOf, bytesAfter}
+use Rattle.framing.specs.Answer.{framedOf, orderAfter}
 use Rattle.reader.specs.Reading.{openOf, stepOf}
 use Rattle.profiles.specs.Answer.{lookupOf}
 use Rattle.point_records.specs.Records.{flattened}
@@ -21,13 +22,14 @@ use Rattle.checking.specs.Calls.{legalOf}
 use Rattle.best_plan.specs.Calls.{bestOf, bestWorkAfter}
 use Rattle.ties.specs.Winning.{sooner, toFirst}
 use Rattle.choosing.specs.Choosing.{chosenOf, workAfter}
-use Rattle.packed_answers.specs.Numbers.{heatNumbers, unpackNumbers, packNumbers, openNumbers, stepNumbers}
+use Rattle.packed_answers.specs.Numbers.{heatNumbers, unpackNumbers, packNumbers, framedNumbers, openNumbers, stepNumbers}
 use Rattle.plan_answers.specs.Numbers.{lookupNumbers, betterNumbers, extendNumbers, planFigures}
 use Rattle.plan_answers.specs.Numbers.{halvesFigures}
 use Rattle.opening_answers.specs.Numbers.{questionNumbers, chooseNumbers}
 use Rattle.verdict_answers.specs.Numbers.{verdictNumbers}
 use Rattle.packed_answers.specs.declared.UnpackAnswer.{UnpackAnswer}
 use Rattle.packed_answers.specs.declared.PackAnswer.{PackAnswer}
+use Rattle.packed_answers.specs.declared.FrameAnswer.{FrameAnswer}
 use Rattle.plan_answers.specs.declared.BetterAnswer.{BetterAnswer}
 use Rattle.plan_answers.specs.declared.ExtendAnswer.{ExtendAnswer}
 use Rattle.plan_answers.specs.declared.PlanAnswer.{PlanAnswer}
@@ -39,6 +41,7 @@ use Rattle.leafanchor.proofs.ByHand.{RecordsPost}
 use Rattle.leafanchor.proofs.leafanchor_heat_up.Reads as heat-up
 use Rattle.leafanchor.proofs.leafanchor_unpack.Reads as unpack
 use Rattle.leafanchor.proofs.leafanchor_pack.Reads as pack
+use Rattle.leafanchor.proofs.leafanchor_frame.Reads as frame
 use Rattle.leafanchor.proofs.leafanchor_open.Reads as opens
 use Rattle.leafanchor.proofs.leafanchor_step.Reads as step
 use Rattle.leafanchor.proofs.leafanchor_lookup.Reads as lookup
@@ -89,6 +92,12 @@ pack-determined κs =
       packNumbers (packOf (a .0) (now (a .1 .0)) (length (now (a .1 .1 .0)))),
       bytesAfter (a .0) (now (a .1 .0)) (now (a .1 .1 .0)),
     ))
+    (λ a r x h. two (h .0) (h .1))
+
+pub frame-determined : (κs : Lfts 2) → Determines {Z = FrameAnswer × List ℕ} (frame.Post κs) (λ r x. (r, now (x .1 .0)))
+frame-determined κs =
+    determined (frame.Post κs) (λ r x. (r, now (x .1 .0)))
+    (λ a. (framedNumbers (framedOf (now (a .0)) (length (now (a .1 .0)))), orderAfter (now (a .0)) (now (a .1 .0))))
     (λ a r x h. two (h .0) (h .1))
 
 -- ---- profiles and plans

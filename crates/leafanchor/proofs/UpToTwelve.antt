@@ -1,21 +1,21 @@
--- Of all exported calls only the one that plans halves gives 13, and only the two that check plans give 14 and 15: whatever it is
--- given, every other one's refusal is at most 12, in every outcome that its contract allows.
+-- Of all exported calls only the one that plans halves gives 13, only the two that check plans give 14 and 15, and only framing gives 16
+-- and 17: whatever it is given, every other one's refusal is at most 12, in every outcome that its contract allows.
 use Prim.Native.Nat.{ℕ, _≤_}
-use mathlib.Core.Path.{_≡_, refl, sym}
-use mathlib.Core.Logic.{_≢_}
+use mathlib.Core.Path.{_≡_, refl}
+use mathlib.Core.Bool.{Bool, _||_}
 use mathlib.Core.List.{List}
 use mathlib.Core.Option.{Option, none, some}
 use native.Mathlib.Omega.{arith}
 use contract.Lifetimes.{Lfts}
 use denote.Ref.{now}
-use lib.Dec.{T, ltb}
+use lib.Dec.{T, leb, ltb, eqb}
 use lib.IntN.{ℤ}
 use lib.ListN.{length}
 use borrow.Table.Steps.{cases}
 use Rattle.packed.specs.declared.Refusal.{Refusal}
 use Rattle.packed.specs.Judge.{Check, Verdict, fine, refused, judge}
 use Rattle.packed.specs.Packed.{countOf, orderOf}
-use Rattle.packed.specs.JudgeLaws.{without, never}
+use Rattle.packed.specs.JudgeLaws.{number-passes}
 use Rattle.packed.specs.Refusals.{headerChecks, listChecks, jobChecks, weightChecks, halvesChecks, unpackChecks, packChecks}
 use Rattle.plan.specs.Plan.{Answer, planAnswer}
 use Rattle.judge.specs.Told.{upToTen, up-to-ten}
@@ -35,8 +35,12 @@ use Rattle.extending.specs.Calls.{extendJudged, extendChecks, extension, extend
 use Rattle.planner.specs.Calls.{planChecks, plannedBy, plannedOf, planNumbers}
 use Rattle.halves.specs.Calls.{planHalvesChecks, withSeconds, lostSeconds, halvesOf, halvesNumbers}
 use Rattle.plan_writer.specs.Calls.{writeChecks, writtenBy, writtenOf}
-use Rattle.checking.specs.Answers.{legal-never}
-use Rattle.best_plan.specs.Answers.{best-never}
+use Rattle.packed_plan.specs.Plan.{sentChecks}
+use Rattle.checking.specs.Calls.{legalChecks, legalIn}
+use Rattle.checking.specs.Answers.{checked-passes}
+use Rattle.best_plan.specs.Calls.{bestChecks, bestIn}
+use Rattle.frames.specs.Frames.{givenChecks, madeChecks}
+use Rattle.framing.specs.AnswerSays.{frame-passes}
 use Rattle.ties.specs.Winning.{openingPoint, TieRule, sooner, toFirst, winnerBy}
 use Rattle.choosing.specs.Choosing.{choosingChecks, chosenBy, chosenOf, refusalOf}
 use Rattle.choosing.specs.AnswerSays.{won-by, at-most-eleven}
@@ -44,6 +48,7 @@ use Rattle.point_records.specs.Records.{flattened}
 use Rattle.packed_answers.specs.declared.HeatAnswer.{HeatAnswer}
 use Rattle.packed_answers.specs.declared.UnpackAnswer.{UnpackAnswer}
 use Rattle.packed_answers.specs.declared.PackAnswer.{PackAnswer}
+use Rattle.packed_answers.specs.declared.FrameAnswer.{FrameAnswer}
 use Rattle.packed_answers.specs.declared.OpenAnswer.{OpenAnswer}
 use Rattle.packed_answers.specs.declared.StepAnswer.{StepAnswer}
 use Rattle.plan_answers.specs.declared.LookupAnswer.{LookupAnswer}
@@ -58,6 +63,7 @@ use Rattle.leafanchor.proofs.ByHand.{RecordsPost}
 use Rattle.leafanchor.proofs.leafanchor_heat_up.Reads as heat-up
 use Rattle.leafanchor.proofs.leafanchor_unpack.Reads as unpack
 use Rattle.leafanchor.proofs.leafanchor_pack.Reads as pack
+use Rattle.leafanchor.proofs.leafanchor_frame.Reads as frame
 use Rattle.leafanchor.proofs.leafanchor_open.Reads as opens
 use Rattle.leafanchor.proofs.leafanchor_step.Reads as step
 use Rattle.leafanchor.proofs.leafanchor_lookup.Reads as lookup
@@ -196,37 +202,39 @@ others-up-to-twelve =
       chooses-first = λ κs a r x h. rw (h .0) (choose-low toFirst (now (a .0)) (now (a .1 .0)) (a .1 .1 .0) (now (a .1 .1 .1 .0)));
     }
 
--- ---- the three others
+-- ---- the four others
 
--- A number that none of the checks of planning halves has, and that is neither 0 nor 11, is never told.
-halves-never : (bytes : List ℕ) (starts work : List ℤ) (n : ℕ) → n ≢ 0 → n ≢ 11 → T (without n (planHalvesChecks bytes starts work))
-    → halvesNumbers (halvesOf bytes starts work) .plan .refusal .number ≢ n
-halves-never bytes starts work n given other absent = go (judge (planHalvesChecks bytes starts work)) refl (planAnswer (orderOf bytes))
+-- Above 12 they give their own one or two.
+abbrev own : ℕ → ℕ → ℕ → Bool
+own a b n = leb n 12 || (eqb n a || eqb n b)
+
+abbrev Own : {A R X : Type 0} → ℕ → ℕ → (A → R → X → Type 0) → (R → ℕ) → Type 0
+Own {A} {R} {X} a b allows number = (x : A) (r : R) (y : X) → allows x r y → T (own a b (number r))
+
+halves-own : (bytes : List ℕ) (starts work : List ℤ) → T (own 13 13 (halvesNumbers (halvesOf bytes starts work) .plan .refusal .number))
+unfolding planHalvesChecks headerChecks jobChecks weightChecks halvesChecks
+halves-own bytes starts work = go (judge (planHalvesChecks bytes starts work)) refl (planAnswer (orderOf bytes))
   where
     go : (v : Verdict) → judge (planHalvesChecks bytes starts work) ≡ v → (a : Option Answer)
-        → halvesNumbers (withSeconds (lostSeconds (orderOf bytes)) (plannedBy v a)) .plan .refusal .number ≢ n
-    go (refused r) e a same = never n (planHalvesChecks bytes starts work) absent e same
-    go fine e none same = other (sym same)
-    go fine e (some a) same = given (sym same)
-
--- No outcome that a contract allows has a number.
-abbrev Never : {A R X : Type 0} → ℕ → (A → R → X → Type 0) → (R → ℕ) → Type 0
-Never {A} {R} {X} n allows number = (a : A) (r : R) (x : X) → allows a r x → number r ≢ n
+        → T (own 13 13 (halvesNumbers (withSeconds (lostSeconds (orderOf bytes)) (plannedBy v a)) .plan .refusal .number))
+    go (refused r) e a = number-passes (own 13 13) (planHalvesChecks bytes starts work) tt e
+    go fine e none = tt
+    go fine e (some a) = tt
 
 pub record AboveTwelve : Type 0 where
-  pub halves-14 : (κs : Lfts 3) → Never 14 (halves.Post κs) (λ (r : HalvesAnswer). r .refusal)
-  pub halves-15 : (κs : Lfts 3) → Never 15 (halves.Post κs) (λ (r : HalvesAnswer). r .refusal)
-  pub legal-13 : (κs : Lfts 2) → Never 13 (legal.Post κs) (λ (r : VerdictAnswer). r .refusal)
-  pub best-13 : (κs : Lfts 3) → Never 13 (best.Post κs) (λ (r : VerdictAnswer). r .refusal)
+  pub halves-13 : (κs : Lfts 3) → Own 13 13 (halves.Post κs) (λ (r : HalvesAnswer). r .refusal)
+  pub legal-14-15 : (κs : Lfts 2) → Own 14 15 (legal.Post κs) (λ (r : VerdictAnswer). r .refusal)
+  pub best-14-15 : (κs : Lfts 3) → Own 14 15 (best.Post κs) (λ (r : VerdictAnswer). r .refusal)
+  pub frame-16-17 : (κs : Lfts 2) → Own 16 17 (frame.Post κs) (λ (r : FrameAnswer). r .refusal)
 
 pub above-twelve : AboveTwelve
-unfolding planHalvesChecks headerChecks jobChecks weightChecks halvesChecks
+unfolding bestChecks legalChecks sentChecks headerChecks jobChecks weightChecks givenChecks madeChecks
 above-twelve =
     record {
-      halves-14 = λ κs a r x h. rw (h .0)
-          (halves-never (now (a .0)) (now (a .1 .0)) (now (a .1 .1 .0)) 14 (λ e. omega arith) (λ e. omega arith) tt);
-      halves-15 = λ κs a r x h. rw (h .0)
-          (halves-never (now (a .0)) (now (a .1 .0)) (now (a .1 .1 .0)) 15 (λ e. omega arith) (λ e. omega arith) tt);
-      legal-13 = λ κs a r x h. rw h (legal-never (now (a .0)) (now (a .1 .0)) .4);
-      best-13 = λ κs a r x h. rw (h .0) (best-never (now (a .0)) (now (a .1 .0)) (now (a .1 .1 .0)) .3);
+      halves-13 = λ κs a r x h. rw (h .0) (halves-own (now (a .0)) (now (a .1 .0)) (now (a .1 .1 .0)));
+      legal-14-15 = λ κs a r x h. rw h
+          (checked-passes (legalChecks (now (a .0)) (now (a .1 .0))) (legalIn (now (a .0)) (now (a .1 .0))) (own 14 15) tt tt);
+      best-14-15 = λ κs a r x h. rw (h .0)
+          (checked-passes (bestChecks (now (a .0)) (now (a .1 .0)) (now (a .1 .1 .0))) (bestIn (now (a .0)) (now (a .1 .0))) (own 14 15) tt tt);
+      frame-16-17 = λ κs a r x h. rw (h .0) (frame-passes (now (a .0)) (length (now (a .1 .0))) (own 16 17) tt tt);
     }

@@ -7,6 +7,7 @@ ghost use lib.ListN.{length};
 ghost use Rattle.heat.specs.Answer.{heatingOf};
 ghost use Rattle.unpack.specs.Answer.{unpackOf, numbersAfter};
 ghost use Rattle.pack.specs.Answer.{packOf, bytesAfter};
+ghost use Rattle.framing.specs.Answer.{framedOf, orderAfter};
 ghost use Rattle.reader.specs.Reading.{openOf, stepOf};
 ghost use Rattle.profiles.specs.Answer.{lookupOf};
 ghost use Rattle.point_records.specs.Records.{flattened};
@@ -19,13 +20,15 @@ ghost use Rattle.checking.specs.Calls.{legalOf};
 ghost use Rattle.best_plan.specs.Calls.{bestOf, bestWorkAfter};
 ghost use Rattle.ties.specs.Winning.{sooner, toFirst};
 ghost use Rattle.choosing.specs.Choosing.{chosenOf, workAfter};
-ghost use Rattle.packed_answers.specs.Numbers.{heatNumbers, unpackNumbers, packNumbers, openNumbers, stepNumbers};
+ghost use Rattle.packed_answers.specs.Numbers.{heatNumbers, unpackNumbers, packNumbers, framedNumbers};
+ghost use Rattle.packed_answers.specs.Numbers.{openNumbers, stepNumbers};
 ghost use Rattle.plan_answers.specs.Numbers.{lookupNumbers, betterNumbers, extendNumbers, planFigures};
 ghost use Rattle.plan_answers.specs.Numbers.{halvesFigures};
 ghost use Rattle.opening_answers.specs.Numbers.{questionNumbers, chooseNumbers};
 ghost use Rattle.verdict_answers.specs.Numbers.{verdictNumbers};
 use opening_answers::ChooseAnswer;
 use opening_answers::QuestionAnswer;
+use packed_answers::FrameAnswer;
 use packed_answers::HeatAnswer;
 use packed_answers::OpenAnswer;
 use packed_answers::PackAnswer;
@@ -63,6 +66,15 @@ pub extern "C" fn leafanchor_pack(t0: i32, numbers: &[i32], order: &mut [u8]) ->
     ensures lent { λ r. ⌜ now (order .exit) ≡ bytesAfter t0 (now (numbers .entry)) (now (order .entry)) ⌝ }
 {
     packed_answers::pack_answer(pack::pack(t0, numbers, order))
+}
+
+// The packed order of one frame of repeating jobs, six numbers each, written to the front of `order`.
+#[no_mangle]
+pub extern "C" fn leafanchor_frame(repeating: &[i32], order: &mut [u8]) -> FrameAnswer
+    ensures answer { λ r. ⌜ r ≡ framedNumbers (framedOf (now (repeating .entry)) (length (now (order .entry)))) ⌝ }
+    ensures lent { λ r. ⌜ now (order .exit) ≡ orderAfter (now (repeating .entry)) (now (order .entry)) ⌝ }
+{
+    packed_answers::frame_answer(framing::frame(repeating, order))
 }
 
 // Whether the reader accepts some bytes, and their count of jobs.

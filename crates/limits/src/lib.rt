@@ -7,7 +7,7 @@ ghost use Rattle.packed.specs.Refusals.{weightTest, badField};
 ghost use Rattle.fields.specs.Fields.{fieldsOf};
 
 // Whether a number lies from the least to the greatest.
-fn between(least: i32, greatest: i32, z: i32) -> bool
+pub fn between(least: i32, greatest: i32, z: i32) -> bool
     ensures { λ r. ⌜ r ≡ isBetween least greatest z ⌝ }
 {
     if z < least {
@@ -24,7 +24,7 @@ pub fn is_time(z: i32) -> bool
 }
 
 // Whether a weight is within its limits: none for a critical job, 1 to 50 for any other.
-fn weight_within(critical: bool, weight: i32) -> bool
+pub fn weight_within(critical: bool, weight: i32) -> bool
     ensures { λ r. ⌜ r ≡ weightTest critical weight ⌝ }
 {
     if critical {

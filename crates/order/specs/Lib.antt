@@ -1,6 +1,7 @@
 -- Jobs, choices and what running a choice gives: the definitions by the rules, and their laws.
 pub mod Job
 pub mod Given
+pub mod Later
 pub mod Choice
 pub mod Halves
 pub mod AsWritten
@@ -14,3 +15,4 @@ pub mod Rested
 pub mod OneRate
 pub mod HalvesLaws
 pub mod Late
+pub mod LaterLaws

@@ -4,7 +4,7 @@ use Prim.Native.Nat.{ℕ, zero, suc, _+_, _-_, _≤_, _<_}
 use mathlib.Core.Path.{_≡_, refl, sym, ap, _∙_}
 use mathlib.Core.Bool.{Bool, true, false, not, cond, false≢true}
 use mathlib.Core.List.{List, [], _∷_, List·Memᴰ, List·Memᴰ·head, List·Memᴰ·tail, Memᴰ·cast}
-use mathlib.Core.Logic.{_↔_, _≢_}
+use mathlib.Core.Logic.{_↔_, _≢_, _⊎_, inl, inr}
 use mathlib.Core.Option.{Option, none, some, Option·none-ne-some, Option·some-injective}
 use native.Mathlib.Nat.{add-zero}
 use native.Mathlib.Omega.{arith}
@@ -12,13 +12,15 @@ use lib.IntN.{ℤ, pos, _+ℤ_, _-ℤ_}
 use lib.Signed.{leZ, _≤ℤ_}
 use lib.ListN.{length, getElem?}
 use borrow.Author.Tests.{not-true}
+use borrow.Table.Steps.{cases}
 use Rattle.seconds.specs.Limits.{rest}
 use Rattle.seconds.specs.Signed.{signed, add-is, sub-is, max-is, min-is}
-use Rattle.seconds.specs.Ranges.{minZ, InFree}
+use Rattle.seconds.specs.Ranges.{maxZ, minZ, InFree}
 use Rattle.order.specs.Job.{Rate, Job, oneRate, Point, startAt, rateOf, finishAt, allowedAt, freeAt, gainAt}
 use Rattle.order.specs.Job.{allowed, busFree, gainOf, lossOf, upTo, picks, move}
 use Rattle.order.specs.Choice.{startOf}
 use Rattle.order.specs.Given.{Covers}
+use Rattle.order.specs.Later.{later}
 use Rattle.order.specs.Within.{RateWithin, JobWithin}
 
 -- ---- what is allowed, in the words of R6
@@ -341,3 +343,87 @@ busFree-in-range j (suc k) t w a h = go (rateOf j k) a
     go : (o : Option Rate) → allowedAt j o t ≡ true → InFree (freeAt j o t)
     go none a = absurd (false≢true a)
     go (some r) a = omega (signed, later-at j (some r) t, add-is (finishAt j r t) (pos rest), w .deadline .high)
+
+-- ---- a job set later, and the bus free as much later: every pick does the same as much later
+
+max-later : (x y d : ℤ) → maxZ (x +ℤ d) (y +ℤ d) ≡ maxZ x y +ℤ d
+max-later x y d =
+    omega (signed, max-is (x +ℤ d) (y +ℤ d), max-is x y, add-is x d, add-is y d, add-is (maxZ x y) d)
+
+sum-later : (x d y : ℤ) → (x +ℤ d) +ℤ y ≡ (x +ℤ y) +ℤ d
+sum-later x d y = omega (signed, add-is x d, add-is (x +ℤ d) y, add-is x y, add-is (x +ℤ y) d)
+
+test-later : (x y d : ℤ) → leZ (x +ℤ d) (y +ℤ d) ≡ leZ x y
+test-later x y d = cases (leZ x y) (λ e. passed e ∙ sym e) (λ e. failed e ∙ sym e)
+  where
+    passed : leZ x y ≡ true → leZ (x +ℤ d) (y +ℤ d) ≡ true
+    passed e = omega (signed, add-is x d, add-is y d)
+
+    failed : leZ x y ≡ false → leZ (x +ℤ d) (y +ℤ d) ≡ false
+    failed e = omega (signed, add-is x d, add-is y d)
+
+module _ (d : ℤ) (n : ℕ) (j : Job) where
+  finish-at-later : (r : Rate) (t : ℤ) → finishAt (later d n j) r (t +ℤ d) ≡ finishAt j r t +ℤ d
+  finish-at-later r t =
+      ap (λ (s : ℤ). s +ℤ pos (r .takes)) (max-later (j .ready) t d) ∙ sum-later (startAt j t) d (pos (r .takes))
+
+  allowed-at-later : (o : Option Rate) (t : ℤ) → allowedAt (later d n j) o (t +ℤ d) ≡ allowedAt j o t
+  allowed-at-later none t = refl
+  allowed-at-later (some r) t =
+      ap (λ (f : ℤ). leZ f (j .deadline +ℤ d)) (finish-at-later r t) ∙ test-later (finishAt j r t) (j .deadline) d
+
+  free-at-later : (o : Option Rate) (t : ℤ) → freeAt (later d n j) o (t +ℤ d) ≡ freeAt j o t +ℤ d
+  free-at-later none t = refl
+  free-at-later (some r) t =
+      ap (λ (f : ℤ). f +ℤ pos rest) (finish-at-later r t) ∙ sum-later (finishAt j r t) d (pos rest)
+
+  -- It is allowed where it was allowed,
+  pub later-allowed : (x : ℕ) (t : ℤ) → allowed (later d n j) x (t +ℤ d) ≡ allowed j x t
+  later-allowed zero t = refl
+  later-allowed (suc k) t = allowed-at-later (rateOf j k) t
+
+  -- it leaves the bus free as much later,
+  pub later-free : (x : ℕ) (t : ℤ) → busFree (later d n j) x (t +ℤ d) ≡ busFree j x t +ℤ d
+  later-free zero t = refl
+  later-free (suc k) t = free-at-later (rateOf j k) t
+
+  -- and it counts the same weight.
+  pub later-gain : (x : ℕ) → gainOf (later d n j) x ≡ gainOf j x
+  later-gain zero = refl
+  later-gain (suc k) = refl
+
+-- ---- a job that is not ready before a time s, with the bus free at s or before: a kept job waits until it is ready
+
+module _ (j : Job) {s t : ℤ} (ready : s ≤ℤ j .ready) (h : t ≤ℤ s) where
+  start-waits : startAt j t ≡ startAt j s
+  start-waits = omega (signed, max-is (j .ready) t, max-is (j .ready) s)
+
+  allowed-at-waits : (o : Option Rate) → allowedAt j o t ≡ allowedAt j o s
+  allowed-at-waits none = refl
+  allowed-at-waits (some r) = ap (λ (z : ℤ). leZ (z +ℤ pos (r .takes)) (j .deadline)) start-waits
+
+  free-at-waits : (o : Option Rate) → (freeAt j o t ≡ freeAt j o s) ⊎ ((freeAt j o t ≡ t) × (freeAt j o s ≡ s))
+  free-at-waits none = inr (refl, refl)
+  free-at-waits (some r) = inl (ap (λ (z : ℤ). (z +ℤ pos (r .takes)) +ℤ pos rest) start-waits)
+
+  -- A pick is allowed from both or from neither,
+  pub waits-allowed : (x : ℕ) → allowed j x t ≡ allowed j x s
+  waits-allowed zero = refl
+  waits-allowed (suc k) = allowed-at-waits (rateOf j k)
+
+  -- and leaves the bus free at the same time, or when it was.
+  pub waits-free : (x : ℕ) → (busFree j x t ≡ busFree j x s) ⊎ ((busFree j x t ≡ t) × (busFree j x s ≡ s))
+  waits-free zero = inr (refl, refl)
+  waits-free (suc k) = free-at-waits (rateOf j k)
+
+-- ---- a job whose deadline and rest are past by a time F, with the bus free by F
+
+-- An allowed pick leaves the bus free by F again.
+pub free-by : (j : Job) (x : ℕ) {t F : ℤ} → (j .deadline +ℤ pos rest) ≤ℤ F → t ≤ℤ F → allowed j x t ≡ true
+    → busFree j x t ≤ℤ F
+free-by j zero until h a = h
+free-by j (suc k) {t} {F} until h a = go (rateOf j k) a
+  where
+    go : (o : Option Rate) → allowedAt j o t ≡ true → freeAt j o t ≤ℤ F
+    go none a = absurd (false≢true a)
+    go (some r) a = omega (signed, until, add-is (finishAt j r t) (pos rest), add-is (j .deadline) (pos rest))

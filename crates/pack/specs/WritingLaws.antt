@@ -12,8 +12,6 @@ use Rattle.packed.specs.Places.{flat}
 use Rattle.packed.specs.PlacesLaws.{flat-zero, flat-more, length-flat, fill-on}
 use Rattle.packed.specs.Packed.{jobCount, fieldsAt, packedHeader, packedJob, packOrder}
 use Rattle.packed.specs.PackedLaws.{length-packedHeader, length-packedJob, packed-is, length-packed}
-use Rattle.fields.specs.Fields.{fieldsOf}
-use Rattle.fields.specs.declared.Job.{Job}
 use Rattle.pack.specs.Writing.{firstRecords}
 
 module _ (numbers : List ℤ) (was : List ℕ) where
@@ -44,14 +42,14 @@ module _ (numbers : List ℤ) (was : List ℕ) where
   unfolding firstRecords
   written-length k h = rw (length-append, front-length k (omega arith), length-drop) (omega arith)
 
-  -- One job more.
-  pub one-more : (k : ℕ) (j : Job) → 4 ≤ length was → fieldsOf j ≡ fieldsAt numbers k
-      → take (4 + 8 * k) (firstRecords numbers k was) ++ bytesOf 8 (encode jobLayout (fieldsOf j))
+  -- One job more, by its numbers.
+  pub one-more : (k : ℕ) (six : List ℤ) → 4 ≤ length was → six ≡ fieldsAt numbers k
+      → take (4 + 8 * k) (firstRecords numbers k was) ++ bytesOf 8 (encode jobLayout six)
       ++ drop (4 + 8 * k + 8) (firstRecords numbers k was) ≡ firstRecords numbers (k + 1) was
   unfolding firstRecords packedJob
-  one-more k j h r =
+  one-more k six h r =
       let e : 4 + 8 * (k + 1) ≡ 4 + 8 * k + 8 = omega arith in
       let done : List ℕ = take 4 was ++ flat (packedJob numbers) k in
-      let job-bytes : List ℕ = bytesOf 8 (encode jobLayout (fieldsOf j)) in
+      let job-bytes : List ℕ = bytesOf 8 (encode jobLayout six) in
       fill-on done was job-bytes (4 + 8 * k) 8 (front-length k h)
       ∙ rw (e, flat-more (packedJob numbers) k, r, ← append-assoc)

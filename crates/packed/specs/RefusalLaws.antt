@@ -42,12 +42,13 @@ pub record Within (zs : List ℤ) : Type 0 where
   pub long : Between (pos 1) (pos longest) (theLength zs)
   pub deadline : InTime (theDeadline zs)
 
-all-at : (bs : List Bool) (i : ℕ) → allTrue bs ≡ true → getD bs i true ≡ true
+-- If all tests are passed, the one at a place is.
+pub all-at : (bs : List Bool) (i : ℕ) → allTrue bs ≡ true → getD bs i true ≡ true
 all-at [] i e = refl
 all-at (b ∷ bs) zero e = and-eq-true-iff b (allTrue bs) .0 e .0
 all-at (b ∷ bs) (suc i) e = all-at bs i (and-eq-true-iff b (allTrue bs) .0 e .1)
 
-test-is : {least greatest z : ℤ} → Between least greatest z → isBetween least greatest z ≡ true
+pub test-is : {least greatest z : ℤ} → Between least greatest z → isBetween least greatest z ≡ true
 test-is {least} {greatest} {z} h = between-true least greatest z .1 h
 
 -- The tests say so.
@@ -71,7 +72,7 @@ within-is zs = (there, back)
         rw (test-is (w .number), test-is (w .mark), w .weight, test-is (w .ready), test-is (w .long), test-is (w .deadline))
 
 -- The weight of either kind of job.
-weight-range : (c : Bool) (w : ℤ) → weightTest c w ≡ true → Between (pos 0) (pos heaviest) w
+pub weight-range : (c : Bool) (w : ℤ) → weightTest c w ≡ true → Between (pos 0) (pos heaviest) w
 weight-range true w e = let h = between-true (pos 0) (pos 0) w .0 e in omega signed
 weight-range false w e = let h = between-true (pos 1) (pos heaviest) w .0 e in omega signed
 

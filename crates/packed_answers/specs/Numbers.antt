@@ -10,12 +10,15 @@ use Rattle.unpack.specs.Answer.{refusalOf as unpackRefusal, jobsUnpacked, t0Unp
 use Rattle.unpack.specs.declared.Unpacked.{Unpacked}
 use Rattle.pack.specs.Answer.{refusalOf as packRefusal, bytesWritten}
 use Rattle.pack.specs.declared.Packed.{Packed}
+use Rattle.framing.specs.Answer.{refusalOf as frameRefusal, bytesWritten as frameWritten, frameTold}
+use Rattle.framing.specs.declared.Framed.{Framed}
 use Rattle.reader.specs.Reading.{openRefusal, openCount, readRefusal, readEnd, readNumbers}
 use Rattle.reader.specs.declared.Opened.{Opened}
 use Rattle.reader.specs.declared.Moved.{Moved}
 use Rattle.packed_answers.specs.declared.HeatAnswer.{HeatAnswer}
 use Rattle.packed_answers.specs.declared.UnpackAnswer.{UnpackAnswer}
 use Rattle.packed_answers.specs.declared.PackAnswer.{PackAnswer}
+use Rattle.packed_answers.specs.declared.FrameAnswer.{FrameAnswer}
 use Rattle.packed_answers.specs.declared.OpenAnswer.{OpenAnswer}
 use Rattle.packed_answers.specs.declared.StepAnswer.{StepAnswer}
 
@@ -35,6 +38,11 @@ abbrev pub packNumbers : Packed → PackAnswer
 packNumbers p =
     let r = packRefusal p in
     record { refusal = r .number; place = r .place; field = r .field; bytes = bytesWritten p }
+
+abbrev pub framedNumbers : Framed → FrameAnswer
+framedNumbers f =
+    let r = frameRefusal f in
+    record { refusal = r .number; place = r .place; bytes = frameWritten f; frame = frameTold f }
 
 abbrev pub openNumbers : Opened → OpenAnswer
 openNumbers o = record { refusal = openRefusal o; jobs = openCount o }

@@ -1,8 +1,9 @@
 // The answers on packed orders, and on the sampler's byte, as structs with C's layout: the refusal and the values of the rules
 // for each case. Every answer has its struct. Assumes nothing.
 ghost use mathlib.Core.Path.{_≡_};
-ghost use Rattle.packed_answers.specs.Numbers.{heatNumbers, unpackNumbers, packNumbers};
+ghost use Rattle.packed_answers.specs.Numbers.{heatNumbers, unpackNumbers, packNumbers, framedNumbers};
 ghost use Rattle.packed_answers.specs.Numbers.{openNumbers, noJob, stepNumbers};
+use framing::Framed;
 use heat::Heating;
 use pack::Packed;
 use packed::Refusal;
@@ -36,6 +37,15 @@ pub struct PackAnswer {
     pub place: usize,
     pub field: u32,
     pub bytes: usize,
+}
+
+// Framing: the bytes written, and the frame in seconds.
+#[repr(C)]
+pub struct FrameAnswer {
+    pub refusal: u32,
+    pub place: usize,
+    pub bytes: usize,
+    pub frame: u32,
 }
 
 // Opening: the count of jobs of bytes that the reader accepts.
@@ -116,6 +126,26 @@ pub fn pack_answer(packed: Packed) -> PackAnswer
             place: 0,
             field: 0,
             bytes: bytes,
+        },
+    }
+}
+
+// The answer of framing.
+pub fn frame_answer(framed: Framed) -> FrameAnswer
+    ensures { λ r. ⌜ r ≡ framedNumbers framed ⌝ }
+{
+    match framed {
+        Framed::Refused(refused) => FrameAnswer {
+            refusal: refused.number,
+            place: refused.place,
+            bytes: 0,
+            frame: 0,
+        },
+        Framed::Made(made) => FrameAnswer {
+            refusal: 0,
+            place: 0,
+            bytes: made.bytes,
+            frame: made.frame,
         },
     }
 }

@@ -1,6 +1,8 @@
 -- The plan of an order: its definition by the rules, and its laws.
 pub mod Plan
+pub mod Frames
 pub mod AsWritten
+pub mod FramesAsWritten
 pub mod Comparing
 pub mod Ranking
 pub mod TieRule
@@ -11,3 +13,4 @@ pub mod Figures
 pub mod Late
 pub mod Paper
 pub mod PaperLaws
+pub mod FramesLaws

@@ -78,7 +78,7 @@ module _ (bytes : List ℕ) (starts work : List ℤ) where
   plan-says e passed is = rw (passed, is)
 
   -- The checks are passed exactly when the order is accepted and there is room for the starts and the work area.
-  plan-passed : planVerdict bytes starts work ≡ fine
+  pub plan-passed : planVerdict bytes starts work ≡ fine
       ↔ ((judge (orderChecks bytes) ≡ fine) × (countOf bytes ≤ length starts) × (area ≤ length work))
   unfolding planChecks
   plan-passed =

@@ -58,3 +58,10 @@ halvesApart = 32
 
 abbrev pub secondsPerWeight : ℕ
 secondsPerWeight = 60
+
+-- The most repeating jobs, and the longest frame of them, in seconds: a day.
+abbrev pub mostRepeating : ℕ
+mostRepeating = 16
+
+abbrev pub longestFrame : ℕ
+longestFrame = 86400

@@ -5,11 +5,12 @@ use mathlib.Core.Path.{_≡_, refl}
 use mathlib.Core.List.{List, [], _∷_, map}
 use lib.IntN.{ℤ, pos, negsuc}
 use Rattle.seconds.specs.Limits.{rest, earliest, latest, latestFree, highestNumber, longest, heaviest, mostWeight, mostJobs}
-use Rattle.seconds.specs.Limits.{mostPoints, leftOut, coldest, highestHalf, halvesApart, secondsPerWeight}
+use Rattle.seconds.specs.Limits.{mostPoints, leftOut, coldest, highestHalf, halvesApart, secondsPerWeight, mostRepeating, longestFrame}
 use Rattle.order.specs.Choice.{mask}
 use Rattle.packed.specs.Layout.{widths, headerLayout, jobLayout, headerBytes, jobBytes, jobNumbers}
 use Rattle.packed.specs.Judge.{Check}
 use Rattle.packed.specs.Refusals.{headerChecks, listChecks, jobChecks, weightChecks, halvesChecks, unpackChecks, packChecks}
+use Rattle.frames.specs.Frames.{repeatingNumbers, givenChecks, madeChecks, frameChecks}
 use Rattle.profiles.specs.Numbers.{mostNumbers}
 use Rattle.area.specs.Area.{rowSize, area}
 use Rattle.reader.specs.Reading.{stepChecks}
@@ -79,6 +80,9 @@ figures =
     ∷ is (pos (padBits 2)) (pos 4)
     ∷ is (pos (padBits 3)) (pos 2)
     ∷ is (pos (padBits 4)) (pos 0)
+    -- R24, R41, R42: the numbers of the most repeating jobs, and the longest frame
+    ∷ is (pos (repeatingNumbers * mostRepeating)) (pos 96)
+    ∷ is (pos longestFrame) (pos 86400)
     ∷ []
 
 -- Every name stands for its figure.
@@ -108,6 +112,8 @@ module _ (bytes other : List ℕ) (t0 : ℤ) (profile given out work : List ℤ)
       -- unpack, pack
       record { checks = unpackChecks bytes room; refusals = 1 ∷ 2 ∷ 3 ∷ 4 ∷ 5 ∷ 6 ∷ 7 ∷ 9 ∷ 10 ∷ [] }
       ∷ record { checks = packChecks t0 given room; refusals = 3 ∷ 4 ∷ 5 ∷ 6 ∷ 7 ∷ 9 ∷ 10 ∷ [] }
+      -- frame
+      ∷ record { checks = frameChecks given room; refusals = 3 ∷ 4 ∷ 16 ∷ 17 ∷ 3 ∷ 9 ∷ 10 ∷ [] }
       -- the reader: open, step
       ∷ record { checks = headerChecks bytes; refusals = 1 ∷ 2 ∷ 3 ∷ 4 ∷ 5 ∷ [] }
       ∷ record { checks = stepChecks bytes place; refusals = 1 ∷ 2 ∷ 3 ∷ 4 ∷ 5 ∷ 6 ∷ [] }
@@ -132,5 +138,5 @@ module _ (bytes other : List ℕ) (t0 : ℤ) (profile given out work : List ℤ)
   -- Each call judges these, in this sequence.
   pub judged-hold : map (λ (j : Judged). numbers (j .checks)) judged ≡ map (λ (j : Judged). j .refusals) judged
   unfolding headerChecks listChecks jobChecks weightChecks halvesChecks extendJudged extendChecks planChecks planHalvesChecks
-      sentChecks writeChecks legalChecks bestChecks choosingChecks
+      sentChecks writeChecks legalChecks bestChecks choosingChecks givenChecks madeChecks
   judged-hold = refl

@@ -4,3 +4,4 @@ pub mod Examples
 pub mod Rest
 pub mod Halves
 pub mod Plans
+pub mod Frames

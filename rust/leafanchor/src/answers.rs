@@ -68,6 +68,13 @@ answers! {
         /// Bytes written.
         bytes: usize,
     }
+    /// The answer of [`frame`](crate::calls::frame).
+    FrameAnswer(refusal, place) {
+        /// Bytes written.
+        bytes: usize,
+        /// The frame's seconds: the least common multiple of the periods.
+        frame: u32,
+    }
     /// The answer of [`open`](crate::calls::open).
     OpenAnswer(refusal) {
         /// How many jobs the order has.

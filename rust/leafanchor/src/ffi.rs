@@ -8,8 +8,8 @@
 #![allow(unsafe_code)]
 
 use crate::answers::{
-    BetterAnswer, ChooseAnswer, ExtendAnswer, HalvesAnswer, HeatAnswer, LookupAnswer, OpenAnswer, PackAnswer,
-    PlanAnswer, Point, QuestionAnswer, StepAnswer, UnpackAnswer, VerdictAnswer,
+    BetterAnswer, ChooseAnswer, ExtendAnswer, FrameAnswer, HalvesAnswer, HeatAnswer, LookupAnswer,
+    OpenAnswer, PackAnswer, PlanAnswer, Point, QuestionAnswer, StepAnswer, UnpackAnswer, VerdictAnswer,
 };
 
 #[rustfmt::skip]
@@ -21,6 +21,9 @@ extern "C" {
     fn leafanchor_pack(
         t0: i32, numbers: *const i32, numbers_len: usize, order: *mut u8, order_len: usize,
     ) -> PackAnswer;
+    fn leafanchor_frame(
+        repeating: *const i32, repeating_len: usize, order: *mut u8, order_len: usize,
+    ) -> FrameAnswer;
     fn leafanchor_open(order: *const u8, order_len: usize) -> OpenAnswer;
     fn leafanchor_step(order: *const u8, order_len: usize, place: usize) -> StepAnswer;
     fn leafanchor_lookup(profile: *const i32, profile_len: usize, t: i32) -> LookupAnswer;
@@ -85,6 +88,13 @@ pub fn unpack(order: &[u8], numbers: &mut [i32]) -> UnpackAnswer {
 pub fn pack(t0: i32, numbers: &[i32], order: &mut [u8]) -> PackAnswer {
     // SAFETY: the numbers are only read, the bytes are lent alone; both lengths are the slices' own.
     unsafe { leafanchor_pack(t0, numbers.as_ptr(), numbers.len(), order.as_mut_ptr(), order.len()) }
+}
+
+/// Packs the order of one frame of repeating jobs, six numbers a job, into the front of `order`: 4 bytes, and 8 a
+/// repeat (R43). Refusals 3 and 4 of the numbers, 16 and 17, then 3 and 9 of the order made, then 10.
+pub fn frame(repeating: &[i32], order: &mut [u8]) -> FrameAnswer {
+    // SAFETY: the numbers are only read, the bytes are lent alone; both lengths are the slices' own.
+    unsafe { leafanchor_frame(repeating.as_ptr(), repeating.len(), order.as_mut_ptr(), order.len()) }
 }
 
 /// Whether a reader may stand over these bytes, and how many jobs it will meet. Refusals 1 to 5.

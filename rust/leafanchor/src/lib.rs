@@ -1,12 +1,13 @@
 //! Plans the work on the one service bus of an air-taxi stand: the safe face of the proved library
 //! libleafanchor.a.
 //!
-//! An [`Order`] is packed bytes that the library has checked once, or that it has packed from [`Job`]s. It
-//! gives its jobs, its [`Plan`] and its [`Profile`], and where its checks are split into halves its
-//! [`HalvesPlan`]; profiles are extended, joined and looked up. It writes its plan in packed bytes, and says of
-//! another planner's bytes whether that plan is legal and whether it is best. Whatever is not in order is a
-//! [`Refusal`]. Nothing here allocates but [`WorkArea::boxed`] and [`OrderBuf`], an order that owns its bytes; planning
-//! works in the caller's [`WorkArea`]. Times are whole signed seconds, and weights are `u32` in every type.
+//! An [`Order`] is packed bytes that the library has checked once, or that it has packed from [`Job`]s, or from
+//! [`Repeating`] jobs for one frame. It gives its jobs, its [`Plan`] and its [`Profile`], and where its checks are
+//! split into halves its [`HalvesPlan`]; profiles are extended, joined and looked up. It writes its plan in packed
+//! bytes, and says of another planner's bytes whether that plan is legal and whether it is best. Whatever is not in
+//! order is a [`Refusal`]. Nothing here allocates but [`WorkArea::boxed`] and [`OrderBuf`], an order that owns its
+//! bytes; planning works in the caller's [`WorkArea`]. Times are whole signed seconds, and weights are `u32` in every
+//! type.
 //!
 //! A job's finish is its start plus its length. The contactor rests 15 seconds after every job: the bus is
 //! free 15 seconds after the finish, and the next job kept starts then at the earliest. A deadline binds the
@@ -58,6 +59,7 @@ mod plan;
 mod profile;
 mod reader;
 mod refusal;
+mod repeating;
 mod work;
 
 pub use answers::Point;
@@ -72,6 +74,7 @@ pub use plan::{HalvesPlan, KeptPlaces, Plan};
 pub use profile::Profile;
 pub use reader::Reader;
 pub use refusal::Refusal;
+pub use repeating::Repeating;
 pub use work::WorkArea;
 
 /// The library's calls as they stand, for those who lend their own buffers: they take any bytes and any
@@ -91,12 +94,12 @@ pub use work::WorkArea;
 /// ```
 pub mod calls {
     pub use crate::answers::{
-        BetterAnswer, ChooseAnswer, ExtendAnswer, HalvesAnswer, HeatAnswer, LookupAnswer, OpenAnswer,
-        PackAnswer, PlanAnswer, Point, QuestionAnswer, StepAnswer, UnpackAnswer, VerdictAnswer,
+        BetterAnswer, ChooseAnswer, ExtendAnswer, FrameAnswer, HalvesAnswer, HeatAnswer, LookupAnswer,
+        OpenAnswer, PackAnswer, PlanAnswer, Point, QuestionAnswer, StepAnswer, UnpackAnswer, VerdictAnswer,
     };
     pub use crate::ffi::{
-        best, better_of, choose, choose_first, extend, heat_up, legal, lookup, lookup_records, open, pack,
-        plan, plan_halves, question, question_first, step, unpack, write_plan,
+        best, better_of, choose, choose_first, extend, frame, heat_up, legal, lookup, lookup_records, open,
+        pack, plan, plan_halves, question, question_first, step, unpack, write_plan,
     };
 }
 
@@ -115,6 +118,12 @@ pub const ORDER_BYTES: usize = HEADER_BYTES + 8 * MOST_JOBS;
 pub const JOB_NUMBERS: usize = 6;
 /// Numbers of the longest unpacked order.
 pub const ORDER_NUMBERS: usize = JOB_NUMBERS * MOST_JOBS;
+/// Repeating jobs of one frame, at most.
+pub const MOST_REPEATING: usize = 16;
+/// Numbers of so many repeating jobs.
+pub const REPEATING_NUMBERS: usize = JOB_NUMBERS * MOST_REPEATING;
+/// Seconds of the longest frame, and of the longest period.
+pub const LONGEST_FRAME: u32 = 86_400;
 /// Bytes of the longest packed plan: 48 bits for the jobs kept, and 18 for the start of each.
 pub const PLAN_BYTES: usize = (48 + 18 * MOST_JOBS) / 8;
 /// Points of one profile, at most.

@@ -6,9 +6,13 @@ use crate::packed_plan::PackedPlan;
 use crate::plan::{HalvesPlan, Plan};
 use crate::profile::Profile;
 use crate::refusal::Refusal;
+use crate::repeating::Repeating;
 use crate::work::WorkArea;
-use crate::{HEADER_BYTES, JOB_NUMBERS, MOST_JOBS, ORDER_NUMBERS};
+use crate::{HEADER_BYTES, JOB_NUMBERS, MOST_JOBS, MOST_REPEATING, ORDER_NUMBERS, REPEATING_NUMBERS};
 use core::fmt;
+
+/// Bytes of a packed job.
+const RECORD_BYTES: usize = 8;
 
 /// A packed order that passed every check of an order, over the caller's bytes.
 ///
@@ -84,6 +88,49 @@ impl<'a> Order<'a> {
         }
         let answer = calls::pack(t0, &numbers[..length], room).accepted()?;
         Ok(Order { bytes: &room[..answer.bytes], t0, count: jobs.len() })
+    }
+
+    /// Packs the order of one frame of repeating jobs into the front of `room`, and gives it with the frame's seconds
+    /// (R43); [`ORDER_BYTES`](crate::ORDER_BYTES) are enough for any frame.
+    ///
+    /// The frame is the least common multiple of the periods, 1 without jobs. Each job is ready at its phase and every
+    /// period from there, below the frame. The order has these repeats by ready time and then by the place given,
+    /// numbered 0, 1, 2 and so on; its t0 is 0. Two frames joined, the second set one frame later, keep twice what one
+    /// keeps.
+    ///
+    /// ```
+    /// use leafanchor::{Order, Repeating, WorkArea, LONGEST_FRAME, ORDER_BYTES};
+    ///
+    /// let checks = [
+    ///     Repeating::critical().phase(0).length(60).deadline(300).period(1200), // a coolant pump
+    ///     Repeating::optional().weight(5).phase(100).length(120).deadline(400).period(1800), // a fan
+    /// ];
+    /// let mut room = [0; ORDER_BYTES];
+    /// let (order, frame) = Order::frame(&checks, &mut room)?;
+    /// assert_eq!((frame, LONGEST_FRAME / frame), (3600, 24));
+    /// assert!(order.jobs().map(|job| job.ready).eq([0, 100, 1200, 1900, 2400]));
+    /// assert_eq!(order.plan(&mut WorkArea::new())?.kept_weight, 10);
+    ///
+    /// // The fan's deadline and the rest after it would pass its period.
+    /// let late = Order::frame(&[checks[0], checks[1].phase(1386)], &mut room).unwrap_err();
+    /// assert_eq!(late.to_string(), "job at place 1: out of range, or its deadline late");
+    /// # Ok::<(), leafanchor::Refusal>(())
+    /// ```
+    ///
+    /// # Errors
+    /// Refusal 3 for more than 16 repeating jobs, 16 with the place of the first that is out of range or late, 17, then
+    /// 3 and 9 of the order made, then 10; `room` then stays as it was.
+    pub fn frame(repeating: &[Repeating], room: &'a mut [u8]) -> Result<(Self, u32), Refusal> {
+        // Room for one job more than a frame has: of too many jobs that many are enough for refusal 3.
+        let mut numbers = [0; REPEATING_NUMBERS + JOB_NUMBERS];
+        let given = repeating.iter().take(MOST_REPEATING + 1);
+        let length = JOB_NUMBERS * given.len();
+        for (place, job) in numbers.chunks_exact_mut(JOB_NUMBERS).zip(given) {
+            place.copy_from_slice(&job.numbers());
+        }
+        let answer = calls::frame(&numbers[..length], room).accepted()?;
+        let bytes = &room[..answer.bytes];
+        Ok((Order { bytes, t0: 0, count: (bytes.len() - HEADER_BYTES) / RECORD_BYTES }, answer.frame))
     }
 
     /// The order in bytes that were checked before, with the bus-free time and the number of jobs that they hold.

@@ -3,6 +3,7 @@
 use crate::job::Job;
 use crate::order::Order;
 use crate::refusal::Refusal;
+use crate::repeating::Repeating;
 use crate::ORDER_BYTES;
 use alloc::vec::Vec;
 use core::fmt;
@@ -40,6 +41,15 @@ impl OrderBuf {
     /// Refusals 3, 5 to 7 and 9.
     pub fn pack(t0: i32, jobs: &[Job]) -> Result<Self, Refusal> {
         Order::pack(t0, jobs, &mut [0; ORDER_BYTES]).map(OrderBuf::from)
+    }
+
+    /// Packs the order of one frame of repeating jobs, and gives it with the frame's seconds, as
+    /// [`Order::frame`] does.
+    ///
+    /// # Errors
+    /// Refusals 3, 16, 17 and 9.
+    pub fn frame(repeating: &[Repeating]) -> Result<(Self, u32), Refusal> {
+        Order::frame(repeating, &mut [0; ORDER_BYTES]).map(|(order, frame)| (OrderBuf::from(order), frame))
     }
 
     /// The order over these bytes, which are not checked again.

@@ -12,7 +12,8 @@ macro_rules! refusals {
         $phrase:literal $(| $told:literal $(| $named:literal)?)?,
     )*) => {
         /// Why a call refused. Where several reasons apply, the one of the lowest number is given, but for 13,
-        /// 14 and 15, which come after 9 and before 10.
+        /// 14 and 15, which come after 9 and before 10, and for a frame, where 16 and 17 come behind 3 and 4 of
+        /// the repeating jobs, before 3 and 9 of the order made.
         ///
         /// Later versions may add reasons, and figures to the reasons that are about one job.
         ///
@@ -118,7 +119,7 @@ macro_rules! refusals {
 refusals! {
     1 OrderTooShort "the packed order is under 4 bytes",
     2 SpareBits "the header's spare bits are not zero",
-    3 TooManyJobs "there are more than 48 jobs",
+    3 TooManyJobs "there are more than 48 jobs, or more than 16 that repeat",
     4 WrongLength "the length does not fit the number of jobs",
     5 BusFreeOutOfRange "the bus-free time is out of range",
     6 JobOutOfRange { place, field }
@@ -134,6 +135,10 @@ refusals! {
         "the order is not of halves" | "job at place {place}: it does not fit an order of halves",
     14 PlanWrongLength "the length does not fit the packed plan's mask",
     15 PlanStrayBits "the packed plan has bits set that must be zero",
+    16 RepeatingNotValid { place }
+        "a repeating job's field is out of range, or its deadline late"
+        | "job at place {place}: out of range, or its deadline late",
+    17 FrameTooLong "the frame is longer than 86,400 seconds",
 }
 
 #[cfg(feature = "std")]
@@ -158,9 +163,9 @@ mod tests {
     }
 
     #[test]
-    fn refusals_6_7_and_13_have_a_place_and_6_alone_a_field() {
-        for number in 1..=15 {
-            let place = if [6, 7, 13].contains(&number) { Some(3) } else { None };
+    fn refusals_6_7_13_and_16_have_a_place_and_6_alone_a_field() {
+        for number in 1..=17 {
+            let place = if [6, 7, 13, 16].contains(&number) { Some(3) } else { None };
             let field = if number == 6 { Some(Field::Length) } else { None };
             assert_eq!((refused(number).place(), refused(number).field()), (place, field));
             assert_eq!(Refusal::check(number, None, 5).unwrap_err().place(), None);

@@ -1,8 +1,10 @@
-//! Inputs of every kind: orders, orders of halves and profiles that are in range, and the same with one or two
-//! damages.
+//! Inputs of every kind: orders, orders of halves, repeating jobs and profiles that are in range, and the same with one
+//! or two damages.
 
 use leafanchor::calls::Point;
-use trials::{halves_of, order_of, packed, profile_of, Job, Order, Random, Style};
+use trials::{
+    halves_of, order_of, packed, profile_of, repeating_of, Job, Most, Order, Random, Repeating, Style,
+};
 
 /// Numbers at and past the ends of ranges.
 const STRANGE: [i32; 18] = [
@@ -265,6 +267,150 @@ pub fn numbers(random: &mut Random) -> (i32, Vec<i32>) {
         numbers.resize_with(length, || random.one_of(&STRANGE));
     }
     (order.t0, numbers)
+}
+
+/// Numbers at and past the ends of a repeating job's ranges, and some whose sums pass 32 bits.
+const STRANGE_TO_REPEAT: [i32; 24] = [
+    i32::MIN,
+    i32::MIN + 15,
+    -86_400,
+    -1,
+    0,
+    1,
+    2,
+    15,
+    16,
+    50,
+    51,
+    10_000,
+    10_001,
+    65_536,
+    86_385,
+    86_386,
+    86_399,
+    86_400,
+    86_401,
+    i32::MAX - 86_415,
+    i32::MAX - 16,
+    i32::MAX - 15,
+    i32::MAX - 1,
+    i32::MAX,
+];
+
+/// Repeating jobs whose frame is an order in range; of many two frames are too.
+pub fn repeating(random: &mut Random) -> Vec<Repeating> {
+    let n = match random.below(20) {
+        0 => 16,
+        1..=5 => random.below(17),
+        _ => 1 + random.below(6),
+    };
+    let repeats = random.one_of(&[48, 24, 24, 16]).max(n);
+    let weight = random.one_of(&[300, 150, 150, 60]);
+    repeating_of(random, n, Most { repeats, weight })
+}
+
+/// Numbers of repeating jobs, half of them with a frame in range.
+pub fn repeating_numbers(random: &mut Random) -> Vec<i32> {
+    let mut jobs = repeating(random);
+    match random.below(40) {
+        0..=19 => {}
+        20..=23 => jobs = at_48_repeats(random),
+        24..=27 => jobs = at_300(random),
+        28 => jobs.iter_mut().for_each(|job| job.period = random.within(16, 86_400)),
+        29 if jobs.len() > 1 => {
+            // Their frame is hardly too long, or their product passes 32 bits.
+            let (period, other) =
+                random.one_of(&[(83, 1_041), (28_805, 17_283), (65_536, 65_537), (86_400, 86_399)]);
+            jobs[0] = Repeating { phase: 0, deadline: 1, period, ..jobs[0] };
+            jobs[1] = Repeating { phase: 0, deadline: 1, period: other, ..jobs[1] };
+        }
+        30..=32 if !jobs.is_empty() => {
+            let place = random.below(jobs.len());
+            end_with_period(random, &mut jobs[place]);
+        }
+        _ => damage_repeating(random, &mut jobs),
+    }
+    let mut numbers: Vec<i32> = jobs.iter().flat_map(Repeating::numbers).collect();
+    if random.once_in(16) {
+        numbers.truncate(random.below(numbers.len() + 1));
+    }
+    if random.once_in(24) {
+        let length = random.one_of(&[90, 95, 96, 97, 102, 288, 600]);
+        numbers.resize_with(length, || random.one_of(&STRANGE_TO_REPEAT));
+    }
+    numbers
+}
+
+/// Makes a job's rest end with its period, a second before it or a second past it.
+fn end_with_period(random: &mut Random, job: &mut Repeating) {
+    let late = random.within(-1, 1);
+    if random.once_in(2) {
+        job.phase = job.period - 15 - job.deadline + late;
+    } else {
+        job.deadline = job.period - 15 - job.phase + late;
+    }
+}
+
+/// Puts strange numbers into one to three fields, often of one job.
+fn damage_repeating(random: &mut Random, jobs: &mut [Repeating]) {
+    if jobs.is_empty() {
+        return;
+    }
+    let mut place = random.below(jobs.len());
+    for _ in 0..1 + random.below(3) {
+        let (job, strange) = (&mut jobs[place], random.one_of(&STRANGE_TO_REPEAT));
+        match random.below(6) {
+            0 => job.critical = strange,
+            1 => job.weight = strange,
+            2 => job.phase = strange,
+            3 => job.length = strange,
+            4 => job.deadline = strange,
+            _ => job.period = strange,
+        }
+        if random.once_in(2) {
+            place = random.below(jobs.len());
+        }
+    }
+}
+
+/// The least common multiple of periods, which divide one frame.
+fn frame_of(jobs: &[Repeating]) -> i32 {
+    let longest = jobs.iter().map(|job| job.period).max().unwrap_or(16);
+    (1..).map(|times| times * longest).find(|frame| jobs.iter().all(|job| frame % job.period == 0)).unwrap()
+}
+
+/// Repeating jobs with 47 to 50 repeats, often 16 jobs: jobs that come once a frame fill them up.
+fn at_48_repeats(random: &mut Random) -> Vec<Repeating> {
+    let n = 1 + random.below(8);
+    let mut jobs = repeating_of(random, n, Most { repeats: 48, weight: 250 });
+    let frame = frame_of(&jobs);
+    let wanted = random.within(47, 50);
+    let repeats: i32 = jobs.iter().map(|job| frame / job.period).sum();
+    let once = Repeating { critical: 1, weight: 0, phase: 0, length: 1, deadline: 1, period: frame };
+    for _ in repeats..wanted.min(repeats + 16 - n as i32) {
+        let phase = random.within(0, frame - 16);
+        let at = random.below(jobs.len() + 1);
+        jobs.insert(at, Repeating { phase, ..once });
+    }
+    jobs
+}
+
+/// Repeating jobs whose weights sum to 299 to 302, where there are jobs enough to come there.
+fn at_300(random: &mut Random) -> Vec<Repeating> {
+    let n = 2 + random.below(14);
+    let mut jobs = repeating_of(random, n, Most { repeats: 48, weight: 300 });
+    let frame = frame_of(&jobs);
+    let times: Vec<i32> = jobs.iter().map(|job| frame / job.period).collect();
+    let mut left =
+        random.within(299, 302) - jobs.iter().zip(&times).map(|(job, times)| job.weight * times).sum::<i32>();
+    for _ in 0..600 {
+        let place = random.below(n);
+        if jobs[place].critical == 0 && jobs[place].weight < 50 && times[place] <= left {
+            jobs[place].weight += 1;
+            left -= times[place];
+        }
+    }
+    jobs
 }
 
 /// A profile as alternating numbers, two thirds of them valid.

@@ -2,8 +2,8 @@
 //! side.
 
 use leafanchor::calls::{
-    BetterAnswer, ChooseAnswer, ExtendAnswer, HalvesAnswer, HeatAnswer, LookupAnswer, OpenAnswer, PackAnswer,
-    PlanAnswer, Point, QuestionAnswer, StepAnswer, UnpackAnswer, VerdictAnswer,
+    BetterAnswer, ChooseAnswer, ExtendAnswer, FrameAnswer, HalvesAnswer, HeatAnswer, LookupAnswer,
+    OpenAnswer, PackAnswer, PlanAnswer, Point, QuestionAnswer, StepAnswer, UnpackAnswer, VerdictAnswer,
 };
 use std::mem::{align_of, size_of};
 
@@ -22,6 +22,7 @@ pub fn print() {
     layout!(HeatAnswer, "heat_answer", refusal, seconds);
     layout!(UnpackAnswer, "unpack_answer", refusal, place, field, jobs, t0);
     layout!(PackAnswer, "pack_answer", refusal, place, field, bytes);
+    layout!(FrameAnswer, "frame_answer", refusal, place, bytes, frame);
     layout!(OpenAnswer, "open_answer", refusal, jobs);
     layout!(
         StepAnswer,

@@ -4,7 +4,7 @@
 use leafanchor::WORK_AREA;
 use trials::Random;
 
-/// Elements behind the lent part that no call may touch.
+/// Elements before and behind the lent part that no call may touch.
 const GUARD: usize = 8;
 
 /// A lent buffer.
@@ -17,19 +17,28 @@ pub struct Lent<T> {
 impl<T: Copy + PartialEq> Lent<T> {
     /// A buffer that lends `lent` elements; `value` gives what each holds before the call.
     pub fn new(lent: usize, value: impl FnMut() -> T) -> Self {
-        let before: Vec<T> = std::iter::repeat_with(value).take(lent + GUARD).collect();
+        let drawn: Vec<T> = std::iter::repeat_with(value).take(lent + GUARD).collect();
+        let before = [&drawn[lent..], &drawn].concat();
         Lent { now: before.clone(), before, lent }
+    }
+
+    /// A buffer that lends these elements to a call that only reads them; `value` gives what stands around them.
+    pub fn given(elements: &[T], mut value: impl FnMut() -> T) -> Self {
+        let mut elements = elements.iter();
+        Lent::new(elements.len(), || elements.next().copied().unwrap_or_else(&mut value))
     }
 
     /// The lent part.
     pub fn lend(&mut self) -> &mut [T] {
-        &mut self.now[..self.lent]
+        &mut self.now[GUARD..GUARD + self.lent]
     }
 
-    /// Whether `written` stands at the front and everything behind it is as it was, guard included.
+    /// Whether `written` stands at the front of the lent part and everything around it is as it was, guards included.
     pub fn holds(&self, written: &[T]) -> bool {
-        let (front, rest) = self.now.split_at(written.len());
-        front == written && rest == &self.before[written.len()..]
+        let end = GUARD + written.len();
+        self.now[GUARD..end] == *written
+            && self.now[..GUARD] == self.before[..GUARD]
+            && self.now[end..] == self.before[end..]
     }
 }
 

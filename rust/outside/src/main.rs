@@ -3,6 +3,7 @@
 //! `outside layout` prints how the answers are laid out.
 
 mod calls;
+mod frames;
 mod inputs;
 mod layout;
 mod lent;
@@ -26,6 +27,10 @@ const ROUNDS_OF_HALVES: usize = 5_000;
 
 /// Rounds with plans to be judged, each of about ten; one in LONG judges as many for a long order beside them.
 const ROUNDS_OF_PLANS: usize = 4_200;
+
+/// Rounds with repeating jobs; one in EVERY_ROOM tries a frame with every room beside the rest.
+const ROUNDS_OF_FRAMES: usize = 24_000;
+const EVERY_ROOM: usize = 400;
 
 fn main() -> ExitCode {
     if std::env::args().nth(1).as_deref() == Some("layout") {
@@ -68,6 +73,12 @@ fn main() -> ExitCode {
         trial.check_any_bytes();
         if round % LONG == 0 {
             trial.check_plans_of_long_order();
+        }
+    }
+    for round in 0..ROUNDS_OF_FRAMES {
+        trial.frame();
+        if round % EVERY_ROOM == 0 {
+            trial.frame_rooms();
         }
     }
     if trial.tally.report() {

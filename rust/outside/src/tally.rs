@@ -1,5 +1,6 @@
 //! Counts of what was called, what was refused and what differed.
 
+use crate::frames::Frames;
 use crate::verdicts::Verdicts;
 use std::cmp::Ordering;
 use std::collections::{BTreeMap, BTreeSet};
@@ -29,7 +30,7 @@ impl Held {
 const MANY_POINTS: u32 = 48 * 200;
 
 /// Refusals are numbered below this; 0 is none.
-const NUMBERS: usize = 16;
+const NUMBERS: usize = 18;
 
 /// Counts by refusal number.
 type Counts = [usize; NUMBERS];
@@ -62,6 +63,8 @@ pub struct Tally {
     pub fields: Fields,
     /// What the verdicts on plans turned on.
     pub verdicts: Verdicts,
+    /// What frames of repeating jobs turned on.
+    pub frames: Frames,
 }
 
 /// How often the inputs came to an edge of the contactor's rest.
@@ -228,8 +231,8 @@ impl Tally {
         }
     }
 
-    /// Prints the counts; true if nothing differed, every refusal 1 to 15 was seen over the C boundary, and so
-    /// was every edge of the rest, of halves, of ties and of verdicts and every field of refusal 6.
+    /// Prints the counts; true if nothing differed, every refusal 1 to 17 was seen over the C boundary, and so
+    /// was every edge of the rest, of halves, of ties, of verdicts and of frames and every field of refusal 6.
     pub fn report(&self) -> bool {
         print!("{:>18}", "refusal");
         (0..NUMBERS).for_each(|number| print!("{number:>8}"));
@@ -255,6 +258,7 @@ impl Tally {
         let halves_met = self.halves.report();
         let ties_met = self.ties.report();
         let verdicts_met = self.verdicts.report();
+        let frames_met = self.frames.report();
         let fields_named = self.fields.report();
         let unseen: Vec<usize> = (0..NUMBERS).filter(|&number| of_calls[number] == 0).collect();
         if !unseen.is_empty() {
@@ -268,6 +272,7 @@ impl Tally {
             && halves_met
             && ties_met
             && verdicts_met
+            && frames_met
             && fields_named
             && self.most_points > MANY_POINTS
             && [met, missed, late_plans, late_profiles].iter().all(|&seen| seen > 0)

@@ -1,7 +1,7 @@
 //! Generated orders and profiles, the same on every machine: a fixed generator, plain orders in several
 //! styles that make ties, tight windows, critical jobs and infeasible orders frequent, orders of halves, orders
-//! with many scheduling points, and a plain bit-by-bit packer of orders and plans. Beside them a way to write down
-//! the answer that a call must give.
+//! with many scheduling points, repeating jobs, and a plain bit-by-bit packer of orders and plans. Beside them a way
+//! to write down the answer that a call must give.
 
 mod answer;
 mod halves;
@@ -9,12 +9,14 @@ mod long_lists;
 mod orders;
 mod packing;
 mod random;
+mod repeating;
 
 pub use halves::halves_of;
 pub use long_lists::{dense_order, wide_order};
 pub use orders::{full_order, order_of, profile_of, Style};
 pub use packing::{packed, packed_plan};
 pub use random::Random;
+pub use repeating::{repeating_of, Most};
 
 /// A job as its six fields, which may be out of range.
 #[derive(Clone, Copy, Debug, PartialEq, Eq)]
@@ -31,6 +33,24 @@ impl Job {
     /// The fields in the order in which they are packed and unpacked.
     pub fn numbers(&self) -> [i32; 6] {
         [self.number, self.critical, self.weight, self.ready, self.length, self.deadline]
+    }
+}
+
+/// A repeating job as its six fields, which may be out of range.
+#[derive(Clone, Copy, Debug, PartialEq, Eq)]
+pub struct Repeating {
+    pub critical: i32,
+    pub weight: i32,
+    pub phase: i32,
+    pub length: i32,
+    pub deadline: i32,
+    pub period: i32,
+}
+
+impl Repeating {
+    /// The fields in the order in which they are given.
+    pub fn numbers(&self) -> [i32; 6] {
+        [self.critical, self.weight, self.phase, self.length, self.deadline, self.period]
     }
 }
 

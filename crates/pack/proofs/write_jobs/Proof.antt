@@ -75,7 +75,7 @@ loop-again c =
     let more : c .before .before .put-job .last .0 ≡ firstRecords (a .args .numbers .now) (k + 1) (a .args .bytes .now) =
     c .before .before .put-job .ensures
     ∙ ap (λ (bs : List ℕ). take (4 + 8 * k) bs ++ job-bytes ++ drop (4 + 8 * k + 8) bs) (l .loop .inv .1)
-    ∙ one-more (a .args .numbers .now) (a .args .bytes .now) k (j .job-from .result) (omega (arith, a .pre .room)) (read j) in
+    ∙ one-more (a .args .numbers .now) (a .args .bytes .now) k (fieldsOf (j .job-from .result)) (omega (arith, a .pre .room)) (read j) in
     (omega arith, more)
 
 same-length : tie.Need-same-length Inv-loop μ-loop

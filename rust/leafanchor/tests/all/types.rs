@@ -95,7 +95,8 @@ fn packing_takes_48_jobs_and_no_more() {
     assert_eq!(Order::pack(-7, &jobs(48, 1), &mut room).map(Order::count), Ok(MOST_JOBS));
     assert_eq!(Order::try_from(&room).map(|order| (order.t0(), order.count())), Ok((-7, MOST_JOBS)));
     for count in [49, 50, 64, 1000] {
-        assert_eq!(refused(&jobs(count, 1)), (3, None, "there are more than 48 jobs".to_string()));
+        let phrase = "there are more than 48 jobs, or more than 16 that repeat";
+        assert_eq!(refused(&jobs(count, 1)), (3, None, phrase.to_string()));
     }
 }
 

@@ -3,6 +3,7 @@
 //! same input.
 
 mod checking;
+mod frames;
 mod halves;
 mod long_lists;
 mod openings;
@@ -15,14 +16,15 @@ use crate::lent::Work;
 use crate::reference::{self, Point, Refused};
 use crate::tally::Tally;
 use leafanchor::calls::{self, HeatAnswer};
-use leafanchor::WorkArea;
+use leafanchor::{WorkArea, WORK_AREA};
 use trials::{answer, Random};
 
-/// What the comparisons share: the generator, the counts and the work area.
+/// What the comparisons share: the generator, the counts and the work areas.
 pub struct Trial {
     pub random: Random,
     pub tally: Tally,
     work: Work,
+    plain_work: Vec<i32>,
     typed_work: Box<WorkArea>,
 }
 
@@ -31,7 +33,8 @@ impl Trial {
     pub fn new(seed: u64) -> Self {
         let mut random = Random::new(seed);
         let work = Work::new(&mut random);
-        Trial { random, tally: Tally::default(), work, typed_work: WorkArea::boxed() }
+        let plain_work = vec![0; WORK_AREA];
+        Trial { random, tally: Tally::default(), work, plain_work, typed_work: WorkArea::boxed() }
     }
 
     /// Heat-up lengths of every byte.

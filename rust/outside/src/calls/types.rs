@@ -9,7 +9,7 @@ use crate::tally::Held;
 use leafanchor::calls::{BetterAnswer, ExtendAnswer, LookupAnswer, PlanAnswer};
 use leafanchor::{
     choose, choose_by, question, question_by, Field, Job, Opening, Order, OrderBuf, Plan, Profile, Refusal,
-    Tie, Winner, LEFT_OUT, ORDER_BYTES,
+    Repeating, Tie, Winner, LEFT_OUT, ORDER_BYTES,
 };
 use std::fmt::Debug;
 use trials::answer;
@@ -44,6 +44,25 @@ impl Trial {
         self.compare_types("Order::pack", given, wanted.clone(), &(t0, numbers));
         let given = OrderBuf::pack(t0, &jobs).map(|order| (contents(order.as_order()), order.into_bytes()));
         self.compare_types("OrderBuf::pack", given, wanted, &(t0, numbers));
+    }
+
+    /// `Order::frame` and `OrderBuf::frame` judge as the reference does, and give the order of one frame over its
+    /// packed bytes, and the frame.
+    pub(super) fn typed_frame(&mut self, numbers: &[i32]) {
+        let repeating: Option<Vec<Repeating>> = numbers.chunks(6).map(repeating_of_numbers).collect();
+        let repeating = match repeating {
+            Some(repeating) => repeating,
+            None => return, // No list of repeating jobs has these numbers.
+        };
+        let wanted = reference::frame(numbers)
+            .map(|(order, frame)| (wanted_order(&order), trials::packed(&order), frame));
+        let mut room = [0; ORDER_BYTES];
+        let given = Order::frame(&repeating, &mut room)
+            .map(|(order, frame)| (contents(order), order.bytes().to_vec(), frame));
+        self.compare_types("Order::frame", given, wanted.clone(), &numbers);
+        let given = OrderBuf::frame(&repeating)
+            .map(|(order, frame)| (contents(order.as_order()), order.into_bytes(), frame));
+        self.compare_types("OrderBuf::frame", given, wanted, &numbers);
     }
 
     /// `Order::plan` gives the reference's figures, starts, kept places and text.
@@ -234,6 +253,17 @@ fn job_of_numbers(n: &[i32]) -> Option<Job> {
         _ => return None,
     };
     Some(job.weight(weight as u32).ready(ready).length(length).deadline(deadline))
+}
+
+/// The repeating job of six numbers, if there is one.
+fn repeating_of_numbers(n: &[i32]) -> Option<Repeating> {
+    let &[critical, weight, phase, length, deadline, period] = <&[i32; 6]>::try_from(n).ok()?;
+    let job = match critical {
+        0 => Repeating::optional(),
+        1 => Repeating::critical(),
+        _ => return None,
+    };
+    Some(job.weight(weight as u32).phase(phase).length(length).deadline(deadline).period(period))
 }
 
 /// A plan as the call answers it, its starts as the call writes them, its kept places and its text.

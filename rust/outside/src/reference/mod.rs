@@ -1,6 +1,7 @@
 //! The rules (docs/RULES.md) written out plainly, with no thought for speed: what every call must answer.
 
 mod checking;
+mod frames;
 mod halves;
 mod openings;
 mod packing;
@@ -8,6 +9,7 @@ mod plans;
 mod profiles;
 
 pub use checking::{is_legal, keeps_critical, sent, spare, weight_of, Condition, Kept};
+pub use frames::{frame, repeating_job, spare_seconds, two_frames};
 pub use halves::{judged_halves, offending, seconds_lost};
 pub use openings::{tied, winner};
 pub use packing::{bad_fields, header, job_of, judged, judged_numbers, reader_job};
@@ -39,7 +41,7 @@ impl Refused {
     /// The place, where the refusal is about one job.
     pub fn place_of_job(&self) -> Option<usize> {
         match self.number {
-            6 | 7 | 13 => Some(self.place),
+            6 | 7 | 13 | 16 => Some(self.place),
             _ => None,
         }
     }
