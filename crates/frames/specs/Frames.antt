@@ -130,12 +130,15 @@ repeatCount zs = length (sequenceOf zs)
 
 -- ---- the order of a frame
 
--- The repeat at a place of the sequence, as a job of an order: numbered by its place, with the mark, the weight and the length of
--- its repeating job, and its deadline that much later than it is ready.
+-- A repeat as a job of an order, by its number and its ready time: with the mark, the weight and the length of its repeating job, and
+-- its deadline that much later than it is ready.
+abbrev pub madeOf : ℕ → ℕ → List ℤ → List ℤ
+madeOf number ready job =
+    pos number ∷ theMark job ∷ theWeight job ∷ pos ready ∷ theLength job ∷ (pos ready +ℤ theDeadline job) ∷ []
+
+-- It is numbered by its place in the sequence.
 abbrev pub numbersFor : List ℤ → ℕ → Repeat → List ℤ
-numbersFor zs k r =
-    let job = givenAt zs (r .place) in
-    pos k ∷ theMark job ∷ theWeight job ∷ pos (r .ready) ∷ theLength job ∷ (pos (r .ready) +ℤ theDeadline job) ∷ []
+numbersFor zs k r = madeOf k (r .ready) (givenAt zs (r .place))
 
 abbrev pub repeatAt : List ℤ → ℕ → Repeat
 repeatAt zs k = getD (sequenceOf zs) k (record { place = 0; ready = 0 })

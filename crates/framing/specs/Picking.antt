@@ -3,12 +3,11 @@
 use Prim.Native.Nat.{ℕ, _+_, _*_, _≤_, _<_}
 use mathlib.Core.Path.{_≡_}
 use mathlib.Core.Logic.{_↔_}
-use mathlib.Core.List.{List, [], _∷_, List·Memᴰ}
-use lib.IntN.{ℤ, pos, _+ℤ_}
+use mathlib.Core.List.{List, List·Memᴰ}
+use lib.IntN.{ℤ}
 use lib.ListN.{length, getD, drop}
 use Rattle.seconds.specs.Limits.{mostJobs, longestFrame}
 use Rattle.frames.specs.Frames.{Repeat, jobsGiven, phaseAt, periodAt, sequenceOf, repeatCount}
-use Rattle.frames.specs.Frames.{theMark, theWeight, theLength, theDeadline}
 use Rattle.frames.specs.Facts.{MayRepeat, GivenFine, MakingFine}
 
 -- Of the first n numbers the one at a place is the least, and none before it is as small.
@@ -45,11 +44,6 @@ pub record CanMake (number ready : ℕ) (job : List ℤ) : Type 0 where
   pub few : number < mostJobs
   pub soon : ready < longestFrame
   pub repeats : MayRepeat job
-
--- The six numbers of that repeat.
-abbrev pub madeOf : ℕ → ℕ → List ℤ → List ℤ
-madeOf number ready job =
-    pos number ∷ theMark job ∷ theWeight job ∷ pos ready ∷ theLength job ∷ (pos ready +ℤ theDeadline job) ∷ []
 
 -- The first k repeats are done, there is one more, and room for the bytes of all.
 pub record CanPut (zs : List ℤ) (k : ℕ) (next order : List ℕ) : Type 0 where

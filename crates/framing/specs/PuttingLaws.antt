@@ -15,13 +15,13 @@ use Rattle.packed.specs.Refusals.{fieldsWithin}
 use Rattle.packed.specs.RefusalLaws.{within-is, weight-range}
 use Rattle.fields.specs.Fields.{fieldsOf, JobRoom}
 use Rattle.fields.specs.declared.Job.{Job}
-use Rattle.frames.specs.Frames.{jobsGiven, periodAt, Repeat, numbersFor, repeatAt}
+use Rattle.frames.specs.Frames.{jobsGiven, periodAt, Repeat, numbersFor, repeatAt, madeOf}
 use Rattle.frames.specs.RepeatsLaws.{at-place}
 use Rattle.frames.specs.FrameLaws.{repeat-there, made-within}
 use Rattle.repeating.specs.Repeating.{numbersIn}
 use Rattle.repeating.specs.RepeatingLaws.{JobRead, job-read}
 use Rattle.repeating.specs.declared.Repeating.{Repeating}
-use Rattle.framing.specs.Picking.{IsLeast, CanPick, Reached, CanMake, madeOf, CanPut}
+use Rattle.framing.specs.Picking.{IsLeast, CanPick, Reached, CanMake, CanPut}
 use Rattle.framing.specs.PickingLaws.{picked, one-done}
 
 -- ---- the job of a repeat

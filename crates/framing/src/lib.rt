@@ -7,11 +7,13 @@ ghost use lib.ListN.{length, take, drop};
 ghost use Rattle.packed.specs.Layout.{encode, bytesOf, jobLayout};
 ghost use Rattle.fields.specs.Fields.{fieldsOf};
 ghost use Rattle.pack.specs.Writing.{firstRecords};
-ghost use Rattle.frames.specs.Frames.{numbersFor, repeatAt, frameNumbers};
+ghost use Rattle.frames.specs.Frames.{madeOf, numbersFor, repeatAt, frameNumbers};
 ghost use Rattle.repeating.specs.Repeating.{numbersIn, CanCount};
 ghost use Rattle.framing.specs.Answer.{framedOf, orderAfter};
-ghost use Rattle.framing.specs.Picking.{IsLeast, CanPick, Reached, CanStart, CanMake, madeOf, CanPut, CanWrite};
+ghost use Rattle.framing.specs.Picking.{IsLeast, CanPick, Reached, CanStart, CanMake, CanPut, CanWrite};
 use fields::Job;
+use judge::MOST_JOBS;
+use judge::MOST_WEIGHT;
 use judge::Verdict;
 use packed::Refusal;
 use packed::plainly;
@@ -20,11 +22,6 @@ use repeating::MOST_REPEATING;
 use repeating::Repeating;
 use repeating::count_of;
 use repeating::repeating_at;
-
-// The most jobs and the most weight of an order.
-const MOST_JOBS: u32 = 48;
-
-const MOST_WEIGHT: u32 = 300;
 
 // An order of one frame: its bytes, and the frame in seconds.
 pub struct FrameOrder {
@@ -120,15 +117,14 @@ fn make(numbers: &[i32], frame: u32, order: &mut [u8]) -> Framed
     ensures lent { λ r. ⌜ now (order .exit) ≡ orderAfter (now (numbers .entry)) (now (order .entry)) ⌝ }
 {
     let made = repeating::totals_of(numbers, frame);
-    let repeats = made.count;
-    let weight = made.weight;
-    if repeats > MOST_JOBS {
+    let count = made.count as usize;
+    let weight = made.weight as u64;
+    if count > MOST_JOBS {
         return Framed::Refused(plainly(3));
     }
     if weight > MOST_WEIGHT {
         return Framed::Refused(plainly(9));
     }
-    let count = repeats as usize;
     let written = 4 + 8 * count;
     if order.len() < written {
         return Framed::Refused(plainly(10));

@@ -34,9 +34,9 @@ struct Gathered {
 }
 
 // The most jobs and the most weight of an order.
-const MOST_JOBS: usize = 48;
+pub const MOST_JOBS: usize = 48;
 
-const MOST_WEIGHT: u64 = 300;
+pub const MOST_WEIGHT: u64 = 300;
 
 // Checks 1 to 5 on bytes.
 pub fn judge_header(bytes: &[u8]) -> Verdict

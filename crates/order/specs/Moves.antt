@@ -12,9 +12,8 @@ use lib.IntN.{ℤ, pos, _+ℤ_, _-ℤ_}
 use lib.Signed.{leZ, _≤ℤ_}
 use lib.ListN.{length, getElem?}
 use borrow.Author.Tests.{not-true}
-use borrow.Table.Steps.{cases}
 use Rattle.seconds.specs.Limits.{rest}
-use Rattle.seconds.specs.Signed.{signed, add-is, sub-is, max-is, min-is}
+use Rattle.seconds.specs.Signed.{signed, same-test, add-is, sub-is, max-is, min-is}
 use Rattle.seconds.specs.Ranges.{maxZ, minZ, InFree}
 use Rattle.order.specs.Job.{Rate, Job, oneRate, Point, startAt, rateOf, finishAt, allowedAt, freeAt, gainAt}
 use Rattle.order.specs.Job.{allowed, busFree, gainOf, lossOf, upTo, picks, move}
@@ -354,13 +353,7 @@ sum-later : (x d y : ℤ) → (x +ℤ d) +ℤ y ≡ (x +ℤ y) +ℤ d
 sum-later x d y = omega (signed, add-is x d, add-is (x +ℤ d) y, add-is x y, add-is (x +ℤ y) d)
 
 test-later : (x y d : ℤ) → leZ (x +ℤ d) (y +ℤ d) ≡ leZ x y
-test-later x y d = cases (leZ x y) (λ e. passed e ∙ sym e) (λ e. failed e ∙ sym e)
-  where
-    passed : leZ x y ≡ true → leZ (x +ℤ d) (y +ℤ d) ≡ true
-    passed e = omega (signed, add-is x d, add-is y d)
-
-    failed : leZ x y ≡ false → leZ (x +ℤ d) (y +ℤ d) ≡ false
-    failed e = omega (signed, add-is x d, add-is y d)
+test-later x y d = same-test (leZ (x +ℤ d) (y +ℤ d)) (leZ x y) (omega (signed, add-is x d, add-is y d))
 
 module _ (d : ℤ) (n : ℕ) (j : Job) where
   finish-at-later : (r : Rate) (t : ℤ) → finishAt (later d n j) r (t +ℤ d) ≡ finishAt j r t +ℤ d

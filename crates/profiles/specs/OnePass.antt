@@ -13,7 +13,7 @@ use lib.IntN.{ℤ, pos, negsuc}
 use lib.ListN.{length, drop, drop-of-length-le}
 use lib.Signed.{leZ, ltZ, _≤ℤ_, _<ℤ_}
 use Rattle.seconds.specs.Limits.{earliest, latestFree, mostWeight, mostPoints}
-use Rattle.seconds.specs.Signed.{signed}
+use Rattle.seconds.specs.Signed.{signed, same-test}
 use Rattle.order.specs.Job.{Point}
 use Rattle.profile.specs.Profile.{risesTo, rising, pointsWithin}
 use Rattle.profiles.specs.Numbers.{mostNumbers, alternating, withPoint, pointsIn, profileIn, isThere, holdsProfile}
@@ -114,16 +114,9 @@ passed (x ∷ pos v ∷ ns) t w early light s =
       heavy = omega signed;
     }
 
--- Two tests that pass together are equal.
-same-test : (a b : Bool) → (T a → T b) → (T b → T a) → a ≡ b
-same-test true true h k = refl
-same-test true false h k = absurd (h tt)
-same-test false true h k = absurd (k tt)
-same-test false false h k = refl
-
 -- Numbers hold a valid profile exactly if they are judged so.
 holds-judged : (ns : List ℤ) → holdsProfile ns ≡ judged ns
-holds-judged ns = same-test (holdsProfile ns) (judged ns) (to (profileIn ns) refl) back
+holds-judged ns = same-test (holdsProfile ns) (judged ns) (to (profileIn ns) refl, back)
   where
     to : (o : Option (List Point)) → profileIn ns ≡ o → T (isThere o) → T (judged ns)
     to none e t = absurd t

@@ -13,9 +13,8 @@ use lib.Signed.{leZ, _≤ℤ_, nonNeg, mag}
 use mir.Syntax.{w32}
 use mir.Val.{Fits, SFits, toZ, ofZ, hbits}
 use mir.Facts.{toZ-ofZ}
-use borrow.Table.Steps.{cases}
 use Rattle.seconds.specs.Limits.{rest, longest, heaviest, longestFrame}
-use Rattle.seconds.specs.Signed.{signed, add-is, sub-is, abs-is, mag-is}
+use Rattle.seconds.specs.Signed.{signed, same-test, add-is, sub-is, abs-is, mag-is}
 use Rattle.seconds.specs.Ranges.{same, Between, isBetween}
 use Rattle.seconds.specs.RangesLaws.{between-true, same-is}
 use Rattle.multiples.specs.Multiples.{lcm, lcmFrom, AllPositive}
@@ -152,27 +151,15 @@ in-range j e =
 -- What is left of a period behind a deadline and a time of rest.
 pub left-is : (n : ℕ) (phase deadline period : ℤ)
     → leZ phase ((period -ℤ pos n) -ℤ deadline) ≡ leZ ((phase +ℤ deadline) +ℤ pos n) period
-left-is n phase deadline period = cases (leZ ((phase +ℤ deadline) +ℤ pos n) period) (λ e. passed e ∙ sym e) (λ e. failed e ∙ sym e)
-  where
-    passed : leZ ((phase +ℤ deadline) +ℤ pos n) period ≡ true → leZ phase ((period -ℤ pos n) -ℤ deadline) ≡ true
-    passed e =
-        omega (
-          signed,
-          add-is phase deadline,
-          add-is (phase +ℤ deadline) (pos n),
-          sub-is period (pos n),
-          sub-is (period -ℤ pos n) deadline,
-        )
-
-    failed : leZ ((phase +ℤ deadline) +ℤ pos n) period ≡ false → leZ phase ((period -ℤ pos n) -ℤ deadline) ≡ false
-    failed e =
-        omega (
-          signed,
-          add-is phase deadline,
-          add-is (phase +ℤ deadline) (pos n),
-          sub-is period (pos n),
-          sub-is (period -ℤ pos n) deadline,
-        )
+left-is n phase deadline period =
+    same-test (leZ phase ((period -ℤ pos n) -ℤ deadline)) (leZ ((phase +ℤ deadline) +ℤ pos n) period)
+    (omega (
+      signed,
+      add-is phase deadline,
+      add-is (phase +ℤ deadline) (pos n),
+      sub-is period (pos n),
+      sub-is (period -ℤ pos n) deadline,
+    ))
 
 -- ---- the job that was read at a place
 

@@ -3,7 +3,7 @@
 use Prim.Native.Nat.{ℕ, zero, suc, _+_, _*_, _^_, _≤_, _<_, min, max}
 use mathlib.Core.Path.{_≡_, refl, sym, ap, _∙_, subst}
 use mathlib.Core.Bool.{Bool, true, false, not}
-use mathlib.Core.Logic.{_⊎_, inl, inr, ⊎-elim, _≢_}
+use mathlib.Core.Logic.{_⊎_, inl, inr, ⊎-elim, _↔_, _≢_}
 use native.Mathlib.Nat.{add-zero, zero-add}
 use native.Mathlib.Omega.{arith}
 use lib.Dec.{T, leb, ltb, eqb, leb→le, le→leb, nleb→lt, eqb→eq, leb·suc-suc}
@@ -91,6 +91,13 @@ true-T e = subst T (sym e) tt
 -- A test that is false is failed.
 pub false-T : {b : Bool} → b ≡ false → T (not b)
 false-T e = subst (λ (t : Bool). T (not t)) (sym e) tt
+
+-- Two tests that hold together are one.
+pub same-test : (a b : Bool) → (T a ↔ T b) → a ≡ b
+same-test true true h = refl
+same-test true false h = absurd (h .0 tt)
+same-test false true h = absurd (h .1 tt)
+same-test false false h = refl
 
 -- ---- rules that read a hypothesis
 

@@ -12,12 +12,18 @@ use Rattle.framing.proofs.make.Tie as tie
 totals-of-requires : tie.Need-totals-of-requires
 totals-of-requires c κs = search needs
 
+cast-count : tie.Need-cast-count
+cast-count c = search needs
+
+cast-weight : tie.Need-cast-weight
+cast-weight c = search needs
+
 plainly-requires : tie.Need-plainly-requires
 plainly-requires c κs = search needs
 
 returns : tie.Need-returns
 returns c =
-    let t : tie.After-totals-of = c .before .before in
+    let t : tie.After-totals-of = c .before .before .before .before in
     let a = t .before .before in
     let frames = frames-many (a .args .numbers .now) (a .args .order .now) (a .pre) (t .totals-of .ensures) (c .before .if1 .taken) in
     (ap Refused (c .plainly .ensures) ∙ frames .0, frames .1)
@@ -28,14 +34,11 @@ plainly-requires-2 c κs = search needs
 returns-2 : tie.Need-returns-2
 returns-2 c =
     let e : tie.Else1 = c .before .before in
-    let t : tie.After-totals-of = e .before in
+    let t : tie.After-totals-of = e .before .before .before in
     let a = t .before .before in
     let frames = frames-heavy (a .args .numbers .now) (a .args .order .now) (a .pre) (t .totals-of .ensures) (e .if1 .left)
     (c .before .if2 .taken) in
     (ap Refused (c .plainly2 .ensures) ∙ frames .0, frames .1)
-
-cast-count : tie.Need-cast-count
-cast-count c = search needs
 
 mul-written : tie.Need-mul-written
 mul-written c = search needs
@@ -50,7 +53,7 @@ returns-3 : tie.Need-returns-3
 returns-3 c =
     let f : tie.Else2 = c .before .before in
     let e : tie.Else1 = f .before in
-    let t : tie.After-totals-of = e .before in
+    let t : tie.After-totals-of = e .before .before .before in
     let a = t .before .before in
     let frames = frames-no-room (a .args .numbers .now) (a .args .order .now) (a .pre) (t .totals-of .ensures) (e .if1 .left)
     (f .if2 .left) (c .before .if3 .taken) in
@@ -60,7 +63,7 @@ put-header-requires : tie.Need-put-header-requires
 put-header-requires c κs =
     let f : tie.Else2 = c .before .before in
     let e : tie.Else1 = f .before in
-    let t : tie.After-totals-of = e .before in
+    let t : tie.After-totals-of = e .before .before .before in
     let a = t .before .before in
     header-room (a .args .numbers .now) (a .args .order .now) (a .pre) (t .totals-of .ensures) (e .if1 .left) (f .if2 .left)
     (c .before .if3 .left)
@@ -71,7 +74,7 @@ write-repeats-requires c κs =
     let g : tie.Else3 = h .before .before in
     let f : tie.Else2 = g .before in
     let e : tie.Else1 = f .before in
-    let t : tie.After-totals-of = e .before in
+    let t : tie.After-totals-of = e .before .before .before in
     let a = t .before .before in
     can-write (a .args .numbers .now) (a .args .order .now) (a .pre) (t .totals-of .ensures) (e .if1 .left) (f .if2 .left)
     (g .if3 .left) (h .put-header .last .0) (h .put-header .kept .0)
@@ -86,7 +89,7 @@ returns-4 c =
     let g : tie.Else3 = h .before .before in
     let f : tie.Else2 = g .before in
     let e : tie.Else1 = f .before in
-    let t : tie.After-totals-of = e .before in
+    let t : tie.After-totals-of = e .before .before .before in
     let a = t .before .before in
     frames-written (a .args .numbers .now) (a .args .order .now) (a .pre) (t .totals-of .ensures) (e .if1 .left) (f .if2 .left)
     (g .if3 .left) (w .write-repeats .last .1 .1 .0)
@@ -96,5 +99,5 @@ returns-4 c =
 pub make-spec : {M : Type 1} → statement M
 make-spec =
     tie.close
-    (tie.spec totals-of-requires plainly-requires returns plainly-requires-2 returns-2 cast-count mul-written add-written
+    (tie.spec totals-of-requires cast-count cast-weight plainly-requires returns plainly-requires-2 returns-2 mul-written add-written
     plainly-requires-3 returns-3 put-header-requires write-repeats-requires same-length returns-4)
