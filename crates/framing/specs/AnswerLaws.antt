@@ -30,7 +30,7 @@ use Rattle.frames.specs.FrameLaws.{frame-count}
 use Rattle.repeating.specs.Repeating.{CanCount, Counts}
 use Rattle.repeating.specs.declared.Totals.{Totals}
 use Rattle.framing.specs.Answer.{framedBy, orderBy, framedOf, orderAfter}
-use Rattle.framing.specs.Picking.{CanWrite}
+use Rattle.picking.specs.Picking.{CanWrite}
 use Rattle.framing.specs.declared.Framed.{Framed}
 use Rattle.framing.specs.declared.Framed.the-variants.{Refused, Made}
 

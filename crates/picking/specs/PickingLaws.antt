@@ -15,7 +15,7 @@ use Rattle.frames.specs.Frames.{Repeat, jobsGiven, phaseAt, periodAt, sequenceO
 use Rattle.frames.specs.SequenceLaws.{Comes, earlier, given, Sorted, leads}
 use Rattle.frames.specs.Facts.{GivenFine}
 use Rattle.frames.specs.RepeatsLaws.{at-place, IsRepeat, sequence-is}
-use Rattle.framing.specs.Picking.{IsLeast, ReadyAt, Reached}
+use Rattle.picking.specs.Picking.{IsLeast, ReadyAt, Reached}
 
 -- ---- the least of some numbers
 

@@ -1,4 +1,4 @@
--- `framing::put_next` meets its contract: the least of the next ready times is the next repeat, its job is written, and it moves on.
+-- `picking::put_next` meets its contract: the least of the next ready times is the next repeat, its job is written, and it moves on.
 -- Assumes nothing.
 use Prim.Native.Nat.{ℕ, _+_, _*_}
 use mathlib.Core.Path.{ap, _∙_}
@@ -8,9 +8,9 @@ use lib.IntN.{ℤ}
 use lib.ListN.{take, drop}
 use borrow.Author.Needs.{needs}
 use Rattle.packed.specs.Layout.{encode, bytesOf, jobLayout}
-use Rattle.framing.specs.PuttingLaws.{can-pick, job-given, can-make, next-fits, moves-on, job-next, job-room}
-use Rattle.framing.proofs.put_next.Statement.{statement}
-use Rattle.framing.proofs.put_next.Tie as tie
+use Rattle.picking.specs.PuttingLaws.{can-pick, job-given, can-make, next-fits, moves-on, job-next, job-room}
+use Rattle.picking.proofs.put_next.Statement.{statement}
+use Rattle.picking.proofs.put_next.Tie as tie
 
 least-requires : tie.Need-least-requires
 least-requires c κs = can-pick (c .before .before .before .pre)

@@ -1,4 +1,4 @@
--- `framing::write_repeats` meets its contract. The invariant: the first k repeats are written, and the next ready times are those
+-- `picking::write_repeats` meets its contract. The invariant: the first k repeats are written, and the next ready times are those
 -- behind them. The measure is the number of repeats that are left. Assumes nothing.
 use Prim.Native.Nat.{ℕ, _+_, _*_, _-_, _≤_}
 use mathlib.Core.Path.{_≡_, refl, sym, ap, _∙_}
@@ -12,9 +12,9 @@ use Rattle.pack.specs.Writing.{firstRecords}
 use Rattle.pack.specs.WritingLaws.{none-written, written-length, one-more}
 use Rattle.frames.specs.Frames.{numbersFor, repeatAt, frameNumbers}
 use Rattle.frames.specs.FrameLaws.{frame-at}
-use Rattle.framing.specs.Picking.{Reached}
-use Rattle.framing.proofs.write_repeats.Statement.{statement}
-use Rattle.framing.proofs.write_repeats.Tie as tie
+use Rattle.picking.specs.Picking.{Reached}
+use Rattle.picking.proofs.write_repeats.Statement.{statement}
+use Rattle.picking.proofs.write_repeats.Tie as tie
 
 abbrev Inv-loop : tie.InvT-loop
 Inv-loop numbers count order₀ next₀ k₀ order next k =

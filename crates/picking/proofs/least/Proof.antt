@@ -1,13 +1,13 @@
--- `framing::least` meets its contract. The invariant: the place is that of the least of the numbers before p.
+-- `picking::least` meets its contract. The invariant: the place is that of the least of the numbers before p.
 -- Assumes nothing.
 use Prim.Native.Nat.{_-_, _≤_}
 use mathlib.Core.Path.{_≡_}
 use mathlib.Core.Logic.{⊎-elim}
 use native.Mathlib.Omega.{arith}
-use Rattle.framing.specs.Picking.{IsLeast}
-use Rattle.framing.specs.PickingLaws.{least-alone, least-here, least-stays}
-use Rattle.framing.proofs.least.Statement.{statement}
-use Rattle.framing.proofs.least.Tie as tie
+use Rattle.picking.specs.Picking.{IsLeast}
+use Rattle.picking.specs.PickingLaws.{least-alone, least-here, least-stays}
+use Rattle.picking.proofs.least.Statement.{statement}
+use Rattle.picking.proofs.least.Tie as tie
 
 abbrev Inv-loop : tie.InvT-loop
 Inv-loop times count place₀ p₀ place p = (p ≤ count) × IsLeast times p place

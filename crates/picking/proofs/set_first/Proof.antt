@@ -1,4 +1,4 @@
--- `framing::set_first` meets its contract. The invariant: the jobs before p have their phases. The measure is the number of jobs
+-- `picking::set_first` meets its contract. The invariant: the jobs before p have their phases. The measure is the number of jobs
 -- that are left. Assumes nothing.
 use Prim.Native.Nat.{ℕ, _-_, _/_, _≤_, _<_}
 use mathlib.Core.Path.{_≡_, refl, _∙_}
@@ -8,9 +8,9 @@ use Rattle.seconds.specs.Signed.{signed}
 use Rattle.judge.specs.Gathering.{noted-on}
 use Rattle.frames.specs.Frames.{jobsGiven, phaseAt}
 use Rattle.repeating.specs.RepeatingLaws.{JobRead, job-read}
-use Rattle.framing.specs.PickingLaws.{none-done}
-use Rattle.framing.proofs.set_first.Statement.{statement}
-use Rattle.framing.proofs.set_first.Tie as tie
+use Rattle.picking.specs.PickingLaws.{none-done}
+use Rattle.picking.proofs.set_first.Statement.{statement}
+use Rattle.picking.proofs.set_first.Tie as tie
 
 abbrev Inv-loop : tie.InvT-loop
 Inv-loop numbers next₀ given p₀ next p =

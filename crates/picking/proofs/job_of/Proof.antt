@@ -1,10 +1,10 @@
--- `framing::job_of` meets its contract: a number below 48, a ready time and a deadline within a frame have room in their types.
+-- `picking::job_of` meets its contract: a number below 48, a ready time and a deadline within a frame have room in their types.
 -- Assumes nothing.
 use borrow.Author.Needs.{needs}
 use Rattle.seconds.specs.Signed.{signed}
-use Rattle.framing.specs.PuttingLaws.{ready-is, deadline-is, job-made}
-use Rattle.framing.proofs.job_of.Statement.{statement}
-use Rattle.framing.proofs.job_of.Tie as tie
+use Rattle.picking.specs.PuttingLaws.{ready-is, deadline-is, job-made}
+use Rattle.picking.proofs.job_of.Statement.{statement}
+use Rattle.picking.proofs.job_of.Tie as tie
 
 cast-ready : tie.Need-cast-ready
 cast-ready c = search needs

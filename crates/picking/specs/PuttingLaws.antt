@@ -21,8 +21,8 @@ use Rattle.frames.specs.FrameLaws.{repeat-there, made-within}
 use Rattle.repeating.specs.Repeating.{numbersIn}
 use Rattle.repeating.specs.RepeatingLaws.{JobRead, job-read}
 use Rattle.repeating.specs.declared.Repeating.{Repeating}
-use Rattle.framing.specs.Picking.{IsLeast, CanPick, Reached, CanMake, CanPut}
-use Rattle.framing.specs.PickingLaws.{picked, one-done}
+use Rattle.picking.specs.Picking.{IsLeast, CanPick, Reached, CanMake, CanPut}
+use Rattle.picking.specs.PickingLaws.{picked, one-done}
 
 -- ---- the job of a repeat
 
