@@ -10,6 +10,7 @@ use lib.Signed.{leZ}
 use Rattle.seconds.specs.Limits.{rest, longest, mostJobs, mostRepeating, longestFrame}
 use Rattle.seconds.specs.Ranges.{same, isBetween}
 use Rattle.multiples.specs.Multiples.{leastCommon}
+use Rattle.packed.specs.Layout.{headerBytes, jobBytes}
 use Rattle.packed.specs.Places.{part, flat, each, first}
 use Rattle.packed.specs.Judge.{Check, check, checkAt}
 use Rattle.packed.specs.Packed.{packOrder}
@@ -67,6 +68,7 @@ jobsGiven zs = length zs / repeatingNumbers
 unfoldable pub givenAt : List ℤ → ℕ → List ℤ
 givenAt zs p = part repeatingNumbers zs p
 
+-- Its weight, its phase and its period, as counts.
 abbrev pub weightAt : List ℤ → ℕ → ℕ
 weightAt zs p = natAbs (theWeight (givenAt zs p))
 
@@ -111,6 +113,7 @@ repeatsOf zs = flat (repeatsAt zs) (jobsGiven zs)
 abbrev pub before : Repeat → Repeat → Bool
 before a b = ltb (a .ready) (b .ready) || (eqb (a .ready) (b .ready) && ltb (a .place) (b .place))
 
+-- A repeat put behind those that come before it, and so a whole list.
 abbrev pub insert : Repeat → List Repeat → List Repeat
 insert a [] = a ∷ []
 insert a (b ∷ l) =
@@ -169,4 +172,4 @@ abbrev pub makingChecks : List ℤ → List Check
 makingChecks zs = givenChecks zs ++ madeChecks zs ++ weightChecks 0 (frameNumbers zs)
 
 abbrev pub frameChecks : List ℤ → ℕ → List Check
-frameChecks zs room = makingChecks zs ++ roomChecks (4 + 8 * repeatCount zs) room
+frameChecks zs room = makingChecks zs ++ roomChecks (headerBytes + jobBytes * repeatCount zs) room
