@@ -78,9 +78,13 @@ phaseAt zs p = natAbs (thePhase (givenAt zs p))
 abbrev pub periodAt : List ℤ → ℕ → ℕ
 periodAt zs p = natAbs (thePeriod (givenAt zs p))
 
--- The first place whose job may not repeat.
+-- A place whose job may not repeat.
+abbrev pub unfitAt : List ℤ → ℕ → Bool
+unfitAt zs p = not (mayRepeat (givenAt zs p))
+
+-- The first such place.
 unfoldable pub firstUnfit : List ℤ → ℕ
-firstUnfit zs = first (λ p. not (mayRepeat (givenAt zs p))) 0 (jobsGiven zs)
+firstUnfit zs = first (unfitAt zs) 0 (jobsGiven zs)
 
 -- ---- the frame and the repeats in it
 

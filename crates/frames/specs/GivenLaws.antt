@@ -19,7 +19,7 @@ use Rattle.packed.specs.Refusals.{allTrue}
 use Rattle.packed.specs.RefusalLaws.{all-at, test-is}
 use Rattle.frames.specs.Frames.{thePhase, theDeadline, thePeriod, repeatingTests, mayRepeat}
 use Rattle.frames.specs.Facts.{MayRepeat, GivenFine}
-use Rattle.frames.specs.Frames.{jobsGiven, givenAt, phaseAt, periodAt, firstUnfit, givenChecks}
+use Rattle.frames.specs.Frames.{jobsGiven, givenAt, unfitAt, phaseAt, periodAt, firstUnfit, givenChecks}
 
 -- ---- one job
 
@@ -50,8 +50,6 @@ may-repeat job = (there, back)
 
 -- What they are as counts.
 pub record Counted (zs : List ℤ) (p : ℕ) : Type 0 where
-  pub phase : pos (phaseAt zs p) ≡ thePhase (givenAt zs p)
-  pub period : pos (periodAt zs p) ≡ thePeriod (givenAt zs p)
   pub runs : 1 ≤ periodAt zs p
   pub short : periodAt zs p ≤ longestFrame
   pub due : 1 ≤ natAbs (theDeadline (givenAt zs p))
@@ -61,8 +59,6 @@ pub counted : (zs : List ℤ) (p : ℕ) → MayRepeat (givenAt zs p) → Counted
 counted zs p m =
     let job = givenAt zs p in
     record {
-      phase = omega (signed, m .phase, abs-is (thePhase job));
-      period = omega (signed, m .period, abs-is (thePeriod job));
       runs = omega (signed, m .period, abs-is (thePeriod job));
       short = omega (signed, m .period, abs-is (thePeriod job));
       due = omega (signed, m .deadline, abs-is (theDeadline job));
@@ -84,9 +80,9 @@ counted zs p m =
 -- ---- all jobs
 
 -- The place of 16 is the first whose job may not repeat.
-pub unfit-is-first : (zs : List ℤ) → IsFirst (λ p. not (mayRepeat (givenAt zs p))) 0 (jobsGiven zs) (firstUnfit zs)
+pub unfit-is-first : (zs : List ℤ) → IsFirst (unfitAt zs) 0 (jobsGiven zs) (firstUnfit zs)
 unfolding firstUnfit
-unfit-is-first zs = first-is (λ p. not (mayRepeat (givenAt zs p))) 0 (jobsGiven zs) (omega arith)
+unfit-is-first zs = first-is (unfitAt zs) 0 (jobsGiven zs) (omega arith)
 
 -- The checks say so.
 pub given-fine : (zs : List ℤ) → judge (givenChecks zs) ≡ fine ↔ GivenFine zs
@@ -110,7 +106,7 @@ given-fine zs = (there, back)
     back g =
         let none : firstUnfit zs ≡ jobsGiven zs =
         unfold firstUnfit in
-        first-none (λ p. not (mayRepeat (givenAt zs p))) 0 (jobsGiven zs) (omega arith)
+        first-none (unfitAt zs) 0 (jobsGiven zs) (omega arith)
         (λ p a b. ap not (may-repeat (givenAt zs p) .1 (g .repeat p b))) in
         rw (
           le-ltb 96 (length zs) (omega (arith, g .few, g .whole)),

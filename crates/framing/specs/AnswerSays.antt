@@ -2,7 +2,7 @@
 -- the frame, whose every job leaves the bus free by its end.
 use Prim.Native.Nat.{ℕ, _+_, _*_, _%_, _≤_, _<_}
 use mathlib.Core.Path.{_≡_, refl, sym, ap, _∙_}
-use mathlib.Core.Bool.{Bool, not}
+use mathlib.Core.Bool.{Bool}
 use mathlib.Core.Logic.{_↔_, _≢_, Iff·trans}
 use mathlib.Core.List.{List, [], _++_}
 use native.Mathlib.Omega.{arith}
@@ -22,7 +22,7 @@ use Rattle.packed.specs.PlacesLaws.{IsFirst, first-unique}
 use Rattle.packed.specs.Refusals.{weightChecks, roomChecks, orderChecks}
 use Rattle.packed.specs.RefusalPlaces.{nowhere, answer-says}
 use Rattle.packed.specs.RoundTrip.{unpack-pack}
-use Rattle.frames.specs.Frames.{mayRepeat, jobsGiven, givenAt, firstUnfit, frameOf, repeatCount, frameNumbers, frameBytes}
+use Rattle.frames.specs.Frames.{jobsGiven, unfitAt, firstUnfit, frameOf, repeatCount, frameNumbers, frameBytes}
 use Rattle.frames.specs.Frames.{givenChecks, madeChecks, makingChecks, frameChecks}
 use Rattle.frames.specs.GivenLaws.{unfit-is-first}
 use Rattle.frames.specs.Facts.{MakingFine}
@@ -82,7 +82,7 @@ frame-written zs was order made e lent = go (judge (frameChecks zs (length was))
 
 -- With 16 it names the first job that may not repeat; with every other number it names nothing.
 pub data FrameRefusal (zs : List ℤ) : Refusal → Type 0 where
-  unfit : {p : ℕ} → IsFirst (λ q. not (mayRepeat (givenAt zs q))) 0 (jobsGiven zs) p → p < jobsGiven zs → FrameRefusal zs (atPlace 16 p)
+  unfit : {p : ℕ} → IsFirst (unfitAt zs) 0 (jobsGiven zs) p → p < jobsGiven zs → FrameRefusal zs (atPlace 16 p)
   unplaced : {n : ℕ} → n ≢ 16 → FrameRefusal zs (plainly n)
 
 tells : (zs : List ℤ) (room : ℕ) → Tells (FrameRefusal zs) (frameChecks zs room)
@@ -118,7 +118,7 @@ frame-refusal zs room = go (judge (frameChecks zs room)) refl
 pub record Unfit (zs : List ℤ) (p : ℕ) : Type 0 where
   pub few : length zs ≤ 96
   pub whole : length zs % 6 ≡ 0
-  pub first : IsFirst (λ q. not (mayRepeat (givenAt zs q))) 0 (jobsGiven zs) p
+  pub first : IsFirst (unfitAt zs) 0 (jobsGiven zs) p
   pub there : p < jobsGiven zs
 
 given-sixteen : (zs : List ℤ) (p : ℕ) → judge (givenChecks zs) ≡ refused (atPlace 16 p) ↔ Unfit zs p
@@ -149,8 +149,7 @@ given-sixteen zs p = (there, back)
 
     back : Unfit zs p → judge (givenChecks zs) ≡ refused (atPlace 16 p)
     back u =
-        let test : ℕ → Bool = λ q. not (mayRepeat (givenAt zs q)) in
-        let same : firstUnfit zs ≡ p = first-unique test 0 (jobsGiven zs) (firstUnfit zs) p (unfit-is-first zs) (u .first) in
+        let same : firstUnfit zs ≡ p = first-unique (unfitAt zs) 0 (jobsGiven zs) (firstUnfit zs) p (unfit-is-first zs) (u .first) in
         rw (le-ltb 96 (length zs) (u .few), eq-eqb (length zs % 6) 0 (u .whole), same, lt-ltb p (jobsGiven zs) (u .there))
 
 pub sixteen-is : (zs : List ℤ) (room p : ℕ) → refusalOf (framedOf zs room) ≡ atPlace 16 p ↔ Unfit zs p

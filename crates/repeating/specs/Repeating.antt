@@ -1,7 +1,7 @@
 -- A repeating job as the code holds it, and what judging and counting such jobs asks for and gives. Definitions only.
 use Prim.Native.Nat.{ℕ, _*_, _≤_, _<_}
 use mathlib.Core.Path.{_≡_}
-use mathlib.Core.Bool.{Bool, not}
+use mathlib.Core.Bool.{Bool}
 use mathlib.Core.List.{List, [], _∷_}
 use lib.IntN.{ℤ, pos, _+ℤ_}
 use lib.Signed.{leZ}
@@ -10,7 +10,7 @@ use Rattle.seconds.specs.Ranges.{same, isBetween}
 use Rattle.order.specs.Job.{weightOf}
 use Rattle.packed.specs.Packed.{jobsOf}
 use Rattle.packed.specs.Refusals.{weightTest, allTrue}
-use Rattle.frames.specs.Frames.{mayRepeat, givenAt, frameOf, repeatCount, frameNumbers}
+use Rattle.frames.specs.Frames.{frameOf, repeatCount, frameNumbers}
 use Rattle.frames.specs.Facts.{GivenFine}
 use Rattle.repeating.specs.declared.Repeating.{Repeating}
 use Rattle.repeating.specs.declared.Totals.{Totals}
@@ -39,10 +39,6 @@ inRange j = allTrue (rangeTests j)
 -- The bus is free again by the end of the period.
 unfoldable pub inPeriod : Repeating → Bool
 inPeriod j = leZ ((j .phase +ℤ j .deadline) +ℤ pos rest) (j .period)
-
--- A place whose job may not repeat.
-abbrev pub unfitAt : List ℤ → ℕ → Bool
-unfitAt zs p = not (mayRepeat (givenAt zs p))
 
 -- ---- the frame
 

@@ -25,12 +25,12 @@ use Rattle.packed.specs.Judge.{plainly, atPlace, fine, refused, judge}
 use Rattle.packed.specs.Refusals.{weightTest}
 use Rattle.packed.specs.RefusalLaws.{all-at, weight-range}
 use Rattle.frames.specs.Frames.{theWeight, thePhase, theDeadline, thePeriod, mayRepeat, jobsGiven, givenAt, weightAt, phaseAt, periodAt}
-use Rattle.frames.specs.Frames.{firstUnfit, frameOf, timesAt, givenChecks}
+use Rattle.frames.specs.Frames.{unfitAt, firstUnfit, frameOf, timesAt, givenChecks}
 use Rattle.judge.specs.Gathering.{kept}
 use Rattle.frames.specs.Facts.{MayRepeat, GivenFine}
 use Rattle.frames.specs.RepeatsLaws.{of-each, at-place, total}
 use Rattle.frames.specs.FrameLaws.{count-total, weight-total}
-use Rattle.repeating.specs.Repeating.{numbersIn, rangeTests, inRange, inPeriod, unfitAt, Grown, whole, past}
+use Rattle.repeating.specs.Repeating.{numbersIn, rangeTests, inRange, inPeriod, Grown, whole, past}
 use Rattle.repeating.specs.Repeating.{CanWeigh, Weighs, CanCount, Counts}
 use Rattle.repeating.specs.declared.Repeating.{Repeating}
 use Rattle.repeating.specs.declared.Totals.{Totals}

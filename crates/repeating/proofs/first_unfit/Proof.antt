@@ -9,8 +9,8 @@ use borrow.Author.Needs.{needs}
 use borrow.Author.Tests.{not-true, not-false}
 use Rattle.packed.specs.Places.{first}
 use Rattle.packed.specs.PlacesLaws.{first-end}
-use Rattle.frames.specs.Frames.{mayRepeat}
-use Rattle.repeating.specs.Repeating.{numbersIn, unfitAt}
+use Rattle.frames.specs.Frames.{mayRepeat, unfitAt}
+use Rattle.repeating.specs.Repeating.{numbersIn}
 use Rattle.repeating.specs.RepeatingLaws.{unfit-here, unfit-on}
 use Rattle.repeating.proofs.first_unfit.Statement.{statement}
 use Rattle.repeating.proofs.first_unfit.Tie as tie

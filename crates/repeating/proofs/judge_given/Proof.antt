@@ -13,8 +13,7 @@ use borrow.Author.Needs.{needs}
 use borrow.Author.Tests.{lt-ltb, le-ltb, eq-eqb, ne-eqb}
 use Rattle.packed.specs.Places.{first}
 use Rattle.packed.specs.Judge.{atPlace, fine, refused, judge}
-use Rattle.frames.specs.Frames.{givenChecks}
-use Rattle.repeating.specs.Repeating.{unfitAt}
+use Rattle.frames.specs.Frames.{unfitAt, givenChecks}
 use Rattle.repeating.specs.RepeatingLaws.{given-judge}
 use Rattle.repeating.proofs.judge_given.Statement.{statement}
 use Rattle.repeating.proofs.judge_given.Tie as tie
