@@ -7,12 +7,12 @@
 
 /* P1, bus free at -600. */
 static const int32_t jobs[] = {
-    /* number, critical, weight, ready, length, deadline */
-    7,  1, 0,  -600, 495, 0,
-    3,  0, 20, -200, 300, 250,
-    12, 0, 15, 0,    200, 300,
-    5,  1, 0,  100,  100, 450,
-    9,  0, 15, 0,    100, 500,
+    /* number, pack, critical, weight, ready, length, deadline */
+    7,  0, 1, 0,  -600, 495, 0,
+    3,  0, 0, 20, -200, 300, 250,
+    12, 0, 0, 15, 0,    200, 300,
+    5,  0, 1, 0,  100,  100, 450,
+    9,  0, 0, 15, 0,    100, 500,
 };
 
 /* Plans from the hangar: 48 bits for the jobs kept, then 18 for the start of each. */

@@ -1,6 +1,6 @@
 /* Asks of two openings for the tail of a morning which one wins at each of five times: by the rule that is meant, equal weight
- * to the one that reaches it sooner, and by the night desk's, equal weight to the first. What is refused prints its refusal,
- * field and phrase. */
+ * to the one that reaches it sooner, and by the night desk's, equal weight to the first. The jobs of the second have packs, so
+ * its records are of kind 1, which the question tells too. What is refused prints its refusal, field and phrase. */
 #include "leafanchor.h"
 
 #include <inttypes.h>
@@ -8,13 +8,13 @@
 
 /* A balancing and a top-up: with the first opening the bus is free at 0, with the second at 60, and the top-up is ready later. */
 static const int32_t first_jobs[] = {
-    /* number, critical, weight, ready, length, deadline */
-    4, 0, 10, 0,   240, 600,
-    9, 0, 15, 300, 300, 900,
+    /* number, pack, critical, weight, ready, length, deadline */
+    4, 0, 0, 10, 0,   240, 600,
+    9, 0, 0, 15, 300, 300, 900,
 };
 static const int32_t second_jobs[] = {
-    4, 0, 10, 0,   120, 600,
-    9, 0, 15, 400, 300, 900,
+    4, 31, 0, 10, 0,   120, 600,
+    9, 32, 0, 15, 400, 300, 900,
 };
 static const int32_t times[] = {50, 200, 300, 650, 800};
 
@@ -40,8 +40,8 @@ static int print_winners(size_t first_len, size_t second_len, int32_t t)
     if (fair.refusal != LEAFANCHOR_NONE) {
         return refused(fair.refusal, fair.field);
     }
-    printf("at %" PRId32 ": the %s opening, for the night desk the %s\n", t, fair.winner == 1 ? "first" : "second",
-           night.winner == 1 ? "first" : "second");
+    printf("at %" PRId32 ": the %s opening, of kind %" PRIu32 ", for the night desk the %s\n", t,
+           fair.winner == 1 ? "first" : "second", fair.kind, night.winner == 1 ? "first" : "second");
     return 0;
 }
 

@@ -8,11 +8,11 @@
 /* Check 4, whose optional half is job 36, and check 9, whose optional half is job 41: an optional half's number is 32
  * above its critical half's, and it takes 60 seconds for each of its weight. */
 static const int32_t jobs[] = {
-    /* number, critical, weight, ready, length, deadline */
-    4,  1, 0, -900, 300, -300,
-    36, 0, 5, -900, 300, 0,
-    9,  1, 0, -900, 200, 0,
-    41, 0, 8, -900, 480, 300,
+    /* number, pack, critical, weight, ready, length, deadline */
+    4,  0, 1, 0, -900, 300, -300,
+    36, 0, 0, 5, -900, 300, 0,
+    9,  0, 1, 0, -900, 200, 0,
+    41, 0, 0, 8, -900, 480, 300,
 };
 #define NUMBERS (sizeof jobs / sizeof jobs[0])
 
@@ -20,14 +20,14 @@ static uint8_t order[LEAFANCHOR_ORDER_BYTES];
 static int32_t starts[LEAFANCHOR_STARTS];
 static int32_t work[LEAFANCHOR_WORK_AREA];
 
-/* Prints one line: the job of these six numbers, and when it runs. */
+/* Prints one line: the job of these seven numbers, and when it runs. */
 static void print_job(const int32_t *job, int32_t start)
 {
-    printf("job %" PRId32 ", %s: ", job[0], job[1] == 1 ? "critical" : "optional");
+    printf("job %" PRId32 ", %s: ", job[0], job[2] == 1 ? "critical" : "optional");
     if (start == LEAFANCHOR_LEFT_OUT) {
         printf("left out\n");
     } else {
-        printf("from %" PRId32 " to %" PRId32 "\n", start, start + job[4]);
+        printf("from %" PRId32 " to %" PRId32 "\n", start, start + job[5]);
     }
 }
 

@@ -14,15 +14,15 @@
  * ready later. */
 static const int32_t bus_free[OPENINGS] = {0, 60};
 static const leafanchor_job opening_jobs[OPENINGS][2] = {
-    /* number, critical, weight, ready, length, deadline */
-    {{4, 0, 10, 0, 240, 600}, {9, 0, 15, 300, 300, 900}},
-    {{4, 0, 10, 0, 120, 600}, {9, 0, 15, 400, 300, 900}},
+    /* number, pack, critical, weight, ready, length, deadline */
+    {{4, 0, 0, 10, 0, 240, 600}, {9, 0, 0, 15, 300, 300, 900}},
+    {{4, 0, 0, 10, 0, 120, 600}, {9, 0, 0, 15, 400, 300, 900}},
 };
 /* The tail: a heat-up that must run, a balancing and a top-up. */
 static const leafanchor_job tail_jobs[] = {
-    {21, 1, 0,  200, 120, 700},
-    {33, 0, 20, 0,   200, 560},
-    {17, 0, 12, 300, 100, 640},
+    {21, 0, 1, 0,  200, 120, 700},
+    {33, 0, 0, 20, 0,   200, 560},
+    {17, 0, 0, 12, 300, 100, 640},
 };
 #define TAIL_JOBS (sizeof tail_jobs / sizeof *tail_jobs)
 

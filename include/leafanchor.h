@@ -2,16 +2,18 @@
  * The C header of Leafanchor, the planner of an air-taxi stand's one service bus. It declares every call of
  * libleafanchor.a, every answer and every size. C99 is enough, and C++98. The rules, R1 and on, are in docs/RULES.md.
  *
- * Words. Times are whole signed seconds. A job has six fields (leafanchor_job); a critical one is always kept, any
+ * Words. Times are whole signed seconds. A job has seven fields (leafanchor_job); a critical one is always kept, any
  * other has a weight and may be left out. Its finish is its start plus its length; the deadline binds the finish
- * alone. After every job the contactor rests 15 seconds before the bus is free: the next job kept starts then at the
- * earliest. An order is t0, the time at which the bus is free, and up to 48 jobs in the dispatcher's sequence;
- * packed, it is 4 bytes and 8 a job (R21). A job's place in its order counts from 0; a reader goes from place to
- * place over the packed bytes. A choice says which jobs are kept; it is feasible if all critical ones are and every
- * deadline is met. A plan is a choice and the start of each job kept. A point is a bus-free time and the weight that
- * can be kept by then; a profile is a list of points, both figures rising (R11). An opening is an order that the
- * hangar may pick for the front of a morning; the tail is the order behind it. A repeating job comes again with every
- * period; the frame of repeating jobs is the time after which all of them begin anew (R42).
+ * alone. Its pack says which battery pack it is for; plans and profiles do not read it (R44). After every job the
+ * contactor rests 15 seconds before the bus is free: the next job kept starts then at the earliest. An order is t0,
+ * the time at which the bus is free, and up to 48 jobs in the dispatcher's sequence; packed, it is 4 bytes and a
+ * record a job (R21). Records are of kind 0, 8 bytes each, where every pack is 0, else of kind 1, 9 bytes each. A
+ * job's place in its order counts from 0; a reader goes from place to place over the packed bytes. A choice says which
+ * jobs are kept; it is feasible if all critical ones are and every deadline is met. A plan is a choice and the start
+ * of each job kept. A point is a bus-free time and the weight that can be kept by then; a profile is a list of points,
+ * both figures rising (R11). An opening is an order that the hangar may pick for the front of a morning; the tail is
+ * the order behind it. A repeating job comes again with every period; the frame of repeating jobs is the time after
+ * which all of them begin anew (R42).
  *
  * Machines. The library is for x86-64, where it is called by the System V convention, and for aarch64; where pointers
  * or size_t do not have 64 bits, or a number's greater byte comes first, this header stops with one sentence. Of the
@@ -31,10 +33,11 @@
  * work area and output buffers of its own; a handler must have saved the vector registers, since calls use them. A
  * call takes LEAFANCHOR_STACK bytes of stack at most, as measured (docs/SPEED.md).
  *
- * A refused call says why by a number (leafanchor_refusal). Of several the lowest is given, but for 13, 14 and 15,
- * which come after 9 and before 10; those of a second opening, 1 to 9, come after all of the first's; for a frame 16
- * and 17 come behind 3 and 4 of the numbers given, before 3 and 9 of the order made (R25). In a refused answer every
- * figure is 0 but the refusal, the place for 6, 7, 13 and 16, the field for 6, and where a reader stands (R26).
+ * A refused call says why by a number (leafanchor_refusal). Of several the lowest is given, but for 19, which comes
+ * after 5 and before 6, and 13, 14 and 15, which come after 9 and before 10; those of a second opening, 1 to 9 and 19,
+ * come after all of the first's; for a frame 16 and 17 come behind 3 and 4 of the numbers given, before 3 and 9 of the
+ * order made (R25). In a refused answer every figure is 0 but the refusal, the place for 6, 7, 13 and 16, the field
+ * for 6, and where a reader stands (R26).
  *
  * The work area is room that a call is lent for its search. It may hold anything before; its first
  * LEAFANCHOR_WORK_AREA numbers are 0 after every call that has one and passes refusal 10, refused with 11 or not
@@ -63,7 +66,7 @@ extern "C" {
  * one rises then. */
 #define LEAFANCHOR_VERSION_MAJOR 0
 /** The version's second figure: it rises when something is added. */
-#define LEAFANCHOR_VERSION_MINOR 8
+#define LEAFANCHOR_VERSION_MINOR 9
 /** The version's third figure: it rises when something is mended or made smaller. */
 #define LEAFANCHOR_VERSION_PATCH 0
 /** The version as text, "MAJOR.MINOR.PATCH". */
@@ -92,9 +95,9 @@ extern "C" {
 #endif
 
 #define LEAFANCHOR_MOST_JOBS 48          /**< jobs of one order, at most */
-#define LEAFANCHOR_ORDER_BYTES 388       /**< bytes of the longest packed order: 4 + 8 a job */
-#define LEAFANCHOR_JOB_NUMBERS 6         /**< numbers of an unpacked job, those of leafanchor_job in its order */
-#define LEAFANCHOR_ORDER_NUMBERS 288     /**< numbers of the longest unpacked order */
+#define LEAFANCHOR_ORDER_BYTES 436       /**< bytes of the longest packed order: 4, and 9 a job of kind 1 */
+#define LEAFANCHOR_JOB_NUMBERS 7         /**< numbers of an unpacked job, those of leafanchor_job in its order */
+#define LEAFANCHOR_ORDER_NUMBERS 336     /**< numbers of the longest unpacked order */
 #define LEAFANCHOR_STARTS 48             /**< starts of the longest plan */
 #define LEAFANCHOR_PLAN_BYTES 114        /**< bytes of the longest packed plan: 48 bits, and 18 a start */
 #define LEAFANCHOR_PROFILE_ROOM 602      /**< numbers that extend and better-of ask room for: 301 points */
@@ -105,7 +108,7 @@ extern "C" {
 #define LEAFANCHOR_HALVES_APART 32       /**< an optional half's number less that of its critical half */
 #define LEAFANCHOR_SECONDS_PER_WEIGHT 60 /**< seconds that an optional half takes for each weight */
 #define LEAFANCHOR_MOST_REPEATING 16     /**< repeating jobs of one frame, at most */
-#define LEAFANCHOR_REPEATING_NUMBERS 96  /**< numbers of so many, six a job */
+#define LEAFANCHOR_REPEATING_NUMBERS 96  /**< numbers of so many, six a job: those of leafanchor_repeating */
 #define LEAFANCHOR_LONGEST_FRAME 86400   /**< seconds of the longest frame, and of the longest period */
 #define LEAFANCHOR_STACK 8192            /**< bytes of stack that a call takes at most, those of this header too */
 #define LEAFANCHOR_PHRASE_ROOM 64        /**< bytes that the longest text of leafanchor_tell takes, its end included */
@@ -115,10 +118,11 @@ extern "C" {
 enum leafanchor_refusal {
     LEAFANCHOR_NONE = 0,                  /**< not refused */
     LEAFANCHOR_ORDER_TOO_SHORT = 1,       /**< the packed order is under 4 bytes */
-    LEAFANCHOR_SPARE_BITS = 2,            /**< the header's spare bits are not zero */
-    LEAFANCHOR_TOO_MANY_JOBS = 3,         /**< more than 48 jobs (packing: more than 288 numbers; a frame: more than 96
+    LEAFANCHOR_UNKNOWN_KIND = 2,          /**< the kind of the records is above 1 */
+    LEAFANCHOR_TOO_MANY_JOBS = 3,         /**< more than 48 jobs (packing: more than 336 numbers; a frame: more than 96
                                            * numbers, or more than 48 repeats) */
-    LEAFANCHOR_WRONG_LENGTH = 4,          /**< not 4 + 8n bytes (packing and a frame: not a multiple of 6 numbers) */
+    LEAFANCHOR_WRONG_LENGTH = 4,          /**< not 4 + 8n bytes, 4 + 9n in kind 1 (packing: not a multiple of 7
+                                           * numbers; a frame: of 6) */
     LEAFANCHOR_BUS_FREE_OUT_OF_RANGE = 5, /**< the bus-free time is out of range */
     LEAFANCHOR_JOB_OUT_OF_RANGE = 6,      /**< a job's field is out of range; the place is the first such job's,
                                            * the field its first such one */
@@ -135,7 +139,9 @@ enum leafanchor_refusal {
     LEAFANCHOR_PLAN_STRAY_BITS = 15,      /**< the packed plan has bits set beyond the order's jobs or at its end */
     LEAFANCHOR_REPEATING_NOT_VALID = 16,  /**< a repeating job's field is out of range, or its phase, deadline and rest
                                            * pass its period; the place is the first such job's */
-    LEAFANCHOR_FRAME_TOO_LONG = 17        /**< the least common multiple of the periods is above 86,400 */
+    LEAFANCHOR_FRAME_TOO_LONG = 17,       /**< the least common multiple of the periods is above 86,400 */
+    LEAFANCHOR_EVERY_PACK_ZERO = 19       /**< the records are of kind 1 and every pack is 0, as in an order of no
+                                           * jobs: such an order is of kind 0 */
 };
 
 /** A refusal in words for a person, those of include/phrases.txt.
@@ -147,7 +153,7 @@ static inline const char *leafanchor_phrase(uint32_t refusal)
     switch (refusal) {
     case LEAFANCHOR_NONE: return "not refused";
     case LEAFANCHOR_ORDER_TOO_SHORT: return "the packed order is under 4 bytes";
-    case LEAFANCHOR_SPARE_BITS: return "the header's spare bits are not zero";
+    case LEAFANCHOR_UNKNOWN_KIND: return "the kind of the records is above 1";
     case LEAFANCHOR_TOO_MANY_JOBS: return "there are more than 48 jobs, or more than 16 that repeat";
     case LEAFANCHOR_WRONG_LENGTH: return "the length does not fit the number of jobs";
     case LEAFANCHOR_BUS_FREE_OUT_OF_RANGE: return "the bus-free time is out of range";
@@ -163,20 +169,22 @@ static inline const char *leafanchor_phrase(uint32_t refusal)
     case LEAFANCHOR_PLAN_STRAY_BITS: return "the packed plan has bits set that must be zero";
     case LEAFANCHOR_REPEATING_NOT_VALID: return "a repeating job's field is out of range, or its deadline late";
     case LEAFANCHOR_FRAME_TOO_LONG: return "the frame is longer than 86,400 seconds";
+    case LEAFANCHOR_EVERY_PACK_ZERO: return "the records are of kind 1 and every pack is 0";
     default: return "no such refusal";
     }
 }
 
 /** Which field of a job is out of range (R36): the first such in the order of a packed record, for refusal 6; 0 with
- * every other answer. A packed order holds the first two within their ranges: packing alone can name them. */
+ * every other answer. A packed order holds the first three within their ranges: packing alone can name them. */
 enum leafanchor_field {
     LEAFANCHOR_NO_FIELD = 0,       /**< the answer names none */
     LEAFANCHOR_FIELD_NUMBER = 1,   /**< not 0 to 63 */
-    LEAFANCHOR_FIELD_CRITICAL = 2, /**< neither 0 nor 1 */
-    LEAFANCHOR_FIELD_WEIGHT = 3,   /**< not 0 where the job is critical, else not 1 to 50 */
-    LEAFANCHOR_FIELD_READY = 4,    /**< not -100,000 to 100,000 */
-    LEAFANCHOR_FIELD_LENGTH = 5,   /**< not 1 to 10,000 */
-    LEAFANCHOR_FIELD_DEADLINE = 6  /**< not -100,000 to 100,000 */
+    LEAFANCHOR_FIELD_PACK = 2,     /**< not 0 to 255 */
+    LEAFANCHOR_FIELD_CRITICAL = 3, /**< neither 0 nor 1 */
+    LEAFANCHOR_FIELD_WEIGHT = 4,   /**< not 0 where the job is critical, else not 1 to 50 */
+    LEAFANCHOR_FIELD_READY = 5,    /**< not -100,000 to 100,000 */
+    LEAFANCHOR_FIELD_LENGTH = 6,   /**< not 1 to 10,000 */
+    LEAFANCHOR_FIELD_DEADLINE = 7  /**< not -100,000 to 100,000 */
 };
 
 /** A field's name for a person, as in "job at place 2: length out of range".
@@ -188,6 +196,7 @@ static inline const char *leafanchor_field_name(uint32_t field)
     switch (field) {
     case LEAFANCHOR_NO_FIELD: return "no field";
     case LEAFANCHOR_FIELD_NUMBER: return "number";
+    case LEAFANCHOR_FIELD_PACK: return "pack";
     case LEAFANCHOR_FIELD_CRITICAL: return "critical mark";
     case LEAFANCHOR_FIELD_WEIGHT: return "weight";
     case LEAFANCHOR_FIELD_READY: return "ready time";
@@ -287,7 +296,7 @@ typedef struct leafanchor_heat_answer {
 
 /** What unpacking gives beside the numbers. */
 typedef struct leafanchor_unpack_answer {
-    uint32_t refusal; /**< 1 to 7, 9, 10 or 0 */
+    uint32_t refusal; /**< 1 to 7, 9, 10, 19 or 0 */
     size_t place;     /**< of the refused job, for 6 and 7 */
     uint32_t field;   /**< of that job, for 6 */
     size_t jobs;      /**< of the order */
@@ -296,7 +305,7 @@ typedef struct leafanchor_unpack_answer {
 
 /** What packing an order and writing a plan give beside the bytes. */
 typedef struct leafanchor_pack_answer {
-    uint32_t refusal; /**< packing: 3 to 7, 9, 10 or 0; writing a plan: 1 to 7, 9 to 11 or 0 */
+    uint32_t refusal; /**< packing: 3 to 7, 9, 10 or 0; writing a plan: 1 to 7, 9 to 11, 19 or 0 */
     size_t place;     /**< of the refused job, for 6 and 7 */
     uint32_t field;   /**< of that job, for 6 */
     size_t bytes;     /**< written */
@@ -312,17 +321,18 @@ typedef struct leafanchor_frame_answer {
 
 /** What a reader will meet. */
 typedef struct leafanchor_open_answer {
-    uint32_t refusal; /**< 1 to 5 or 0 */
+    uint32_t refusal; /**< 1 to 5, 19 or 0 */
     size_t jobs;      /**< of the order */
 } leafanchor_open_answer;
 
 /** One step of a reader: a job, the end or a refusal. The job's fields are 0 where there is none. */
 typedef struct leafanchor_step_answer {
-    uint32_t refusal; /**< 1 to 6 or 0 */
+    uint32_t refusal; /**< 1 to 6, 19 or 0 */
     size_t place;     /**< of the refused job, for 6 */
     uint32_t field;   /**< of that job, for 6 */
     uint32_t end;     /**< 1 at the end of the order, else 0 */
     int32_t number;   /**< the job's number, 0 to 63 */
+    int32_t pack;     /**< its pack, 0 to 255; 0 in kind 0 */
     int32_t critical; /**< 1 where it is critical, else 0 */
     int32_t weight;   /**< its weight, 0 where it is critical */
     int32_t ready;    /**< the second from which it may run */
@@ -352,7 +362,7 @@ typedef struct leafanchor_better_answer {
 
 /** What extending gives beside the profile. */
 typedef struct leafanchor_extend_answer {
-    uint32_t refusal; /**< 1 to 10 or 0 */
+    uint32_t refusal; /**< 1 to 10, 19 or 0 */
     size_t place;     /**< of the refused job, for 6 and 7 */
     uint32_t field;   /**< of that job, for 6 */
     size_t points;    /**< written; each is two numbers */
@@ -360,7 +370,7 @@ typedef struct leafanchor_extend_answer {
 
 /** What planning gives beside the starts. */
 typedef struct leafanchor_plan_answer {
-    uint32_t refusal;     /**< 1 to 7, 9 to 11 or 0 */
+    uint32_t refusal;     /**< 1 to 7, 9 to 11, 19 or 0 */
     size_t place;         /**< of the refused job, for 6 and 7 */
     uint32_t field;       /**< of that job, for 6 */
     uint64_t mask;        /**< a one for each job kept, the highest bit for place 0 */
@@ -374,7 +384,7 @@ typedef struct leafanchor_plan_answer {
 
 /** What planning halves gives beside the starts: the figures of planning, and the optional seconds lost. */
 typedef struct leafanchor_halves_answer {
-    uint32_t refusal;      /**< 1 to 7, 9 to 11, 13 or 0 */
+    uint32_t refusal;      /**< 1 to 7, 9 to 11, 13, 19 or 0 */
     size_t place;          /**< of the refused job, for 6, 7 and 13 */
     uint32_t field;        /**< of that job, for 6 */
     uint64_t mask;         /**< a one for each job kept, the highest bit for place 0 */
@@ -388,26 +398,29 @@ typedef struct leafanchor_halves_answer {
 
 /** Whether a plan is legal, or best. */
 typedef struct leafanchor_verdict_answer {
-    uint32_t refusal; /**< 1 to 7, 9, 14, 15 or 0; for best also 10 */
+    uint32_t refusal; /**< 1 to 7, 9, 14, 15, 19 or 0; for best also 10 */
     size_t place;     /**< of the refused job, for 6 and 7 */
     uint32_t field;   /**< of that job, for 6 */
     uint32_t yes;     /**< 1 where it is, else 0 */
 } leafanchor_verdict_answer;
 
-/** Which opening is worth more. */
+/** Which opening is worth more, and the kind of its records. */
 typedef struct leafanchor_question_answer {
-    uint32_t refusal; /**< 1 to 7, 9 to 11 or 0 */
+    uint32_t refusal; /**< 1 to 7, 9 to 11, 19 or 0 */
     uint32_t field;   /**< of the refused job, for 6 */
     uint32_t winner;  /**< 1 or 2; 0 if refused */
+    uint32_t kind;    /**< of the winner's records, 0 or 1; 0 if refused */
 } leafanchor_question_answer;
 
-/** Which opening is worth more, and where its records, 8 bytes a job, lie: its bytes offset .. offset + length. */
+/** Which opening is worth more, and where its records, 8 bytes a job or 9 by their kind, lie: its bytes offset ..
+ * offset + length. */
 typedef struct leafanchor_choose_answer {
-    uint32_t refusal; /**< 1 to 7, 9 to 11 or 0 */
+    uint32_t refusal; /**< 1 to 7, 9 to 11, 19 or 0 */
     uint32_t field;   /**< of the refused job, for 6 */
     uint32_t winner;  /**< 1 or 2; 0 if refused */
     size_t offset;    /**< of the winner's first record */
     size_t length;    /**< of its records together, in bytes */
+    uint32_t kind;    /**< of these records, 0 or 1; 0 if refused */
 } leafanchor_choose_answer;
 
 /** The heat-up length for a sample of the cell's temperature (R20). Refusal 12 gives 0 seconds.
@@ -416,47 +429,48 @@ typedef struct leafanchor_choose_answer {
 LEAFANCHOR_MUST_USE
 leafanchor_heat_answer leafanchor_heat_up(uint8_t byte);
 
-/** Unpacks an order: six numbers a job (R22). Refusals 1 to 7, 9 and 10 write nothing.
+/** Unpacks an order: seven numbers a job (R22). Refusals 1 to 7, 9, 10 and 19 write nothing.
  * @param order the packed order
  * @param order_len its bytes
- * @param numbers written: number, critical, weight, ready, length and deadline of each job
- * @param numbers_len room for 6 numbers a job
+ * @param numbers written: number, pack, critical, weight, ready, length and deadline of each job
+ * @param numbers_len room for 7 numbers a job
  * @return the number of jobs and the bus-free time */
 LEAFANCHOR_MUST_USE
 leafanchor_unpack_answer leafanchor_unpack(const uint8_t *order, size_t order_len, int32_t *numbers,
                                            size_t numbers_len);
 
-/** Packs an order (R21). Refusals 3 to 7, 9 and 10 write nothing.
+/** Packs an order (R21): records of kind 0 where every pack is 0, else of kind 1. Refusals 3 to 7, 9 and 10 write
+ * nothing.
  * @param t0 the bus-free time, -100,000 to 100,000: a plan's finish of 100,001 to 100,015 is no t0 of a next order,
  * though a valid time of a point
- * @param numbers six numbers a job, as unpacking writes them
+ * @param numbers seven numbers a job, as unpacking writes them
  * @param numbers_len how many numbers
  * @param order written: the packed order
- * @param order_len room for 4 bytes and 8 a job
+ * @param order_len room for 4 bytes and 8 a job, 9 in kind 1
  * @return the bytes written */
 LEAFANCHOR_MUST_USE
 leafanchor_pack_answer leafanchor_pack(int32_t t0, const int32_t *numbers, size_t numbers_len, uint8_t *order,
                                        size_t order_len);
 
 /** Packs the order of one frame of repeating jobs (R43): each at its phase and every period from there, below the
- * frame; t0 is 0. Refusals 3, 4, 16, 17, then 3 and 9 of the order made, then 10; they write nothing.
+ * frame; t0 and every pack are 0. Refusals 3, 4, 16, 17, then 3 and 9 of the order made, then 10; they write nothing.
  * @param repeating six numbers a job: critical, weight, phase, length, deadline behind each ready time, and period
  * @param repeating_len how many numbers, LEAFANCHOR_REPEATING_NUMBERS at most; with none the frame is 1
  * @param order written: the packed order, by ready time and then by the place given, numbered 0, 1, 2 and so on
- * @param order_len room for 4 bytes and 8 a repeat, LEAFANCHOR_ORDER_BYTES at most
+ * @param order_len room for 4 bytes and 8 a repeat; LEAFANCHOR_ORDER_BYTES are enough
  * @return the bytes written and the frame */
 LEAFANCHOR_MUST_USE
 leafanchor_frame_answer leafanchor_frame(const int32_t *repeating, size_t repeating_len, uint8_t *order,
                                          size_t order_len);
 
-/** Whether a reader may stand over these bytes (R23). Refusals 1 to 5 give 0 jobs.
+/** Whether a reader may stand over these bytes (R23). Refusals 1 to 5 and 19 give 0 jobs.
  * @param order the packed order
  * @param order_len its bytes
  * @return how many jobs the reader will meet */
 LEAFANCHOR_MUST_USE
 leafanchor_open_answer leafanchor_open(const uint8_t *order, size_t order_len);
 
-/** Reads the job at a place of the order (R23). Refusals 1 to 6 give no job, and the reader stays at its place.
+/** Reads the job at a place of the order (R23). Refusals 1 to 6 and 19 give no job, and the reader stays at its place.
  * @param order the packed order
  * @param order_len its bytes
  * @param place where the reader stands; 0 at first
@@ -495,7 +509,7 @@ leafanchor_better_answer leafanchor_better_of(const int32_t *p, size_t p_len, co
                                               int32_t *out, size_t out_len);
 
 /** Extends a profile by an order (R12): what can be kept by when if the order comes behind; (t0, 0) extended by an
- * order is that order's profile (R13). Refusals 1 to 10 write nothing.
+ * order is that order's profile (R13). Refusals 1 to 10 and 19 write nothing.
  * @param profile alternating times and weights
  * @param profile_len how many numbers: twice the points
  * @param order the packed order; its t0 is checked and has no other effect
@@ -510,7 +524,7 @@ leafanchor_extend_answer leafanchor_extend(const int32_t *profile, size_t profil
                                            size_t order_len, int32_t *out, size_t out_len, int32_t *work,
                                            size_t work_len);
 
-/** Plans an order: the plan that loses the least weight (R7, R8). Refusals 1 to 7 and 9 to 11 write no start.
+/** Plans an order: the plan that loses the least weight (R7, R8). Refusals 1 to 7, 9 to 11 and 19 write no start.
  * @param order the packed order
  * @param order_len its bytes
  * @param starts written: the start of each job, LEAFANCHOR_LEFT_OUT for a job left out
@@ -523,7 +537,7 @@ leafanchor_plan_answer leafanchor_plan(const uint8_t *order, size_t order_len, i
                                        int32_t *work, size_t work_len);
 
 /** Plans an order of halves as leafanchor_plan does, and tells the optional seconds lost (R34, R35). Refusals 1 to 7,
- * 9 to 11 and 13 write no start; 13 is judged after 9, whatever the buffers.
+ * 9 to 11, 13 and 19 write no start; 13 is judged after 9, whatever the buffers.
  * @param order the packed order: each non-critical job comes behind the critical one whose optional half it is, its
  * number LEAFANCHOR_HALVES_APART above that one's, its length LEAFANCHOR_SECONDS_PER_WEIGHT times its weight; no
  * critical job is numbered above LEAFANCHOR_HIGHEST_HALF
@@ -537,8 +551,8 @@ LEAFANCHOR_MUST_USE
 leafanchor_halves_answer leafanchor_plan_halves(const uint8_t *order, size_t order_len, int32_t *starts,
                                                 size_t starts_len, int32_t *work, size_t work_len);
 
-/** Writes the plan of leafanchor_plan in packed bytes (R37, R40): legal and best. Refusals 1 to 7 and 9 to 11 write no
- * byte.
+/** Writes the plan of leafanchor_plan in packed bytes (R37, R40): legal and best. Refusals 1 to 7, 9 to 11 and 19 write
+ * no byte.
  * @param order the packed order
  * @param order_len its bytes
  * @param out written: the packed plan
@@ -551,7 +565,8 @@ leafanchor_pack_answer leafanchor_write_plan(const uint8_t *order, size_t order_
                                              int32_t *work, size_t work_len);
 
 /** Whether a packed plan, of any planner, is legal for an order (R38): all critical jobs kept, no start before t0 or
- * its job's ready time, rests observed, deadlines met. Refusals 1 to 7 and 9 of the order, then 14 and 15 of the plan.
+ * its job's ready time, rests observed, deadlines met. Refusals 1 to 7, 9 and 19 of the order, then 14 and 15 of the
+ * plan.
  * @param order the packed order
  * @param order_len its bytes
  * @param plan the packed plan: the jobs kept and the start of each (R37)
@@ -562,7 +577,7 @@ leafanchor_verdict_answer leafanchor_legal(const uint8_t *order, size_t order_le
                                            size_t plan_len);
 
 /** Whether a packed plan, of any planner, is best for an order (R39): legal, and no feasible choice keeps more weight.
- * Refusals 1 to 7 and 9 of the order, 14 and 15 of the plan, then 10; no for a plan that is not legal.
+ * Refusals 1 to 7, 9 and 19 of the order, 14 and 15 of the plan, then 10; no for a plan that is not legal.
  * @param order the packed order
  * @param order_len its bytes
  * @param plan the packed plan: the jobs kept and the start of each (R37)
@@ -575,9 +590,10 @@ leafanchor_verdict_answer leafanchor_best(const uint8_t *order, size_t order_len
                                           size_t plan_len, int32_t *work, size_t work_len);
 
 /** Asks which of two openings is worth more at a time; equal weight goes to the opening that reaches it sooner, by the
- * times of the points found at t, and only then to the first (R17). Refusals 1 to 7 and 9 of either opening, 10 and 11
- * name no winner. Which opening one of 1 to 9 is about: plan the first alone. It gives that refusal with its place and
- * field; or else it is the second's, and planning the second alone gives it.
+ * times of the points found at t, and only then to the first (R17). The openings may be of unlike kinds. Refusals 1 to
+ * 7, 9 and 19 of either opening, 10 and 11 name no winner. Which opening one of 1 to 9 or 19 is about: plan the first
+ * alone. It gives that refusal with its place and field; or else it is the second's, and planning the second alone
+ * gives it.
  * @param first the first packed order
  * @param first_len its bytes
  * @param second the second packed order
@@ -585,7 +601,7 @@ leafanchor_verdict_answer leafanchor_best(const uint8_t *order, size_t order_len
  * @param t any time
  * @param work the work area
  * @param work_len room for LEAFANCHOR_WORK_AREA numbers
- * @return the winner */
+ * @return the winner, and the kind of its records */
 LEAFANCHOR_MUST_USE
 leafanchor_question_answer leafanchor_question(const uint8_t *first, size_t first_len, const uint8_t *second,
                                                size_t second_len, int32_t t, int32_t *work, size_t work_len);
@@ -598,7 +614,7 @@ leafanchor_question_answer leafanchor_question(const uint8_t *first, size_t firs
  * @param t any time
  * @param work the work area
  * @param work_len room for LEAFANCHOR_WORK_AREA numbers
- * @return the winner */
+ * @return the winner, and the kind of its records */
 LEAFANCHOR_MUST_USE
 leafanchor_question_answer leafanchor_question_first(const uint8_t *first, size_t first_len, const uint8_t *second,
                                                      size_t second_len, int32_t t, int32_t *work, size_t work_len);
@@ -612,7 +628,7 @@ leafanchor_question_answer leafanchor_question_first(const uint8_t *first, size_
  * @param t any time
  * @param work the work area
  * @param work_len room for LEAFANCHOR_WORK_AREA numbers
- * @return the winner and its part */
+ * @return the winner, its part and its kind */
 LEAFANCHOR_MUST_USE
 leafanchor_choose_answer leafanchor_choose(const uint8_t *first, size_t first_len, const uint8_t *second,
                                            size_t second_len, int32_t t, int32_t *work, size_t work_len);
@@ -625,14 +641,15 @@ leafanchor_choose_answer leafanchor_choose(const uint8_t *first, size_t first_le
  * @param t any time
  * @param work the work area
  * @param work_len room for LEAFANCHOR_WORK_AREA numbers
- * @return the winner and its part */
+ * @return the winner, its part and its kind */
 LEAFANCHOR_MUST_USE
 leafanchor_choose_answer leafanchor_choose_first(const uint8_t *first, size_t first_len, const uint8_t *second,
                                                  size_t second_len, int32_t t, int32_t *work, size_t work_len);
 
-/** A job (R2). An array of jobs is a list of unpacked numbers, six a job. */
+/** A job (R2). An array of jobs is a list of unpacked numbers, seven a job. */
 typedef struct leafanchor_job {
     int32_t number;   /**< 0 to 63, unlike any other of the order */
+    int32_t pack;     /**< 0 to 255: the battery pack that it is for; no plan depends on it */
     int32_t critical; /**< 1 where it may not be left out, else 0 */
     int32_t weight;   /**< 0 where it is critical, else 1 to 50 */
     int32_t ready;    /**< the second from which it may run */
@@ -676,7 +693,7 @@ static inline leafanchor_unpack_answer leafanchor_unpack_jobs(const uint8_t *ord
  * @param jobs the jobs
  * @param jobs_len how many
  * @param order written: the packed order
- * @param order_len room for 4 bytes and 8 a job, LEAFANCHOR_ORDER_BYTES at most
+ * @param order_len room for 4 bytes and 8 a job, 9 in kind 1; LEAFANCHOR_ORDER_BYTES at most
  * @return the bytes written */
 LEAFANCHOR_MUST_USE
 static inline leafanchor_pack_answer leafanchor_pack_jobs(int32_t t0, const leafanchor_job *jobs, size_t jobs_len,
@@ -690,13 +707,14 @@ static inline leafanchor_pack_answer leafanchor_pack_jobs(int32_t t0, const leaf
  * @param jobs the repeating jobs
  * @param jobs_len how many
  * @param order written: the packed order of one frame
- * @param order_len room for 4 bytes and 8 a repeat, LEAFANCHOR_ORDER_BYTES at most
+ * @param order_len room for 4 bytes and 8 a repeat; LEAFANCHOR_ORDER_BYTES are enough
  * @return the bytes written and the frame */
 LEAFANCHOR_MUST_USE
 static inline leafanchor_frame_answer leafanchor_frame_jobs(const leafanchor_repeating *jobs, size_t jobs_len,
                                                             uint8_t *order, size_t order_len)
 {
-    return leafanchor_frame((const int32_t *)(const void *)jobs, LEAFANCHOR_JOB_NUMBERS * jobs_len, order, order_len);
+    return leafanchor_frame((const int32_t *)(const void *)jobs, sizeof *jobs / sizeof(int32_t) * jobs_len, order,
+                            order_len);
 }
 
 /** The job that a reader's step gave.
@@ -705,7 +723,8 @@ static inline leafanchor_frame_answer leafanchor_frame_jobs(const leafanchor_rep
 LEAFANCHOR_MUST_USE
 static inline leafanchor_job leafanchor_job_of_step(leafanchor_step_answer step)
 {
-    leafanchor_job job = {step.number, step.critical, step.weight, step.ready, step.length, step.deadline};
+    leafanchor_job job = {step.number, step.pack,   step.critical, step.weight,
+                          step.ready,  step.length, step.deadline};
     return job;
 }
 
@@ -847,11 +866,11 @@ static inline leafanchor_lookup_answer leafanchor_profile_lookup(const leafancho
     OFFSET(frame_answer, frame, 24)                                                                           \
     SIZE(open_answer, 16)                                                                                     \
     OFFSET(open_answer, refusal, 0) OFFSET(open_answer, jobs, 8)                                              \
-    SIZE(step_answer, 56)                                                                                     \
+    SIZE(step_answer, 64)                                                                                     \
     OFFSET(step_answer, refusal, 0) OFFSET(step_answer, place, 8) OFFSET(step_answer, field, 16)              \
-    OFFSET(step_answer, end, 20) OFFSET(step_answer, number, 24) OFFSET(step_answer, critical, 28)            \
-    OFFSET(step_answer, weight, 32) OFFSET(step_answer, ready, 36) OFFSET(step_answer, length, 40)            \
-    OFFSET(step_answer, deadline, 44) OFFSET(step_answer, next, 48)                                           \
+    OFFSET(step_answer, end, 20) OFFSET(step_answer, number, 24) OFFSET(step_answer, pack, 28)                \
+    OFFSET(step_answer, critical, 32) OFFSET(step_answer, weight, 36) OFFSET(step_answer, ready, 40)          \
+    OFFSET(step_answer, length, 44) OFFSET(step_answer, deadline, 48) OFFSET(step_answer, next, 56)           \
     SIZE(point, 8)                                                                                            \
     OFFSET(point, time, 0) OFFSET(point, weight, 4)                                                           \
     SIZE(lookup_answer, 12)                                                                                   \
@@ -873,11 +892,12 @@ static inline leafanchor_lookup_answer leafanchor_profile_lookup(const leafancho
     SIZE(verdict_answer, 24)                                                                                  \
     OFFSET(verdict_answer, refusal, 0) OFFSET(verdict_answer, place, 8) OFFSET(verdict_answer, field, 16)     \
     OFFSET(verdict_answer, yes, 20)                                                                           \
-    SIZE(question_answer, 12)                                                                                 \
+    SIZE(question_answer, 16)                                                                                 \
     OFFSET(question_answer, refusal, 0) OFFSET(question_answer, field, 4) OFFSET(question_answer, winner, 8)  \
-    SIZE(choose_answer, 32)                                                                                   \
+    OFFSET(question_answer, kind, 12)                                                                         \
+    SIZE(choose_answer, 40)                                                                                   \
     OFFSET(choose_answer, refusal, 0) OFFSET(choose_answer, field, 4) OFFSET(choose_answer, winner, 8)        \
-    OFFSET(choose_answer, offset, 16) OFFSET(choose_answer, length, 24)
+    OFFSET(choose_answer, offset, 16) OFFSET(choose_answer, length, 24) OFFSET(choose_answer, kind, 32)
 
 /** A fact that the compiler checks, where it can; where there is no library the one sentence above is enough. */
 #if !LEAFANCHOR_FITS
@@ -900,12 +920,13 @@ static inline leafanchor_lookup_answer leafanchor_profile_lookup(const leafancho
 LEAFANCHOR_LAYOUT(LEAFANCHOR_HAS_SIZE, LEAFANCHOR_LIES_AT)
 LEAFANCHOR_HAS_SIZE(job, LEAFANCHOR_JOB_NUMBERS * sizeof(int32_t))
 LEAFANCHOR_LIES_AT(job, number, 0)
-LEAFANCHOR_LIES_AT(job, critical, 4)
-LEAFANCHOR_LIES_AT(job, weight, 8)
-LEAFANCHOR_LIES_AT(job, ready, 12)
-LEAFANCHOR_LIES_AT(job, length, 16)
-LEAFANCHOR_LIES_AT(job, deadline, 20)
-LEAFANCHOR_HAS_SIZE(repeating, LEAFANCHOR_JOB_NUMBERS * sizeof(int32_t))
+LEAFANCHOR_LIES_AT(job, pack, 4)
+LEAFANCHOR_LIES_AT(job, critical, 8)
+LEAFANCHOR_LIES_AT(job, weight, 12)
+LEAFANCHOR_LIES_AT(job, ready, 16)
+LEAFANCHOR_LIES_AT(job, length, 20)
+LEAFANCHOR_LIES_AT(job, deadline, 24)
+LEAFANCHOR_HAS_SIZE(repeating, LEAFANCHOR_REPEATING_NUMBERS / LEAFANCHOR_MOST_REPEATING * sizeof(int32_t))
 LEAFANCHOR_LIES_AT(repeating, critical, 0)
 LEAFANCHOR_LIES_AT(repeating, weight, 4)
 LEAFANCHOR_LIES_AT(repeating, phase, 8)
@@ -913,7 +934,7 @@ LEAFANCHOR_LIES_AT(repeating, length, 12)
 LEAFANCHOR_LIES_AT(repeating, deadline, 16)
 LEAFANCHOR_LIES_AT(repeating, period, 20)
 LEAFANCHOR_HAS_SIZE(profile, 2416)
-LEAFANCHOR_HOLDS(LEAFANCHOR_ORDER_BYTES == 4 + 8 * LEAFANCHOR_MOST_JOBS, "bytes of an order")
+LEAFANCHOR_HOLDS(LEAFANCHOR_ORDER_BYTES == 4 + 9 * LEAFANCHOR_MOST_JOBS, "bytes of an order")
 LEAFANCHOR_HOLDS(LEAFANCHOR_ORDER_NUMBERS == LEAFANCHOR_JOB_NUMBERS * LEAFANCHOR_MOST_JOBS, "numbers of an order")
 LEAFANCHOR_HOLDS(LEAFANCHOR_STARTS == LEAFANCHOR_MOST_JOBS, "starts of a plan")
 LEAFANCHOR_HOLDS(LEAFANCHOR_PLAN_BYTES == (48 + 18 * LEAFANCHOR_STARTS + 7) / 8, "bytes of a plan")

@@ -19,7 +19,7 @@ PARTS = [
         packed Layout, packed Places, packed Packed, packed Judge, packed Refusals,
         unpack Answer, pack Answer, multiples Multiples, frames Frames, framing Answer, fields Fields, reader Reading, reader_struct Standing,
         profiles Numbers, profiles Answer, point_records Records, better Answer,
-        area Area, filling After, planner Calls, halves Calls, extending Calls, ties Winning, choosing Choosing,
+        area Area, filling After, planner Calls, halves Calls, extending Calls, ties Winning, choosing Choosing, openings Answer,
         packed_plan Plan, plan_writer Calls, checking Calls, best_plan Calls,
         packed_answers Numbers, plan_answers Numbers, opening_answers Numbers, verdict_answers Numbers, text Decimal, report Report'''),
 ]

@@ -1,7 +1,8 @@
 /* Calls every function of the header, on the worked figures P1 to P11, at the edges of the rest, on orders of halves,
- * on plans of P1, on frames, on openings of the same weight and on each field out of range, and says which answer
- * differs. That the header declares what the library defines, and that its own calls over jobs and profiles give what
- * the plain ones give, into another profile and in place, is seen here from C. Compiles as C99, as C11 and as C++17. */
+ * on plans of P1, on P1 with packs, on frames, on openings of the same weight and of unlike kinds and on each field out
+ * of range, and says which answer differs. That the header declares what the library defines, and that its own calls
+ * over jobs and profiles give what the plain ones give, into another profile and in place, is seen here from C.
+ * Compiles as C99, as C11 and as C++17. */
 #include "leafanchor.h"
 
 #include <stdio.h>
@@ -22,8 +23,8 @@ static void check(int holds, const char *what)
 #define CHECK(holds) check(holds, #holds)
 
 /* P1: bus free at -600, five jobs. */
-static const int32_t p1[] = {7, 1, 0,  -600, 495, 0,   3, 0, 20, -200, 300, 250, 12, 0, 15, 0,
-                             200, 300, 5, 1, 0, 100, 100, 450, 9, 0, 15, 0, 100, 500};
+static const int32_t p1[] = {7, 0, 1, 0,  -600, 495, 0,   3, 0, 0, 20, -200, 300, 250, 12, 0, 0, 15, 0,
+                             200, 300, 5, 0, 1, 0, 100, 100, 450, 9, 0, 0, 15, 0, 100, 500};
 static uint8_t order[LEAFANCHOR_ORDER_BYTES];
 static int32_t numbers[LEAFANCHOR_ORDER_NUMBERS];
 static int32_t starts[LEAFANCHOR_STARTS];
@@ -33,7 +34,7 @@ static int32_t work[LEAFANCHOR_WORK_AREA];
 /* P1 through packing, unpacking and the reader. */
 static void packed_orders(void)
 {
-    leafanchor_pack_answer packed = leafanchor_pack(-600, p1, 30, order, LEAFANCHOR_ORDER_BYTES);
+    leafanchor_pack_answer packed = leafanchor_pack(-600, p1, 35, order, LEAFANCHOR_ORDER_BYTES);
     CHECK(packed.refusal == 0 && packed.place == 0 && packed.field == 0 && packed.bytes == 44);
     CHECK(memcmp(order, "\x17\xFD\xA8\x00\x1E\x03\xFD\xA8\x07\xBC\x00\x00", 12) == 0);
     leafanchor_unpack_answer unpacked = leafanchor_unpack(order, 44, numbers, LEAFANCHOR_ORDER_NUMBERS);
@@ -44,7 +45,7 @@ static void packed_orders(void)
     CHECK(opened.refusal == 0 && opened.jobs == 5);
     leafanchor_step_answer job = leafanchor_step(order, 44, 1);
     CHECK(job.refusal == 0 && job.place == 0 && job.field == 0 && job.end == 0 && job.next == 2);
-    CHECK(job.number == 3 && job.critical == 0 && job.weight == 20);
+    CHECK(job.number == 3 && job.pack == 0 && job.critical == 0 && job.weight == 20);
     CHECK(job.ready == -200 && job.length == 300 && job.deadline == 250);
     CHECK(leafanchor_step(order, 44, 5).end == 1);
     CHECK(leafanchor_step(order, 3, 0).refusal == LEAFANCHOR_ORDER_TOO_SHORT);
@@ -54,8 +55,8 @@ static void packed_orders(void)
 static void jobs(void)
 {
     static const leafanchor_job wanted[] = {
-        {7, 1, 0, -600, 495, 0}, {3, 0, 20, -200, 300, 250}, {12, 0, 15, 0, 200, 300},
-        {5, 1, 0, 100, 100, 450}, {9, 0, 15, 0, 100, 500}};
+        {7, 0, 1, 0, -600, 495, 0}, {3, 0, 0, 20, -200, 300, 250}, {12, 0, 0, 15, 0, 200, 300},
+        {5, 0, 1, 0, 100, 100, 450}, {9, 0, 0, 15, 0, 100, 500}};
     static leafanchor_job got[LEAFANCHOR_MOST_JOBS];
     static uint8_t bytes[LEAFANCHOR_ORDER_BYTES];
     leafanchor_pack_answer packed = leafanchor_pack_jobs(-600, wanted, 5, bytes, LEAFANCHOR_ORDER_BYTES);
@@ -65,7 +66,7 @@ static void jobs(void)
     CHECK(unpacked.refusal == 0 && unpacked.place == 0 && unpacked.field == 0);
     CHECK(unpacked.jobs == 5 && unpacked.t0 == -600);
     CHECK(memcmp(got, wanted, sizeof wanted) == 0);
-    CHECK(got[1].number == 3 && got[1].critical == 0 && got[1].weight == 20);
+    CHECK(got[1].number == 3 && got[1].pack == 0 && got[1].critical == 0 && got[1].weight == 20);
     CHECK(got[1].ready == -200 && got[1].length == 300 && got[1].deadline == 250);
     for (size_t place = 0; place < 5; place++) {
         leafanchor_job job = leafanchor_job_of_step(leafanchor_step(bytes, 44, place));
@@ -134,9 +135,9 @@ static void held_profiles(void)
     CHECK(leafanchor_profile_lookup(&made, 214).found == 0 && leafanchor_profile_lookup(&made, 215).found == 1);
     CHECK(leafanchor_profile_lookup(&made, 454).weight == 30 && leafanchor_profile_lookup(&made, 455).weight == 35);
 
-    size_t bytes = leafanchor_pack(-600, p1, 12, part, LEAFANCHOR_ORDER_BYTES).bytes;
+    size_t bytes = leafanchor_pack(-600, p1, 14, part, LEAFANCHOR_ORDER_BYTES).bytes;
     CHECK(leafanchor_profile_of_order(part, bytes, &front, work, LEAFANCHOR_WORK_AREA).refusal == 0);
-    bytes = leafanchor_pack(0, p1 + 12, 18, part, LEAFANCHOR_ORDER_BYTES).bytes;
+    bytes = leafanchor_pack(0, p1 + 14, 21, part, LEAFANCHOR_ORDER_BYTES).bytes;
     answer = leafanchor_profile_extended(&front, part, bytes, &whole, work, LEAFANCHOR_WORK_AREA);
     CHECK(answer.refusal == 0 && answer.points == 5 && is(&whole, p2, 10));
 
@@ -222,7 +223,7 @@ static void tails(void)
     static leafanchor_profile point;
     static uint8_t tail[LEAFANCHOR_ORDER_BYTES];
     for (int32_t t0 = -700; t0 <= -400; t0 += 5) {
-        size_t bytes = leafanchor_pack(t0, p1, 30, tail, LEAFANCHOR_ORDER_BYTES).bytes;
+        size_t bytes = leafanchor_pack(t0, p1, 35, tail, LEAFANCHOR_ORDER_BYTES).bytes;
         leafanchor_plan_answer plan =
             leafanchor_plan(tail, bytes, starts, LEAFANCHOR_STARTS, work, LEAFANCHOR_WORK_AREA);
         point.numbers_len = 2;
@@ -240,7 +241,7 @@ static void tails(void)
  * less does not. */
 static void rest(void)
 {
-    static leafanchor_job pair[] = {{1, 1, 0, 0, 10, 10}, {2, 1, 0, 0, 10, 35}};
+    static leafanchor_job pair[] = {{1, 0, 1, 0, 0, 10, 10}, {2, 0, 1, 0, 0, 10, 35}};
     static uint8_t bytes[LEAFANCHOR_ORDER_BYTES];
     size_t length = leafanchor_pack_jobs(0, pair, 2, bytes, LEAFANCHOR_ORDER_BYTES).bytes;
     leafanchor_plan_answer plan =
@@ -257,7 +258,7 @@ static void rest(void)
  * for its t0. */
 static void latest(void)
 {
-    static const leafanchor_job last = {1, 1, 0, 90000, 10000, 100000};
+    static const leafanchor_job last = {1, 0, 1, 0, 90000, 10000, 100000};
     static const leafanchor_profile past = {2, {100016, 0}};
     static const int32_t wanted[] = {100015, 0};
     static const uint8_t empty[] = {0, 0, 0, 0};
@@ -276,8 +277,8 @@ static void latest(void)
 }
 
 /* The worked order of halves, bus free at -900: checks 4 and 9, each with its optional half. */
-static leafanchor_job worked[] = {
-    {4, 1, 0, -900, 300, -300}, {36, 0, 5, -900, 300, 0}, {9, 1, 0, -900, 200, 0}, {41, 0, 8, -900, 480, 300}};
+static leafanchor_job worked[] = {{4, 0, 1, 0, -900, 300, -300}, {36, 0, 0, 5, -900, 300, 0},
+                                  {9, 0, 1, 0, -900, 200, 0}, {41, 0, 0, 8, -900, 480, 300}};
 static uint8_t halves[LEAFANCHOR_ORDER_BYTES];
 
 /* The plan of the worked order as it then is, as halves, with this much room. */
@@ -380,6 +381,69 @@ static void checked_plans(void)
         leafanchor_best(order, 44, our_plan, sizeof our_plan, work, LEAFANCHOR_WORK_AREA - 1);
     CHECK(best.refusal == LEAFANCHOR_BUFFER_TOO_SHORT && best.yes == 0);
     CHECK(leafanchor_legal(order, 3, plan, 0).refusal == LEAFANCHOR_ORDER_TOO_SHORT);
+}
+
+/* P1 with packs, of kind 1: the first record is that of the rules. Every call of the order gives what P1 gives, and the
+ * packs where it tells jobs. */
+static void packs(void)
+{
+    static const int32_t bus_free[] = {-600, 0};
+    static int32_t wanted[35];
+    static uint8_t packed[49];
+    memcpy(wanted, p1, sizeof p1);
+    wanted[1] = 3;
+    wanted[4 * LEAFANCHOR_JOB_NUMBERS + 1] = 255;
+    CHECK(leafanchor_pack(-600, wanted, 35, packed, 48).refusal == LEAFANCHOR_BUFFER_TOO_SHORT);
+    leafanchor_pack_answer made = leafanchor_pack(-600, wanted, 35, packed, sizeof packed);
+    CHECK(made.refusal == 0 && made.bytes == sizeof packed);
+    CHECK(memcmp(packed, "\x17\xFD\xA8\x01\x1C\x0E\x03\xFD\xA8\x07\xBC\x00\x00", 13) == 0);
+    CHECK(leafanchor_unpack(packed, sizeof packed, numbers, 34).refusal == LEAFANCHOR_BUFFER_TOO_SHORT);
+    CHECK(leafanchor_unpack(packed, sizeof packed, numbers, 35).jobs == 5);
+    CHECK(memcmp(numbers, wanted, sizeof wanted) == 0);
+    CHECK(leafanchor_open(packed, sizeof packed).jobs == 5 && leafanchor_step(packed, sizeof packed, 3).pack == 0);
+    leafanchor_job job = leafanchor_job_of_step(leafanchor_step(packed, sizeof packed, 4));
+    CHECK(job.number == 9 && job.pack == 255 && job.weight == 15 && job.deadline == 500);
+    leafanchor_plan_answer plan =
+        leafanchor_plan(packed, sizeof packed, starts, LEAFANCHOR_STARTS, work, LEAFANCHOR_WORK_AREA);
+    CHECK(plan.kept == 4 && plan.kept_weight == 35 && plan.finish == 455 && plan.points == 14 && starts[3] == 225);
+    CHECK(leafanchor_extend(bus_free, 2, packed, sizeof packed, profile, LEAFANCHOR_PROFILE_ROOM, work,
+                            LEAFANCHOR_WORK_AREA).points == 5);
+    CHECK(leafanchor_best(packed, sizeof packed, our_plan, sizeof our_plan, work, LEAFANCHOR_WORK_AREA).yes == 1);
+    CHECK(leafanchor_legal(packed, sizeof packed, our_plan, sizeof our_plan).yes == 1);
+    CHECK(leafanchor_plan_halves(packed, sizeof packed, starts, 5, work, LEAFANCHOR_WORK_AREA).refusal == 13);
+}
+
+/* Whether every call on bytes refuses them with this number. */
+static int all_refuse(const uint8_t *bytes, size_t length, uint32_t refusal)
+{
+    static const int32_t bus_free[] = {0, 0};
+    static uint8_t out[LEAFANCHOR_PLAN_BYTES];
+    return leafanchor_unpack(bytes, length, numbers, LEAFANCHOR_ORDER_NUMBERS).refusal == refusal &&
+           leafanchor_open(bytes, length).refusal == refusal && leafanchor_step(bytes, length, 0).refusal == refusal &&
+           leafanchor_extend(bus_free, 2, bytes, length, profile, LEAFANCHOR_PROFILE_ROOM, work,
+                             LEAFANCHOR_WORK_AREA).refusal == refusal &&
+           leafanchor_plan(bytes, length, starts, 1, work, LEAFANCHOR_WORK_AREA).refusal == refusal &&
+           leafanchor_plan_halves(bytes, length, starts, 1, work, LEAFANCHOR_WORK_AREA).refusal == refusal &&
+           leafanchor_write_plan(bytes, length, out, sizeof out, work, LEAFANCHOR_WORK_AREA).refusal == refusal &&
+           leafanchor_legal(bytes, length, our_plan, 0).refusal == refusal &&
+           leafanchor_best(bytes, length, our_plan, 0, work, LEAFANCHOR_WORK_AREA).refusal == refusal &&
+           leafanchor_question(bytes, length, order, 44, 0, work, LEAFANCHOR_WORK_AREA).refusal == refusal &&
+           leafanchor_choose_first(order, 44, bytes, length, 0, work, LEAFANCHOR_WORK_AREA).refusal == refusal;
+}
+
+/* Kinds above 1, kind 1 without a pack, its job's length out of range too, and lengths that are those of the other
+ * kind. */
+static void kinds(void)
+{
+    static uint8_t bytes[] = {4, 0, 0, 1, 4, 0, 4, 0, 0, 0, 0, 0, 100}, bare[] = {0, 0, 0, 1};
+    CHECK(all_refuse(bytes, 13, LEAFANCHOR_EVERY_PACK_ZERO) && all_refuse(bare, 4, LEAFANCHOR_EVERY_PACK_ZERO));
+    CHECK(all_refuse(bytes, 12, LEAFANCHOR_WRONG_LENGTH));
+    bytes[5] = 4; /* pack 1 */
+    CHECK(leafanchor_open(bytes, 13).jobs == 1 && leafanchor_step(bytes, 13, 0).field == LEAFANCHOR_FIELD_LENGTH);
+    bytes[3] = 0;
+    CHECK(all_refuse(bytes, 13, LEAFANCHOR_WRONG_LENGTH));
+    bytes[3] = bare[3] = 2;
+    CHECK(all_refuse(bytes, 13, LEAFANCHOR_UNKNOWN_KIND) && all_refuse(bare, 4, LEAFANCHOR_UNKNOWN_KIND));
 }
 
 /* A coolant pump's check, critical, every 1,200 seconds, and a fan's of weight 5, every 1,800 from 100 on. */
@@ -485,14 +549,14 @@ static void two_frames(void)
 /* Whether the question names this winner. */
 static int names(leafanchor_question_answer asked, uint32_t winner)
 {
-    return asked.refusal == 0 && asked.field == 0 && asked.winner == winner;
+    return asked.refusal == 0 && asked.field == 0 && asked.winner == winner && asked.kind == 0;
 }
 
 /* Whether the choice hands back the one record of this winner. */
 static int hands(leafanchor_choose_answer chosen, uint32_t winner)
 {
     return chosen.refusal == 0 && chosen.field == 0 && chosen.winner == winner && chosen.offset == 4 &&
-           chosen.length == 8;
+           chosen.length == 8 && chosen.kind == 0;
 }
 
 /* Whether these win between two openings of one job each: by the default, and where equal weight always goes to the
@@ -508,13 +572,34 @@ static int win(const uint8_t *first, const uint8_t *second, int32_t t, uint32_t 
 /* Two openings of the same weight, with the bus free at 25 and at 20: where both rules differ, and a second before. */
 static void rival_openings(void)
 {
-    static const leafanchor_job one = {1, 0, 10, 0, 10, 10}, other = {1, 0, 10, 0, 5, 10};
+    static const leafanchor_job one = {1, 0, 0, 10, 0, 10, 10}, other = {1, 0, 0, 10, 0, 5, 10};
     static uint8_t slow[12], quick[12];
     CHECK(leafanchor_pack_jobs(0, &one, 1, slow, sizeof slow).bytes == 12);
     CHECK(leafanchor_pack_jobs(0, &other, 1, quick, sizeof quick).bytes == 12);
     CHECK(win(slow, quick, 19, 1, 1) && win(slow, quick, 24, 2, 2) && win(slow, quick, 25, 2, 1));
     CHECK(win(quick, slow, 19, 1, 1) && win(quick, slow, 24, 1, 1) && win(quick, slow, 25, 1, 1));
     CHECK(win(slow, slow, 25, 1, 1));
+}
+
+/* Openings of unlike kinds, of the same weight, the one of kind 1 sooner: it wins at 25, but for the night desk where it
+ * is the second. */
+static void unlike_openings(void)
+{
+    static const leafanchor_job one = {1, 0, 0, 10, 0, 10, 10}, other = {1, 7, 0, 10, 0, 5, 10};
+    static uint8_t slow[12], quick[13];
+    CHECK(leafanchor_pack_jobs(0, &one, 1, slow, sizeof slow).bytes == 12);
+    CHECK(leafanchor_pack_jobs(0, &other, 1, quick, sizeof quick).bytes == 13);
+    leafanchor_question_answer asked =
+        leafanchor_question(slow, 12, quick, 13, 25, work, LEAFANCHOR_WORK_AREA);
+    CHECK(asked.refusal == 0 && asked.winner == 2 && asked.kind == 1);
+    asked = leafanchor_question_first(slow, 12, quick, 13, 25, work, LEAFANCHOR_WORK_AREA);
+    CHECK(asked.refusal == 0 && asked.winner == 1 && asked.kind == 0);
+    leafanchor_choose_answer chosen = leafanchor_choose(quick, 13, slow, 12, 25, work, LEAFANCHOR_WORK_AREA);
+    CHECK(chosen.winner == 1 && chosen.offset == 4 && chosen.length == 9 && chosen.kind == 1);
+    chosen = leafanchor_choose_first(slow, 12, quick, 13, 25, work, LEAFANCHOR_WORK_AREA);
+    CHECK(chosen.winner == 1 && chosen.offset == 4 && chosen.length == 8 && chosen.kind == 0);
+    chosen = leafanchor_choose_first(slow, 12, quick, 13, -1, work, LEAFANCHOR_WORK_AREA);
+    CHECK(chosen.refusal == LEAFANCHOR_NO_FEASIBLE_CHOICE && chosen.winner == 0 && chosen.kind == 0);
 }
 
 /* P1 as the first opening against an order of no jobs, and the other way round. */
@@ -536,20 +621,26 @@ static void openings(void)
     CHECK(chosen.refusal == LEAFANCHOR_NO_FEASIBLE_CHOICE && chosen.winner == 0 && chosen.length == 0);
 }
 
-/* An order of two jobs as packed bytes, whatever the fields from the weight on hold. */
-static void put_two(const int32_t *two, uint8_t *bytes)
+/* An order of two jobs as packed bytes, of kind 1 where the first has a pack, whatever the fields from the weight on
+ * hold. Returns how many bytes. In kind 1 the number and the pack's first two bits are a byte before the others. */
+static size_t put_two(const int32_t *two, uint8_t *bytes)
 {
-    static const uint8_t header[] = {2 << 2, 0, 0, 0};
+    const uint8_t header[] = {2 << 2, 0, 0, two[1] != 0};
+    size_t at = sizeof header;
     memcpy(bytes, header, sizeof header);
     for (size_t place = 0; place < 2; place++) {
         const int32_t *job = &two[LEAFANCHOR_JOB_NUMBERS * place];
-        uint64_t record = (uint64_t)job[0] << 58 | (uint64_t)job[1] << 57 | (uint64_t)job[2] << 50 |
-                          (uint64_t)(job[3] & 0x3FFFF) << 32 | (uint64_t)job[4] << 18 | (uint64_t)(job[5] & 0x3FFFF);
-        for (size_t byte = 8; byte > 0; byte--) {
-            bytes[4 + 8 * place + byte - 1] = (uint8_t)(record & 0xFF);
-            record >>= 8;
+        const uint64_t record = (uint64_t)(header[3] == 1 ? job[1] & 0x3F : job[0]) << 58 | (uint64_t)job[2] << 57 |
+                                (uint64_t)job[3] << 50 | (uint64_t)(job[4] & 0x3FFFF) << 32 |
+                                (uint64_t)job[5] << 18 | (uint64_t)(job[6] & 0x3FFFF);
+        if (header[3] == 1) {
+            bytes[at++] = (uint8_t)(job[0] << 2 | job[1] >> 6);
+        }
+        for (int shift = 56; shift >= 0; shift -= 8) {
+            bytes[at++] = (uint8_t)(record >> shift & 0xFF);
         }
     }
+    return at;
 }
 
 /* Every call on openings refuses an order with a job whose field is out of range, as either of them, and names the
@@ -572,48 +663,50 @@ static void named_by_openings(const uint8_t *bad, size_t bad_len, uint32_t field
 static void named_over_bytes(const int32_t *two, uint32_t field)
 {
     static const int32_t bus_free[] = {0, 0};
-    static uint8_t bad[4 + 2 * 8];
-    put_two(two, bad);
-    leafanchor_unpack_answer unpacked = leafanchor_unpack(bad, sizeof bad, numbers, LEAFANCHOR_ORDER_NUMBERS);
+    static uint8_t bad[4 + 2 * 9];
+    const size_t length = put_two(two, bad);
+    leafanchor_unpack_answer unpacked = leafanchor_unpack(bad, length, numbers, LEAFANCHOR_ORDER_NUMBERS);
     CHECK(unpacked.refusal == 6 && unpacked.place == 1 && unpacked.field == field && unpacked.jobs == 0);
-    leafanchor_step_answer job = leafanchor_step(bad, sizeof bad, 1);
+    leafanchor_step_answer job = leafanchor_step(bad, length, 1);
     CHECK(job.refusal == 6 && job.place == 1 && job.field == field && job.end == 0 && job.next == 1);
-    CHECK(leafanchor_step(bad, sizeof bad, 0).refusal == 0 && leafanchor_step(bad, sizeof bad, 0).field == 0);
-    leafanchor_extend_answer extended = leafanchor_extend(bus_free, 2, bad, sizeof bad, profile,
+    CHECK(leafanchor_step(bad, length, 0).refusal == 0 && leafanchor_step(bad, length, 0).field == 0);
+    leafanchor_extend_answer extended = leafanchor_extend(bus_free, 2, bad, length, profile,
                                                           LEAFANCHOR_PROFILE_ROOM, work, LEAFANCHOR_WORK_AREA);
     CHECK(extended.refusal == 6 && extended.place == 1 && extended.field == field && extended.points == 0);
-    leafanchor_plan_answer plan = leafanchor_plan(bad, sizeof bad, starts, 2, work, LEAFANCHOR_WORK_AREA);
+    leafanchor_plan_answer plan = leafanchor_plan(bad, length, starts, 2, work, LEAFANCHOR_WORK_AREA);
     CHECK(plan.refusal == 6 && plan.place == 1 && plan.field == field && plan.mask == 0);
-    leafanchor_halves_answer of = leafanchor_plan_halves(bad, sizeof bad, starts, 2, work, LEAFANCHOR_WORK_AREA);
+    leafanchor_halves_answer of = leafanchor_plan_halves(bad, length, starts, 2, work, LEAFANCHOR_WORK_AREA);
     CHECK(of.refusal == 6 && of.place == 1 && of.field == field && of.mask == 0);
     leafanchor_pack_answer written =
-        leafanchor_write_plan(bad, sizeof bad, order, LEAFANCHOR_ORDER_BYTES, work, LEAFANCHOR_WORK_AREA);
+        leafanchor_write_plan(bad, length, order, LEAFANCHOR_ORDER_BYTES, work, LEAFANCHOR_WORK_AREA);
     CHECK(written.refusal == 6 && written.place == 1 && written.field == field && written.bytes == 0);
-    leafanchor_verdict_answer legal = leafanchor_legal(bad, sizeof bad, our_plan, sizeof our_plan);
+    leafanchor_verdict_answer legal = leafanchor_legal(bad, length, our_plan, sizeof our_plan);
     CHECK(legal.refusal == 6 && legal.place == 1 && legal.field == field && legal.yes == 0);
-    leafanchor_verdict_answer best = leafanchor_best(bad, sizeof bad, our_plan, 0, work, 0);
+    leafanchor_verdict_answer best = leafanchor_best(bad, length, our_plan, 0, work, 0);
     CHECK(best.refusal == 6 && best.place == 1 && best.field == field && best.yes == 0);
-    named_by_openings(bad, sizeof bad, field);
+    named_by_openings(bad, length, field);
 }
 
-/* Each field of a second job out of range in turn, and the deadline with it: the first is named. Bytes hold a number
- * and a mark within their ranges. */
+/* Each field of a second job out of range in turn, and the deadline with it: the first is named, in kind 1 too. Bytes
+ * hold a number, a pack and a mark within their ranges. */
 static void fields_out_of_range(void)
 {
-    static const int32_t two[] = {1, 0, 5, 0, 10, 100, 2, 0, 5, 0, 10, 100001};
-    static const int32_t past[] = {64, 2, 51, 100001, 10001, 100001};
-    static int32_t bad[12];
+    static const int32_t two[] = {1, 0, 0, 5, 0, 10, 100, 2, 0, 0, 5, 0, 10, 100001};
+    static const int32_t past[] = {64, 256, 2, 51, 100001, 10001, 100001};
+    static int32_t bad[14];
     for (uint32_t field = LEAFANCHOR_FIELD_NUMBER; field <= LEAFANCHOR_FIELD_DEADLINE; field++) {
         memcpy(bad, two, sizeof two);
         bad[LEAFANCHOR_JOB_NUMBERS + field - 1] = past[field - 1];
-        leafanchor_pack_answer packed = leafanchor_pack(0, bad, 12, order, LEAFANCHOR_ORDER_BYTES);
+        leafanchor_pack_answer packed = leafanchor_pack(0, bad, 14, order, LEAFANCHOR_ORDER_BYTES);
         CHECK(packed.refusal == 6 && packed.place == 1 && packed.field == field && packed.bytes == 0);
         if (field >= LEAFANCHOR_FIELD_WEIGHT) {
+            named_over_bytes(bad, field);
+            bad[1] = 200; /* the first job's pack */
             named_over_bytes(bad, field);
         }
     }
     memcpy(bad, two, sizeof two);
-    bad[LEAFANCHOR_JOB_NUMBERS + 1] = 1; /* critical, and its weight is 5 */
+    bad[LEAFANCHOR_JOB_NUMBERS + 2] = 1; /* critical, and its weight is 5 */
     named_over_bytes(bad, LEAFANCHOR_FIELD_WEIGHT);
 }
 
@@ -628,11 +721,11 @@ static int told(uint32_t refusal, size_t place, uint32_t field, const char *text
 static void in_words(void)
 {
     char out[LEAFANCHOR_PHRASE_ROOM];
-    CHECK(strcmp(leafanchor_field_name(0), "no field") == 0 && strcmp(leafanchor_field_name(7), "no such field") == 0);
+    CHECK(strcmp(leafanchor_field_name(0), "no field") == 0 && strcmp(leafanchor_field_name(8), "no such field") == 0);
     CHECK(told(6, 2, LEAFANCHOR_FIELD_LENGTH, "job at place 2: length out of range"));
     CHECK(told(6, 47, LEAFANCHOR_FIELD_WEIGHT, "job at place 47: weight out of range"));
     CHECK(told(6, LEAFANCHOR_NO_PLACE, LEAFANCHOR_FIELD_READY, "ready time out of range"));
-    CHECK(told(6, 2, LEAFANCHOR_NO_FIELD, leafanchor_phrase(6)) && told(6, 2, 7, leafanchor_phrase(6)));
+    CHECK(told(6, 2, LEAFANCHOR_NO_FIELD, leafanchor_phrase(6)) && told(6, 2, 8, leafanchor_phrase(6)));
     CHECK(told(7, LEAFANCHOR_NO_PLACE, 0, leafanchor_phrase(7)));
     CHECK(told(13, LEAFANCHOR_NO_PLACE, 0, leafanchor_phrase(13)));
     CHECK(told(16, LEAFANCHOR_NO_PLACE, 0, leafanchor_phrase(16)));
@@ -679,8 +772,11 @@ int main(void)
     not_of_halves();
     written_plans();
     checked_plans();
+    packs();
+    kinds();
     openings();
     rival_openings();
+    unlike_openings();
     fields_out_of_range();
     in_words();
     frames();

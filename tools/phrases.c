@@ -78,7 +78,7 @@ static void hold_refusal(uint32_t refusal, char *phrase)
     }
 }
 
-/* One line of the list: "6 a job's field is out of range | ..." or "field 5 length", each in its turn. */
+/* One line of the list: "6 a job's field is out of range | ..." or "field 6 length", each in its turn. */
 static void hold_line(void)
 {
     const int of_field = strncmp(line, "field ", 6) == 0;
@@ -89,7 +89,10 @@ static void hold_line(void)
     if (of_field) {
         check(number == ++fields && strcmp(leafanchor_field_name(number), phrase) == 0, leafanchor_field_name(number));
     } else {
-        check(number == ++refusals, leafanchor_phrase(number));
+        while (++refusals < number) { /* a number that the list leaves out is no refusal */
+            check(strcmp(leafanchor_phrase(refusals), "no such refusal") == 0, leafanchor_phrase(refusals));
+        }
+        check(number == refusals, leafanchor_phrase(number));
         hold_refusal(number, phrase);
     }
 }
@@ -103,7 +106,7 @@ int main(void)
         }
     }
     want("nothing more", 0, 0);
-    check(refusals == LEAFANCHOR_FRAME_TOO_LONG, leafanchor_phrase(refusals + 1));
+    check(refusals == LEAFANCHOR_EVERY_PACK_ZERO, leafanchor_phrase(refusals + 1));
     check(strcmp(leafanchor_phrase(refusals + 1), "no such refusal") == 0, leafanchor_phrase(refusals + 1));
     check(fields == LEAFANCHOR_FIELD_DEADLINE, leafanchor_field_name(fields + 1));
     puts(wrong ? "phrases: differ from the list" : "phrases: those of the list");

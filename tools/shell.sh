@@ -54,9 +54,17 @@ octets() { # COUNT VALUE
         printf "\\$(printf %03o $(($2 >> 8 * left & 255)))"
     done
 }
-header() { octets 4 $(($1 << 26 | ($2 & 262143) << 8)); } # JOBS T0
+header() { octets 4 $(($1 << 26 | ($2 & 262143) << 8 | ${3-0})); } # JOBS T0 [KIND]
 # job NUMBER CRITICAL WEIGHT LENGTH DEADLINE [READY]: ready at 0 where no time is told.
 job() { octets 8 $(($1 << 58 | $2 << 57 | $3 << 50 | (${6-0} & 262143) << 32 | $4 << 18 | $5 & 262143)); }
+# packed_job PACK NUMBER ...: the same of kind 1. Its first byte is the number and two bits of the pack; then comes the record
+# of kind 0 with the other six bits where that has the number.
+packed_job() {
+    octets 1 $(($2 << 2 | $1 >> 6))
+    low_bits=$(($1 & 63))
+    shift 2
+    job "$low_bits" "$@"
+}
 
 cp examples/p1.order "$room/p1"
 cp examples/refused.order "$room/refused"
@@ -289,27 +297,37 @@ printf '\001\002\003' >order
 refused "three bytes" 1
 : >order
 refused "no bytes" 1
-octets 4 1 >order
-refused "a spare bit" 2
+header 0 0 2 >order
+refused "kind 2" 2
+header 0 0 255 >order
+refused "kind 255" 2
 header 49 0 >order
 refused "49 jobs" 3
 header 1 0 >order
 refused "a job missing" 4
+{ header 1 0 1 && job 1 0 1 10 10; } >order
+refused "kind 1 and a record of kind 0" 4
 header 0 100001 >order
 refused "a bus-free time of 100,001" 5
+header 0 0 1 >order
+refused "kind 1 and no jobs" 19
+{ header 2 0 1 && packed_job 0 1 0 1 10 10 && packed_job 0 2 0 1 0 10; } >order
+refused "kind 1 and every pack 0, before a length of 0" 19
+{ header 2 0 1 && packed_job 0 1 0 1 10 10 && packed_job 255 2 0 1 0 10; } >order
+refused "kind 1 and a length of 0" 6 1 6
 cp refused order
-refused "the README's, with a length of 10,001" 6 2 5
+refused "the README's, with a length of 10,001" 6 2 6
 holds "with the words that the README shows" '[ "$(cat "$out") $(sed "s/^leafanchor: refusal 6: //" "$err")" = "$(cat "$root/examples/refused.expected")" ]'
 { header 2 0 && job 1 0 1 10 10 && job 2 0 51 0 10; } >order
-refused "a weight of 51, and a length of 0" 6 1 3
+refused "a weight of 51, and a length of 0" 6 1 4
 { header 2 0 && job 1 0 1 10 10 && job 2 1 1 10 10; } >order
-refused "a critical job of weight 1" 6 1 3
+refused "a critical job of weight 1" 6 1 4
 { header 2 0 && job 1 0 1 10 10 && job 2 0 1 10 10 -100001; } >order
-refused "a ready time of -100,001" 6 1 4
+refused "a ready time of -100,001" 6 1 5
 { header 2 0 && job 1 0 1 10 10 && job 2 0 1 0 10; } >order
-refused "a length of 0" 6 1 5
+refused "a length of 0" 6 1 6
 { header 3 0 && job 1 0 1 10 10 && job 2 0 1 10 100001 && job 3 0 0 10 10; } >order
-refused "a deadline of 100,001 before a weight of 0" 6 1 6
+refused "a deadline of 100,001 before a weight of 0" 6 1 7
 { header 4 0 && job 4 0 1 10 10 && job 9 0 1 10 10 && job 4 0 1 10 10 && job 9 0 1 10 10; } >order
 refused "numbers 4, 9, 4, 9" 7 2 0
 { header 7 0 && for number in 1 2 3 4 5 6; do job "$number" 0 50 10 10; done && job 7 0 1 10 10; } >order
@@ -323,6 +341,11 @@ gives "not refused: the same job, not critical" 0 '0 0 0 0 10 0 1
 { header 2 0 && job 1 0 10 10 10 && job 2 0 5 10 35; } >order
 try "$leafanchor" plan order
 gives "a job starts 15 seconds after the one before it ends, and ends at its deadline" 0 '0 0 2 15 0 50 5
+1 0
+2 25' ''
+{ header 2 0 1 && packed_job 0 1 0 10 10 10 && packed_job 200 2 0 5 10 35; } >order
+try "$leafanchor" plan order
+gives "the same two jobs, the second for pack 200: the same plan" 0 '0 0 2 15 0 50 5
 1 0
 2 25' ''
 { header 2 0 && job 1 0 10 10 10 && job 2 0 5 10 34; } >order
@@ -342,6 +365,11 @@ try "$leafanchor" plan order
 holds "not refused: 388 bytes" '[ "$status" = 0 ] && [ "$(head -n 1 "$out")" = "0 0 0 0 48 0 48" ] && [ "$(wc -l <"$out")" = 49 ]'
 echo >>order
 refused "389 bytes" 4
+{ header 48 0 1 && for number in 0 1 2 3 4 5; do for more in 0 1 2 3 4 5 6 7; do packed_job "$more" $((8 * number + more)) 0 1 10 9; done; done; } >order
+try "$leafanchor" plan order
+holds "not refused: 436 bytes, of kind 1" '[ "$status" = 0 ] && [ "$(head -n 1 "$out")" = "0 0 0 0 48 0 48" ] && [ "$(wc -l <"$out")" = 49 ]'
+echo >>order
+refused "437 bytes" 4
 endless() { timeout 10 "$leafanchor" plan </dev/zero; }
 try endless
 gives "an endless input is not read to its end" 1 '4 0 0' 'leafanchor: refusal 4: *'
@@ -384,8 +412,8 @@ printf 'Pr\303\274fung \342\200\223 \360\237\232\226\n' >order
 text "UTF-8 of two, three and four bytes" 2
 { header 1 0 && job 1 1 0 10 10; } | base64 >order
 text "an order in base64" 2
-yes 'é' | head -c 389 >order
-text "a character cut at 389 bytes" 2
+yes '–' | head -c 1000 >order
+text "a character cut at 437 bytes" 2
 yes 'a table' | head -c 2000 >order
 text "2,000 bytes" 2
 printf 'abcd\177\n' >order
@@ -414,7 +442,7 @@ built_checkout stand_ins
 cp p1 order
 leafanchor=$here/leafanchor
 numbers=$(sed -n 's/^\([0-9][0-9]*\) .*/\1/p' "$list" | tr '\n' ' ')
-holds "the list has every refusal, 1 to 17" '[ "$numbers" = "1 2 3 4 5 6 7 8 9 10 11 12 13 14 15 16 17 " ]'
+holds "the list has every refusal, 1 to 17 and 19" '[ "$numbers" = "1 2 3 4 5 6 7 8 9 10 11 12 13 14 15 16 17 19 " ]'
 for number in $numbers; do
     set -- "$number"
     ! grep -q "^$number .* | " "$list" || set -- "$number" 47 3
@@ -422,7 +450,7 @@ for number in $numbers; do
     refused "number $number of the list${2+, with a place}" "$@"
 done
 fields=$(sed -n 's/^field \([0-9]*\) .*/\1/p' "$list" | tr '\n' ' ')
-holds "the list has every field, 1 to 6" '[ "$fields" = "1 2 3 4 5 6 " ]'
+holds "the list has every field, 1 to 7" '[ "$fields" = "1 2 3 4 5 6 7 " ]'
 names=$(sed -n 's/^field //p' "$list" | tr '\n' ',' | sed 's/,$//; s/,/, /g')
 try "$leafanchor" --help
 holds "and --help names them as the list does" 'case $(tr "\n" " " <"$out") in *"($names)"*) ;; *) false ;; esac'

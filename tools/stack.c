@@ -43,7 +43,7 @@ static uint32_t unpack(size_t i)
 }
 static uint32_t pack(size_t i)
 {
-    return leafanchor_pack(0, numbers, 6 * jobs[i], packed, LEAFANCHOR_ORDER_BYTES).refusal;
+    return leafanchor_pack(0, numbers, LEAFANCHOR_JOB_NUMBERS * jobs[i], packed, LEAFANCHOR_ORDER_BYTES).refusal;
 }
 static uint32_t frame(size_t i)
 {
@@ -216,24 +216,28 @@ static void make_repeating(void)
 }
 
 /* 48 jobs with windows that overlap, critical halves and behind each its optional one, so that every call goes all the
- * way; packed with 48, 24, 1 and no jobs, and one order that is refused; and the packed plan of each. */
+ * way; packed with 48 jobs that have packs, 24 that have none, 1 and no jobs, and one order that is refused; and the
+ * packed plan of each. */
 static void make_inputs(void)
 {
     static const size_t counts[INPUTS] = {48, 24, 1, 0, 48};
     for (int32_t place = 0; place < LEAFANCHOR_MOST_JOBS; place++) {
         const int32_t pair = place / 2, ready = 100 * place, deadline = ready + 1000;
-        const int32_t critical[] = {pair, 1, 0, ready, 150, deadline};
-        const int32_t optional[] = {pair + LEAFANCHOR_HALVES_APART, 0, 12, ready, 720, deadline};
+        const int32_t critical[] = {pair, 0, 1, 0, ready, 150, deadline};
+        const int32_t optional[] = {pair + LEAFANCHOR_HALVES_APART, 0, 0, 12, ready, 720, deadline};
         memcpy(&numbers[LEAFANCHOR_JOB_NUMBERS * place], place % 2 == 0 ? critical : optional, sizeof critical);
     }
     for (size_t input = 0; input < INPUTS; input++) {
         jobs[input] = counts[input];
-        bytes[input] =
-            leafanchor_pack(0, numbers, 6 * jobs[input], orders[input], LEAFANCHOR_ORDER_BYTES).bytes;
+        for (int32_t place = 0; place < LEAFANCHOR_MOST_JOBS; place++) {
+            numbers[LEAFANCHOR_JOB_NUMBERS * place + 1] = input % 2 == 0 ? 255 - place : 0; /* the pack */
+        }
+        bytes[input] = leafanchor_pack(0, numbers, LEAFANCHOR_JOB_NUMBERS * jobs[input], orders[input],
+                                       LEAFANCHOR_ORDER_BYTES).bytes;
         plan_bytes[input] = leafanchor_write_plan(orders[input], bytes[input], plans[input], LEAFANCHOR_PLAN_BYTES,
                                                   work, LEAFANCHOR_WORK_AREA).bytes;
     }
-    orders[INPUTS - 1][4 + 8 * 47] ^= 0x04; /* the last job's number is now that of an earlier one */
+    orders[INPUTS - 1][4 + 9 * 47] ^= 0x04; /* the last job's number is now that of an earlier one */
     for (int32_t point = 0; point < POINTS; point++) {
         profile[2 * point] = other[2 * point] = points[point].time = 3 * point;
         profile[2 * point + 1] = other[2 * point + 1] = points[point].weight = point;

@@ -161,13 +161,13 @@ def asked(case, tie):
 
 
 def question(case, tie=rules.sooner):
-    refusal, winner, cleared, _, _ = asked(case, tie)
+    refusal, winner, kind, cleared, _, _ = asked(case, tie)
     number, _, field = refusal
-    return (' refused %d %d' % (number, field) if number else ' %d' % winner) + area(case.work, cleared)
+    return (' refused %d %d' % (number, field) if number else ' %d %d' % (winner, kind)) + area(case.work, cleared)
 
 
 def choose(case, tie=rules.sooner):
-    refusal, winner, cleared, first, second = asked(case, tie)
+    _, winner, _, cleared, first, second = asked(case, tie)
     part = (first, second)[winner - 1][4:] if winner else []
     return ' part %d' % len(part) + plain(part) + area(case.work, cleared)
 

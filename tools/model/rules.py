@@ -1,7 +1,7 @@
 """The rules of docs/RULES.md as plain functions, written from the rules and apart from the library. An order is a list of
-bytes; a job its six numbers: number, critical, weight, ready, length, deadline; a profile alternating numbers. A call's
-answer is a tuple that begins with a word for its kind, as ('refused', number, place, field). A refusal on its way there is
-its three figures."""
+bytes; a job its seven numbers: number, pack, critical, weight, ready, length, deadline; a profile alternating numbers. A
+call's answer is a tuple that begins with a word for its kind, as ('refused', number, place, field). A refusal on its way
+there is its three figures."""
 from itertools import product
 
 EARLIEST, LATEST = -100_000, 100_000
@@ -14,13 +14,16 @@ LEFT_OUT = 200_000
 HIGHEST_HALF, APART, PER_WEIGHT = 31, 32, 60  # of an order of halves
 LONGEST_FRAME = 86_400  # and the longest deadline and period of a repeating job
 MANY = 10  # up to so many jobs every choice is tried as well
+# The bits of each field of a job in a record, by the record's kind. One that has none is 0.
+WIDTHS = (6, 0, 1, 7, 18, 14, 18), (6, 8, 1, 7, 18, 14, 18)
+HAS_SIGN = (False, False, False, False, True, False, True)
 ACCEPTED = (0, 0, 0)  # no refusal
 
 
-# ---- packed orders (R21, R22), orders of halves (R34) and refusals 1 to 7, 9 and 13 (R24)
+# ---- packed orders (R21, R22), orders of halves (R34) and refusals 1 to 7, 9, 13 and 19 (R24)
 
 def bits(value, width):
-    return format(value % (1 << width), '0%db' % width)
+    return ''.join(str(value >> place & 1) for place in reversed(range(width)))
 
 
 def signed(text):
@@ -35,10 +38,21 @@ def bytes_of(text):
     return [int(text[i:i + 8], 2) for i in range(0, len(text), 8)]
 
 
+def kind_of(jobs):
+    """The kind of the records of jobs: 1 where one has a pack other than 0."""
+    return int(any(job[1] for job in jobs))
+
+
+def size(kind, count):
+    """The bytes of a packed order of so many jobs."""
+    return 4 + sum(WIDTHS[kind]) // 8 * count
+
+
 def packed(t0, jobs):
-    text = bits(len(jobs), 6) + bits(t0, 18) + bits(0, 8)
+    kind = kind_of(jobs)
+    text = bits(len(jobs), 6) + bits(t0, 18) + bits(kind, 8)
     for job in jobs:
-        text += ''.join(bits(value, width) for value, width in zip(job, (6, 1, 7, 18, 14, 18)))
+        text += ''.join(bits(value, width) for value, width in zip(job, WIDTHS[kind]))
     return bytes_of(text)
 
 
@@ -48,9 +62,17 @@ def header(data):
 
 
 def record(data, place):
-    text = bits_in(data[4 + 8 * place:12 + 8 * place])
-    return (int(text[:6], 2), int(text[6:7], 2), int(text[7:14], 2), signed(text[14:32]), int(text[32:46], 2),
-            signed(text[46:]))
+    kind = header(data)[2]
+    text = bits_in(data[size(kind, place):size(kind, place + 1)])
+    job = []
+    for width, has_sign in zip(WIDTHS[kind], HAS_SIGN):
+        field, text = text[:width], text[width:]
+        job.append(signed(field) if has_sign else int('0' + field, 2))
+    return tuple(job)
+
+
+def records(data):
+    return [record(data, place) for place in range(header(data)[0])]
 
 
 def is_time(value):
@@ -59,24 +81,27 @@ def is_time(value):
 
 def bad_field(job):
     """Which field of a job is out of range, the first by the layout, counted from 1; 0 if none is."""
-    number, critical, weight, ready, length, deadline = job
+    number, pack_number, critical, weight, ready, length, deadline = job
     weighs = weight == 0 if critical == 1 else 1 <= weight <= 50
-    passed = (0 <= number <= 63, critical in (0, 1), weighs, is_time(ready), 1 <= length <= 10_000, is_time(deadline))
+    passed = (0 <= number <= 63, 0 <= pack_number <= 255, critical in (0, 1), weighs, is_time(ready), 1 <= length <= 10_000,
+              is_time(deadline))
     return 0 if all(passed) else 1 + passed.index(False)
 
 
 def judge_header(data):
-    """Refusals 1 to 5, 0 for none."""
+    """Refusals 1 to 5 and then 19, 0 for none."""
     if len(data) < 4:
         return 1
-    count, t0, spare = header(data)
-    if spare != 0:
+    count, t0, kind = header(data)
+    if kind > 1:
         return 2
     if count > 48:
         return 3
-    if len(data) != 4 + 8 * count:
+    if len(data) != size(kind, count):
         return 4
-    return 0 if is_time(t0) else 5
+    if not is_time(t0):
+        return 5
+    return 0 if kind == kind_of(records(data)) else 19
 
 
 def judge_jobs(jobs):
@@ -92,7 +117,7 @@ def judge_jobs(jobs):
 
 
 def weigh(jobs):
-    return sum(job[2] for job in jobs)
+    return sum(job[3] for job in jobs)
 
 
 def then(refusal, applies, number):
@@ -109,9 +134,7 @@ def read(data):
     number = judge_header(data)
     if number:
         return (number, 0, 0), 0, []
-    count, t0, _ = header(data)
-    jobs = [record(data, place) for place in range(count)]
-    return judge_jobs(jobs), t0, jobs
+    return judge_jobs(records(data)), header(data)[1], records(data)
 
 
 def judge(data):
@@ -122,10 +145,10 @@ def judge(data):
 
 def offends(job, earlier):
     """Whether a job offends in an order of halves, behind the earlier jobs."""
-    number, critical, weight, _, length, _ = job
+    number, _, critical, weight, _, length, _ = job
     if critical:
         return number > HIGHEST_HALF
-    partners = [other[0] for other in earlier if other[1] and other[0] <= HIGHEST_HALF]
+    partners = [other[0] for other in earlier if other[2] and other[0] <= HIGHEST_HALF]
     return length != PER_WEIGHT * weight or number - APART not in partners
 
 
@@ -140,24 +163,24 @@ def judge_halves(data):
 
 def unpack(data, room):
     refusal, t0, jobs = judge(data)
-    refusal = then(refusal, room < 6 * len(jobs), 10)
+    refusal = then(refusal, room < 7 * len(jobs), 10)
     if refusal != ACCEPTED:
         return refused(refusal), []
     return ('jobs', len(jobs), t0), [number for job in jobs for number in job]
 
 
 def pack(t0, numbers, room):
-    jobs = [tuple(numbers[at:at + 6]) for at in range(0, len(numbers) - 5, 6)]
-    refusal = then(ACCEPTED, len(numbers) > 288, 3)
-    refusal = then(refusal, len(numbers) % 6, 4)
+    jobs = [tuple(numbers[at:at + 7]) for at in range(0, len(numbers) - 6, 7)]
+    refusal = then(ACCEPTED, len(numbers) > 336, 3)
+    refusal = then(refusal, len(numbers) % 7, 4)
     refusal = then(refusal, not is_time(t0), 5)
     if refusal == ACCEPTED:
         refusal = judge_jobs(jobs)
     refusal = then(refusal, weigh(jobs) > 300, 9)
-    refusal = then(refusal, room < 4 + 8 * len(jobs), 10)
+    refusal = then(refusal, room < size(kind_of(jobs), len(jobs)), 10)
     if refusal != ACCEPTED:
         return refused(refusal), []
-    return ('bytes', 4 + 8 * len(jobs)), packed(t0, jobs)
+    return ('bytes', size(kind_of(jobs), len(jobs))), packed(t0, jobs)
 
 
 # ---- frames of repeating jobs (R41 to R43): critical, weight, phase, length, deadline, period of each
@@ -183,7 +206,7 @@ def repeats(jobs, frame):
     made = []
     for number, (time, place) in enumerate(ready):
         critical, weight, _, length, deadline, _ = jobs[place]
-        made.append((number, critical, weight, time, length, time + deadline))
+        made.append((number, 0, critical, weight, time, length, time + deadline))
     return made
 
 
@@ -200,11 +223,11 @@ def frame(numbers, room):
     made = repeats(jobs, seconds) if refusal == ACCEPTED else []
     refusal = then(refusal, len(made) > 48, 3)
     refusal = then(refusal, weigh(made) > 300, 9)
-    refusal = then(refusal, room < 4 + 8 * len(made), 10)
+    refusal = then(refusal, room < size(0, len(made)), 10)
     if refusal != ACCEPTED:
         return refused(refusal), []
     assert judge_jobs(made) == ACCEPTED, made
-    return ('frame', 4 + 8 * len(made), seconds), packed(0, made)
+    return ('frame', size(0, len(made)), seconds), packed(0, made)
 
 
 # ---- the reader (R23), heat-up (R19, R20)
@@ -233,7 +256,7 @@ def heat(byte):
 def run(free, jobs, choice):
     """The starts and the bus-free time of a choice; none if it is not feasible."""
     starts = []
-    for (_, critical, _, ready, length, deadline), kept in zip(jobs, choice):
+    for (_, _, critical, _, ready, length, deadline), kept in zip(jobs, choice):
         start = max(ready, free) if kept else LEFT_OUT
         if critical and not kept or kept and start + length > deadline:
             return None
@@ -259,7 +282,7 @@ def prefixes(free, jobs):
     each job kept, the highest for the last. A way stays if none of the same weight is as early and comes first by ties."""
     ways = {0: [(free, 0)]}
     yield ways
-    for place, (_, critical, weight, ready, length, deadline) in enumerate(jobs):
+    for place, (_, _, critical, weight, ready, length, deadline) in enumerate(jobs):
         after = {}
         for before, times in ways.items():
             for time, ties in times:
@@ -366,7 +389,7 @@ def plan_halves(data, room, work):
     answer, starts, cleared = plan_judged(judged, room, work)
     if answer[0] == 'made':
         left_out = [job for job, start in zip(judged[2], starts) if start == LEFT_OUT]
-        answer += (sum(length for _, critical, _, _, length, _ in left_out if not critical),)
+        answer += (sum(length for _, _, critical, _, _, length, _ in left_out if not critical),)
     return answer, starts, cleared
 
 
@@ -419,18 +442,19 @@ def winner(one, other, tie):
 
 
 def question(first, second, t, work, tie):
-    """Refusal, which names no place, winner (R17), and whether the work area is cleared."""
+    """Refusal, which names no place, winner (R17), the kind of its records, and whether the work area is cleared."""
     found = []
     for data in (first, second):
         refusal, t0, jobs = judge(data)
         if refusal != ACCEPTED:
-            return (refusal[0], 0, refusal[2]), 0, False
+            return (refusal[0], 0, refusal[2]), 0, 0, False
         found.append(last_by(profile_from(t0, jobs), t))
     if work < WORK_AREA:
-        return (10, 0, 0), 0, False
+        return (10, 0, 0), 0, 0, False
     if found == [None, None]:
-        return (11, 0, 0), 0, True
-    return ACCEPTED, winner(*found, tie), True
+        return (11, 0, 0), 0, 0, True
+    won = winner(*found, tie)
+    return ACCEPTED, won, header((first, second)[won - 1])[2], True
 
 
 # ---- packed plans (R37), legal and best ones (R38, R39), and our own written (R40)
@@ -456,10 +480,10 @@ def judge_sent(data, sent):
 def is_legal(t0, jobs, kept, starts):
     """Critical jobs kept, no start before t0 or the job's ready time, no finish past its deadline, and the rest observed."""
     runs = list(zip((job for job, stays in zip(jobs, kept) if stays), starts))
-    finishes = [start + job[4] for job, start in runs]
-    return (all(stays for job, stays in zip(jobs, kept) if job[1])
-            and all(start >= t0 and start >= job[3] for job, start in runs)
-            and all(finish <= job[5] for (job, _), finish in zip(runs, finishes))
+    finishes = [start + job[5] for job, start in runs]
+    return (all(stays for job, stays in zip(jobs, kept) if job[2])
+            and all(start >= t0 and start >= job[4] for job, start in runs)
+            and all(finish <= job[6] for (job, _), finish in zip(runs, finishes))
             and all(start >= finish + REST for finish, (_, start) in zip(finishes, runs[1:])))
 
 

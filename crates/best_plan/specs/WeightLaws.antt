@@ -5,7 +5,7 @@ use mathlib.Core.Bool.{Bool, true, false}
 use mathlib.Core.List.{List, [], _∷_}
 use native.Mathlib.Omega.{arith}
 use lib.IntN.{natAbs}
-use lib.ListN.{take, drop}
+use lib.ListN.{drop}
 use mir.Syntax.{w32}
 use mir.Val.{toZ, ofZ}
 use mir.Facts.{toZ-ofZ}
@@ -13,8 +13,7 @@ use Rattle.seconds.specs.Limits.{heaviest}
 use Rattle.seconds.specs.Signed.{signed, abs-is}
 use Rattle.order.specs.Job.{Job, gainOf}
 use Rattle.order.specs.Choice.{keptWeight}
-use Rattle.packed.specs.Layout.{decode, numberOf, jobLayout}
-use Rattle.packed.specs.Packed.{countOf, jobOf, jobsIn}
+use Rattle.packed.specs.Packed.{jobFields, countOf, jobOf, jobsIn}
 use Rattle.packed.specs.Places.{each}
 use Rattle.packed.specs.PlacesLaws.{each-on, each-end}
 use Rattle.packed.specs.Refusals.{fieldsWithin}
@@ -63,7 +62,7 @@ sum-starts bytes n mask c =
 
 -- A job was read at a place.
 module _ {bytes : List ℕ} {n mask weight place : ℕ} (s : Summing bytes n mask weight place) (more : place < n)
-    (job : Numbers) (read : fieldsOf job ≡ decode jobLayout (numberOf (take 8 (drop (4 + 8 * place) bytes)))) where
+    (job : Numbers) (read : fieldsOf job ≡ jobFields bytes place) where
   below : place < countOf bytes
   below = omega (arith, s .count)
 

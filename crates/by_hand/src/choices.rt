@@ -7,18 +7,18 @@ use careful::put;
 // The most jobs of an order.
 const MOST: usize = 10;
 
-// Where a job's fields stand among its six numbers.
+// Where a job's fields stand among its seven numbers. The pack, which stands behind the number, is not read.
 pub const NUMBER: u8 = 0;
 
-pub const CRITICAL: u8 = 1;
+pub const CRITICAL: u8 = 2;
 
-pub const WEIGHT: u8 = 2;
+pub const WEIGHT: u8 = 3;
 
-pub const READY: u8 = 3;
+pub const READY: u8 = 4;
 
-pub const LENGTH: u8 = 4;
+pub const LENGTH: u8 = 5;
 
-pub const DEADLINE: u8 = 5;
+pub const DEADLINE: u8 = 6;
 
 // The seconds that the contactor rests after every job.
 pub const REST: i32 = 15;
@@ -57,7 +57,7 @@ pub fn field(numbers: &[i32], place: usize, which: u8) -> i32 {
     if place >= MOST {
         return 0;
     }
-    at(numbers, 6 * place + which as usize)
+    at(numbers, 7 * place + which as usize)
 }
 
 // The later of two times.
@@ -160,7 +160,7 @@ fn better(best: Best, choice: u32, outcome: Outcome) -> Best {
 
 // The best of all choices, in the sequence of their numbers.
 pub fn best_choice(numbers: &[i32], t0: i32) -> Best {
-    let jobs = numbers.len() / 6;
+    let jobs = numbers.len() / 7;
     let mut best = Best {
         found: false,
         choice: 0,
@@ -187,7 +187,7 @@ fn put_start(numbers: &[i32], place: usize, kept: bool, free: i32, starts: &mut 
 
 // The starts of a choice, in place order.
 pub fn write_starts(numbers: &[i32], t0: i32, choice: u32, starts: &mut [i32]) {
-    let jobs = numbers.len() / 6;
+    let jobs = numbers.len() / 7;
     let mut free = t0;
     let mut left = choice;
     let mut place = 0;
@@ -234,7 +234,7 @@ fn bit_of(place: usize) -> u64 {
 
 // The tally of a choice over all jobs.
 pub fn tally_of(numbers: &[i32], choice: u32) -> Tally {
-    let jobs = numbers.len() / 6;
+    let jobs = numbers.len() / 7;
     let mut tally = Tally {
         mask: 0,
         kept: 0,

@@ -1,6 +1,6 @@
 // A planner by trial, to compare the library with: every choice of an order is counted as a number and
 // run job by job, and a packed plan is read bit by bit and judged. It is written from the rules alone, and
-// uses nothing of the library. A choice's lowest bit is place 0; an order is six numbers a job, of at most
+// uses nothing of the library. A choice's lowest bit is place 0; an order is seven numbers a job, of at most
 // ten jobs; outcomes and profiles are alternating numbers, time and weight. Every function is safe and ends.
 // Assumes nothing.
 mod choices;

@@ -53,7 +53,7 @@ fn offends(numbers: &[i32], place: usize) -> bool {
 
 // The first offending place; where there is none, how many jobs there are.
 pub fn first_offending(numbers: &[i32]) -> usize {
-    let jobs = numbers.len() / 6;
+    let jobs = numbers.len() / 7;
     let mut place = 0;
     while place < jobs {
         if offends(numbers, place) {

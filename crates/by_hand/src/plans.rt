@@ -192,7 +192,7 @@ fn judge_job(numbers: &[i32], t0: i32, plan: &[u8], place: usize, so_far: Judged
 
 // A plan judged for an order.
 pub fn judge_plan(numbers: &[i32], t0: i32, plan: &[u8]) -> Judged {
-    let jobs = numbers.len() / 6;
+    let jobs = numbers.len() / 7;
     let refusal = refusal_of(plan, jobs);
     let mut judged = Judged {
         refusal: refusal,

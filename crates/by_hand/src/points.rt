@@ -89,7 +89,7 @@ fn gather(
 // points themselves.
 fn gather_all(profile: &[i32], numbers: &[i32], pairs: &mut [i32], many: usize) -> usize {
     let points = profile.len() / 2;
-    let jobs = numbers.len() / 6;
+    let jobs = numbers.len() / 7;
     let mut count = many;
     let mut i = 0;
     while i < points {
@@ -182,7 +182,7 @@ fn points_after(numbers: &[i32], jobs: usize, t0: i32) -> usize {
 
 // The points after each job, summed.
 pub fn point_total(numbers: &[i32], t0: i32) -> u64 {
-    let jobs = numbers.len() / 6;
+    let jobs = numbers.len() / 7;
     let mut total = 0;
     let mut k = 0;
     while k < jobs {
@@ -228,7 +228,7 @@ pub fn look_up(profile: &[i32], t: i32) -> i32 {
 // What an order is worth at a time: what the outcomes of all its choices reach by then.
 pub fn worth(numbers: &[i32], t0: i32, t: i32) -> Reached {
     let mut pairs = [0; 2048];
-    let many = gather(numbers, numbers.len() / 6, t0, 0, &mut pairs, 0);
+    let many = gather(numbers, numbers.len() / 7, t0, 0, &mut pairs, 0);
     reached_by(&pairs, many, t)
 }
 

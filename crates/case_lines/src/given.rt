@@ -5,7 +5,7 @@ use crate::lines::read_numbers;
 use careful::at;
 use careful::front;
 
-// Packs a bus-free time and jobs of six numbers. Returns how many bytes, none for an order that is
+// Packs a bus-free time and jobs of seven numbers. Returns how many bytes, none for an order that is
 // refused: such an order is told by its bytes.
 fn pack_order(numbers: &[i32], bytes: &mut [u8]) -> usize {
     if numbers.len() == 0 {
@@ -19,7 +19,7 @@ pub fn make_order(part: &[u8], bytes: &mut [u8]) -> usize {
     if byte_at(part, 0) == b'b' {
         return read_bytes(part, bytes);
     }
-    let mut numbers = [0; 300];
+    let mut numbers = [0; 350];
     let many = read_numbers(part, &mut numbers);
     pack_order(front(&numbers, many), bytes)
 }

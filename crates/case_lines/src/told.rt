@@ -119,6 +119,7 @@ pub fn put_bytes(bytes: &[u8]) {
 fn put_job(job: Job) {
     put_word(b" job");
     put(job.number);
+    put(job.pack);
     put(job.critical);
     put(job.weight);
     put(job.ready);

@@ -1,5 +1,5 @@
--- Choosing between two openings by a tie rule: the checks, the answer, the part handed back, and the work area at exit, for every
--- input. Definitions only.
+-- Choosing between two openings by a tie rule: the checks, the answer, the part handed back and its kind, and the work area at exit,
+-- for every input. Definitions only.
 use Prim.Native.Nat.{ℕ, _+_}
 use mathlib.Core.Path.{_≡_}
 use mathlib.Core.List.{List, [], _++_}
@@ -7,6 +7,7 @@ use lib.IntN.{ℤ}
 use lib.ListN.{length, drop}
 use denote.Ref.{RefT, now}
 use Rattle.packed.specs.Layout.{headerBytes}
+use Rattle.packed.specs.Packed.{kindOf}
 use Rattle.packed.specs.declared.Refusal.{Refusal}
 use Rattle.packed.specs.Judge.{noRefusal, withoutPlace, Check, Verdict, fine, refused, judge}
 use Rattle.packed.specs.Refusals.{roomChecks, orderChecks}
@@ -17,7 +18,7 @@ use Rattle.ties.specs.declared.Chosen.the-variants.{Refused, First, Second}
 
 -- ---- the calls
 
--- 1 to 9 of the first order, then of the second, then room for the work area.
+-- The checks of the first order, then of the second, then room for the work area.
 unfoldable pub choosingChecks : List ℕ → List ℕ → List ℤ → List Check
 choosingChecks first second work = orderChecks first ++ orderChecks second ++ roomChecks area (length work)
 
@@ -87,3 +88,9 @@ abbrev pub winnerOf : Chosen → ℕ
 winnerOf (Refused r) = 0
 winnerOf First = 1
 winnerOf Second = 2
+
+-- The kind of the winner's records; 0 if refused.
+abbrev pub kindWon : Chosen → List ℕ → List ℕ → ℕ
+kindWon (Refused r) first second = 0
+kindWon First first second = kindOf first
+kindWon Second first second = kindOf second

@@ -86,14 +86,20 @@ won-fine (refused r) won h = absurd (omega arith)
 module _ (rule : TieRule) (first second : RefT (List ℕ)) (t : ℤ) (work : List ℤ) {q : Chosen} {left : List ℤ}
     (asked : Asked rule (now first) (now second) t work q left)
   where
-    -- Where there is a winner both openings have a header.
-    pub headers-there : {c : Chosen} → q ≡ c → 0 < winnerOf c → (4 ≤ length (now first)) × (4 ≤ length (now second))
+    -- Where there is a winner both openings are accepted,
+    pub both-accepted : {c : Chosen} → q ≡ c → 0 < winnerOf c → CanCompare (now first) (now second)
     unfolding choosingChecks
-    headers-there e h =
+    both-accepted e h =
         let passed = won-fine (choosingVerdict (now first) (now second) work) _ (rw (sym e ∙ asked .answer) at h) in
         let orders = stages-fine (orderChecks (now first) ++ orderChecks (now second)) _ .0 passed .0 in
         let each = stages-fine (orderChecks (now first)) (orderChecks (now second)) .0 orders in
-        (order-fine (now first) .0 (each .0) .header .long, order-fine (now second) .0 (each .1) .header .long)
+        record { one = each .0; other = each .1 }
+
+    -- so they have a header.
+    pub headers-there : {c : Chosen} → q ≡ c → 0 < winnerOf c → (4 ≤ length (now first)) × (4 ≤ length (now second))
+    headers-there e h =
+        let both = both-accepted e h in
+        (order-fine (now first) .0 (both .one) .header .long, order-fine (now second) .0 (both .other) .header .long)
 
     -- What is handed back by the answer of the question is what the choice hands back.
     pub handed : {c : Chosen} {r : RefT (List ℕ)} → q ≡ c → now r ≡ partOf c (now first) (now second)

@@ -1,12 +1,11 @@
 -- What it is to win, in the words of the rules: the winner is worth the greater of both, and 11 is given exactly when the other
 -- checks are passed and neither opening has a point by the time; and what a refusal names. By every tie rule.
-use Prim.Native.Nat.{ℕ, _≤_}
+use Prim.Native.Nat.{ℕ, _*_, _≤_}
 use mathlib.Core.Path.{_≡_, refl, sym, ap, _∙_}
 use mathlib.Core.Bool.{Bool, true, false, cond}
 use mathlib.Core.List.{List, _++_}
 use mathlib.Core.Logic.{_↔_, _≢_, _⊎_, inl, inr, ⊎-elim, Iff·trans}
 use mathlib.Core.Option.{Option, none, some, Option·map}
-use native.Mathlib.Omega.{arith}
 use lib.Dec.{ltb}
 use lib.IntN.{ℤ}
 use lib.ListN.{length, drop}
@@ -17,17 +16,17 @@ use Rattle.profile.specs.Profile.{greater, worth, orderProfile}
 use Rattle.profile.specs.Worth.{lookup-worth, order-rises, Reaches, reaches-from}
 use Rattle.packed.specs.declared.Refusal.{Refusal}
 use Rattle.packed.specs.Judge.{inField, Verdict as Judged, fine, refused, judge, orElse}
-use Rattle.packed.specs.JudgeLaws.{judge-append, stages-fine, given-before}
-use Rattle.packed.specs.Layout.{headerBytes}
+use Rattle.packed.specs.JudgeLaws.{judge-append, stages-fine, never, given-before}
+use Rattle.packed.specs.Layout.{headerBytes, recordBytes}
 use Rattle.packed.specs.Places.{flat}
-use Rattle.packed.specs.Packed.{countOf, numbersOf, recordAt, orderOf}
-use Rattle.packed.specs.PackedLaws.{flat-records}
+use Rattle.packed.specs.Packed.{countOf, kindOf, numbersOf, recordAt, orderOf}
+use Rattle.packed.specs.PackedLaws.{flat-records, records-length as all-records}
 use Rattle.packed.specs.Refusals.{headerChecks, jobChecks, weightChecks, roomChecks, orderChecks}
 use Rattle.packed.specs.RefusalLaws.{room-fine}
 use Rattle.packed.specs.RefusalPlaces.{BadField, no-field, six-order}
 use Rattle.packed.specs.Accepted.{order-fine}
 use Rattle.area.specs.Area.{area, cleared}
-use Rattle.judge.specs.Told.{stays, told-next, up-to-ten, Holds, holds-behind, named-check, named-order}
+use Rattle.judge.specs.Told.{stays, told-next, Holds, holds-behind, named-check, named-order}
 use Rattle.ties.specs.Winning.{openingPoint, TieRule, byPoints, winnerBy}
 use Rattle.choosing.specs.Choosing.{choosingChecks, choosingVerdict}
 use Rattle.choosing.specs.Choosing.{chosenBy, chosenOf, Asked, refusalOf}
@@ -94,10 +93,10 @@ pub record NeitherInTime (first second : List ℕ) (t : ℤ) (work : List ℤ) :
   pub second-late : openingPoint second t ≡ none
 
 module _ (first second : List ℕ) (work : List ℤ) where
-  -- The checks give 1 to 10,
-  checks-most : {r : Refusal} → choosingVerdict first second work ≡ refused r → r .number ≤ 10
+  -- The checks never give 11,
+  checks-other : {r : Refusal} → choosingVerdict first second work ≡ refused r → r .number ≢ 11
   unfolding choosingChecks headerChecks jobChecks weightChecks
-  checks-most = up-to-ten (choosingChecks first second work) tt
+  checks-other = never 11 (choosingChecks first second work) tt
 
   -- and are passed exactly when both orders are accepted and there is room.
   pub checks-passed : choosingVerdict first second work ≡ fine
@@ -132,7 +131,7 @@ module _ (rule : TieRule) (first second : List ℕ) (t : ℤ) (work : List ℤ) 
               first-late = late .0;
               second-late = late .1;
             }
-        there (refused s) d e = absurd (omega (arith, checks-most first second work d))
+        there (refused s) d e = absurd (checks-other first second work d e)
 
         back : NeitherInTime first second t work → refusalOf r .number ≡ 11
         back h =
@@ -148,7 +147,7 @@ module _ (rule : TieRule) (first second : List ℕ) (t : ℤ) (work : List ℤ) 
 
 -- ---- 6, and what a refusal names
 
--- Some job of an order that passes 1 to 5 is out of range; of the first such job this is the first field that is.
+-- Some job of an order that passes 1 to 5 and 19 is out of range; of the first such job this is the first field that is.
 abbrev pub BadIn : List ℕ → ℕ → Type 0
 BadIn bytes f = (judge (headerChecks bytes) ≡ fine) × ((p : ℕ) × BadField (numbersOf bytes) p f)
 
@@ -235,3 +234,8 @@ module _ (rule : TieRule) (first second : List ℕ) (t : ℤ) (work : List ℤ) 
 pub records-part : (bytes : List ℕ) → judge (orderChecks bytes) ≡ fine
     → drop headerBytes bytes ≡ flat (recordAt bytes) (countOf bytes)
 records-part bytes e = sym (flat-records bytes (countOf bytes) (order-fine bytes .0 e .header .whole))
+
+-- It has as many bytes for each of them as its kind says.
+pub records-length : (bytes : List ℕ) → judge (orderChecks bytes) ≡ fine
+    → length (drop headerBytes bytes) ≡ recordBytes (kindOf bytes) * countOf bytes
+records-length bytes e = all-records bytes (countOf bytes) (order-fine bytes .0 e .header .whole)

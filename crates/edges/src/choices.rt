@@ -8,6 +8,7 @@ use case_lines::put_count;
 use case_lines::put_part;
 use case_lines::put_refused_field;
 use case_lines::setting;
+use openings::Answer;
 use ties::Chosen;
 
 // The calls on two openings: the question and the choice by the usual rule, and by the rule that gives a tie
@@ -19,12 +20,19 @@ enum Call {
     ChooseFirst,
 }
 
+// The winner, and the kind of its records.
+fn put_winner(winner: u64, kind: u32) {
+    put_count(winner);
+    put_count(kind as u64);
+}
+
 // What the question answered.
-fn put_chosen(answer: Chosen) {
-    match answer {
+fn put_chosen(answer: Answer) {
+    let chosen = answer.chosen;
+    match chosen {
         Chosen::Refused(refusal) => put_refused_field(refusal.number, refusal.field),
-        Chosen::First => put_count(1),
-        Chosen::Second => put_count(2),
+        Chosen::First => put_winner(1, answer.kind),
+        Chosen::Second => put_winner(2, answer.kind),
     }
 }
 

@@ -47,9 +47,9 @@ fn run<'a>(line: &[u8], first: &'a [u8], second: &'a [u8]) -> bool {
 
 // The same, from the parts of the case; a part that tells no bytes has none that are used.
 fn run_case(line: &[u8]) -> bool {
-    let mut one = [0; 400];
+    let mut one = [0; 450];
     let size = make_order(part(line, 1), &mut one);
-    let mut other = [0; 400];
+    let mut other = [0; 450];
     let other_size = make_order(part(line, 2), &mut other);
     run(
         line,

@@ -33,7 +33,7 @@ fn put_unpacked(answer: Unpacked) {
 
 // `unpack`: bytes, into the room lent.
 fn unpack(line: &[u8], bytes: &[u8]) {
-    let mut space = [MARK; 300];
+    let mut space = [MARK; 350];
     let numbers = lend(&mut space, count_setting(line, b'm'));
     put_unpacked(unpack::unpack(bytes, numbers));
     put_buffer(numbers);
@@ -49,9 +49,9 @@ pub fn put_packed(answer: Packed) {
 
 // `pack`: a bus-free time and numbers, into the room lent.
 fn pack(line: &[u8]) {
-    let mut numbers = [0; 300];
+    let mut numbers = [0; 350];
     let many = read_numbers(part(line, 1), &mut numbers);
-    let mut space = [BYTE_MARK; 400];
+    let mut space = [BYTE_MARK; 450];
     let bytes = lend_bytes(&mut space, count_setting(line, b'm'));
     put_packed(pack::pack(setting(line, b'f'), front(&numbers, many), bytes));
     put_bytes(bytes);

@@ -9,6 +9,7 @@ use comparing::MARK;
 use comparing::leaves;
 use comparing::pack_order;
 use comparing::says;
+use openings::Answer;
 use ties::Chosen;
 
 // Which of two openings of the same weight must win: the one that reaches it sooner, of both at once the
@@ -37,7 +38,7 @@ fn winner(rule: Rule, one: Reached, other: Reached) -> u32 {
 }
 
 // The question by a rule.
-fn ask(rule: Rule, first: &[u8], second: &[u8], t: i32, work: &mut [i32]) -> Chosen {
+fn ask(rule: Rule, first: &[u8], second: &[u8], t: i32, work: &mut [i32]) -> Answer {
     match rule {
         Rule::Sooner => openings::question(first, second, t, work),
         Rule::First => openings::question_first(first, second, t, work),
@@ -52,12 +53,21 @@ fn hand<'a>(rule: Rule, first: &'a [u8], second: &'a [u8], t: i32, work: &mut [i
     }
 }
 
-// Whether an answer names the opening that must win.
-fn is_answer(answer: Chosen, won: u32) -> bool {
-    match answer {
-        Chosen::Refused(refusal) => says(refusal, 11, 0) & (won == 0),
-        Chosen::First => won == 1,
-        Chosen::Second => won == 2,
+// The kind of a packed order's records, which the last byte of its header says; without a header, none that there is.
+fn kind_of(bytes: &[u8]) -> u8 {
+    if bytes.len() < 4 {
+        return 255;
+    }
+    bytes[3]
+}
+
+// Whether an answer names the opening that must win, and the kind of its records.
+fn is_answer(answer: Answer, first: u8, second: u8, won: u32) -> bool {
+    let chosen = answer.chosen;
+    match chosen {
+        Chosen::Refused(refusal) => says(refusal, 11, 0) & (won == 0) & (answer.kind == 0),
+        Chosen::First => (won == 1) & (answer.kind == first as u32),
+        Chosen::Second => (won == 2) & (answer.kind == second as u32),
     }
 }
 
@@ -65,7 +75,7 @@ fn is_answer(answer: Chosen, won: u32) -> bool {
 fn question_agrees(rule: Rule, first: &[u8], second: &[u8], t: i32, won: u32) -> bool {
     let mut work = [MARK; 14_750];
     let answer = ask(rule, first, second, t, &mut work);
-    is_answer(answer, won) & leaves(&work, 0)
+    is_answer(answer, kind_of(first), kind_of(second), won) & leaves(&work, 0)
 }
 
 // The records of a packed order.
@@ -154,8 +164,8 @@ pub fn check_choice(
     other_t0: i32,
     t: i32,
 ) -> Run {
-    let mut first = [0; 84];
-    let mut second = [0; 84];
+    let mut first = [0; 94];
+    let mut second = [0; 94];
     let size = pack_order(one_t0, one, &mut first);
     let other_size = pack_order(other_t0, other, &mut second);
     let worth = by_hand::worth(one, one_t0, t);

@@ -71,7 +71,7 @@ fn extends(
     points: usize,
     expected: &[i32],
 ) -> bool {
-    let mut space = [0; 84];
+    let mut space = [0; 94];
     let size = pack_order(t0, numbers, &mut space);
     extend_agrees(
         profile,

@@ -58,9 +58,9 @@ fn plan_orders(run: Run, one: &[i32], one_t0: i32, other: &[i32], other_t0: i32,
 
 // Two orders of a kind drawn and compared.
 fn try_orders(so_far: Run, kind: Kind) -> Run {
-    let mut first = [0; 60];
+    let mut first = [0; 70];
     let one = draw_order(so_far.seed, kind, &mut first);
-    let mut second = [0; 60];
+    let mut second = [0; 70];
     let other = draw_order(one.seed, kind, &mut second);
     let look = next(other.seed);
     let run = with_seed(so_far, next(look));
@@ -98,7 +98,7 @@ fn draw_profiles(so_far: Run, kind: Kind, numbers: &[i32], t0: i32) -> Run {
 
 // Two profiles and an order of a kind drawn and compared.
 fn try_profiles(run: Run, kind: Kind) -> Run {
-    let mut jobs = [0; 60];
+    let mut jobs = [0; 70];
     let order = draw_order(run.seed, kind, &mut jobs);
     draw_profiles(
         with_seed(run, order.seed),
@@ -110,7 +110,7 @@ fn try_profiles(run: Run, kind: Kind) -> Run {
 
 // An order of halves drawn, damaged or not, and compared.
 fn try_halves(so_far: Run, kind: Kind) -> Run {
-    let mut jobs = [0; 60];
+    let mut jobs = [0; 70];
     let order = draw_order(so_far.halves_seed, kind, &mut jobs);
     let mut run = so_far;
     run.halves_seed = draw_damage(order.seed, kind, &mut jobs, order.size);

@@ -123,7 +123,7 @@ fn halves_agree(order: &[u8], wanted: Wanted, expected: &[i32]) -> bool {
 
 // Whether planning numbers as an order gives what is wanted and writes the starts of the best choice.
 fn plans_best(numbers: &[i32], t0: i32, best: Best, wanted: Wanted) -> bool {
-    let mut space = [0; 84];
+    let mut space = [0; 94];
     let size = pack_order(t0, numbers, &mut space);
     let mut expected = [MARK; 12];
     expect_starts(numbers, t0, best, &mut expected);
@@ -132,7 +132,7 @@ fn plans_best(numbers: &[i32], t0: i32, best: Best, wanted: Wanted) -> bool {
 
 // The same as an order of halves.
 fn plans_halves(numbers: &[i32], t0: i32, best: Best, wanted: Wanted) -> bool {
-    let mut space = [0; 84];
+    let mut space = [0; 94];
     let size = pack_order(t0, numbers, &mut space);
     let mut expected = [MARK; 12];
     expect_starts(numbers, t0, best, &mut expected);
@@ -141,7 +141,7 @@ fn plans_halves(numbers: &[i32], t0: i32, best: Best, wanted: Wanted) -> bool {
 
 // Whether an order that is not of halves is refused with the first offending place, and nothing is written.
 fn refuses(numbers: &[i32], t0: i32, offending: usize) -> bool {
-    let mut space = [0; 84];
+    let mut space = [0; 94];
     let size = pack_order(t0, numbers, &mut space);
     let marks = [MARK; 12];
     halves_agree(front_bytes(&space, size), refused(offending), &marks)
@@ -181,7 +181,7 @@ pub fn check_halves(so_far: Run, numbers: &[i32], t0: i32) -> Run {
     let offending = by_hand::first_offending(numbers);
     let answer = best_wanted(numbers, t0, best);
     let run = expect(so_far, plans_best(numbers, t0, best, answer));
-    if offending < numbers.len() / 6 {
+    if offending < numbers.len() / 7 {
         return with_offending(expect(run, refuses(numbers, t0, offending)));
     }
     let agrees = plans_halves(numbers, t0, best, answer);

@@ -1,9 +1,9 @@
 -- What the answers of extending say: their numbers, that 11 is never given, what refusals name, when 6 is given, and what an
 -- empty profile and the bus-free time of the order do.
-use Prim.Native.Nat.{ℕ, _+_, _≤_}
+use Prim.Native.Nat.{ℕ, _+_}
 use mathlib.Core.Path.{_≡_, refl, ap}
 use mathlib.Core.Bool.{not}
-use mathlib.Core.Logic.{_↔_, Iff·trans}
+use mathlib.Core.Logic.{_↔_, _≢_, Iff·trans}
 use mathlib.Core.List.{List, []}
 use native.Mathlib.Omega.{arith}
 use lib.Dec.{ltb}
@@ -15,12 +15,13 @@ use Rattle.profile.specs.Profile.{extend, lastWeight}
 use Rattle.profile.specs.Extending.{extend-empty}
 use Rattle.packed.specs.declared.Refusal.{Refusal}
 use Rattle.packed.specs.Judge.{inField, noRefusal, Verdict, fine, refused, judge}
+use Rattle.packed.specs.JudgeLaws.{never}
 use Rattle.packed.specs.Packed.{numbersOf, jobsOf, orderOf}
 use Rattle.packed.specs.Refusals.{headerChecks, jobChecks, weightChecks}
 use Rattle.packed.specs.RefusalPlaces.{BadField, RefusalIs, nowhere, SixIs, six-behind, six-jobs, answer-refusal, answer-says}
 use Rattle.profiles.specs.Numbers.{mostNumbers, holdsProfile}
 use Rattle.area.specs.Area.{area}
-use Rattle.judge.specs.Told.{stays, up-to-ten, Named, holds-behind, named-check, named-rooms, named-order, six-rooms}
+use Rattle.judge.specs.Told.{stays, Named, holds-behind, named-check, named-rooms, named-order, six-rooms}
 use Rattle.extending.specs.Calls.{profileGiven, profileChecks, extendJudged, extendChecks, extendVerdict}
 use Rattle.extending.specs.Calls.{extension, extendedBy, extendedOf, ExtendCall, extendRefusal, pointsWritten}
 use Rattle.extending.specs.CallLaws.{seven, eight, nine}
@@ -43,18 +44,18 @@ module _ (ns : List ℤ) (bytes : List ℕ) (out work : List ℤ) where
   pub points-say : extendVerdict ns bytes out work ≡ fine → Says noRefusal (length (extension ns bytes))
   points-say e = rw e (refl, refl)
 
-  -- No refusal by the checks has a number above 10,
-  extend-ten : {r : Refusal} → extendVerdict ns bytes out work ≡ refused r → r .number ≤ 10
+  -- No refusal by the checks is 11,
+  checks-not-eleven : {r : Refusal} → extendVerdict ns bytes out work ≡ refused r → r .number ≢ 11
   unfolding extendChecks extendJudged headerChecks jobChecks weightChecks
-  extend-ten = up-to-ten (extendChecks ns bytes out work) tt
+  checks-not-eleven = never 11 (extendChecks ns bytes out work) tt
 
-  -- so no outcome that the contract allows is refused with 11, or more.
-  pub extend-never-eleven : {r : Extended} {out′ work′ : List ℤ} → ExtendCall ns bytes out work r out′ work′ → extendRefusal r .number ≤ 10
+  -- so no outcome that the contract allows is refused with it.
+  pub extend-never-eleven : {r : Extended} {out′ work′ : List ℤ} → ExtendCall ns bytes out work r out′ work′ → extendRefusal r .number ≢ 11
   extend-never-eleven h = rw (h .answer) (go (extendVerdict ns bytes out work) refl)
     where
-      go : (v : Verdict) → extendVerdict ns bytes out work ≡ v → extendRefusal (extendedBy v (extension ns bytes)) .number ≤ 10
-      go fine d = omega arith
-      go (refused s) d = extend-ten d
+      go : (v : Verdict) → extendVerdict ns bytes out work ≡ v → extendRefusal (extendedBy v (extension ns bytes)) .number ≢ 11
+      go fine d e = absurd (omega arith)
+      go (refused s) d e = checks-not-eleven d e
 
   -- A refusal by the checks names a place with 6 and 7, and a field with 6;
   extend-named : Named (numbersOf bytes) (extendChecks ns bytes out work)

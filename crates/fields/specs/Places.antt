@@ -1,6 +1,6 @@
 -- The jobs of packed bytes place by place, as the code reads them.
-use Prim.Native.Nat.{ℕ, zero, suc, _+_, _*_, _-_, _≤_, _<_}
-use mathlib.Core.Path.{_≡_, refl, sym, ap, _∙_}
+use Prim.Native.Nat.{ℕ, zero, suc, _+_, _-_, _≤_, _<_}
+use mathlib.Core.Path.{_≡_, refl, ap, _∙_}
 use mathlib.Core.Bool.{true}
 use mathlib.Core.List.{List, [], _∷_, _++_, reverse, reverse-append}
 use mathlib.Core.Option.{some, Option·none-ne-some, Option·some-injective}
@@ -13,12 +13,11 @@ use Rattle.order.specs.Job.{Rate, Job, rateOf, weightOf}
 use Rattle.order.specs.Within.{JobWithin, job-within}
 use Rattle.order.specs.Moves.{one-rate-whole}
 use Rattle.order.specs.OneRate.{OneRate}
-use Rattle.packed.specs.Layout.{decode, numberOf, jobLayout}
 use Rattle.packed.specs.Places.{eachOf, each}
 use Rattle.packed.specs.PlacesLaws.{length-each}
 use Rattle.packed.specs.Packed.{countOf, numbersOf, jobCount, fieldsAt, jobFields, jobOf, jobIn, orderOf, jobsIn}
 use Rattle.packed.specs.Packed.{theNumber, theWeight, theReady, theLength, theDeadline, isCritical}
-use Rattle.packed.specs.PackedLaws.{word-is, fields-is, numbers-count, fields-of-numbers, order-jobs}
+use Rattle.packed.specs.PackedLaws.{numbers-count, fields-of-numbers, order-jobs}
 use Rattle.packed.specs.Refusals.{fieldsWithin}
 use Rattle.packed.specs.RefusalLaws.{within-is, fields-within}
 use Rattle.packed.specs.Accepted.{OrderFine}
@@ -66,7 +65,7 @@ one-of-each f at (suc m) (suc k) h =
     let e : at + suc k ≡ suc at + k = omega arith in
     rw e (one-of-each f (suc at) m k (omega arith))
 
--- A job of six numbers has one.
+-- A job of seven numbers has one.
 rate-of-each : (zs : ℕ → List ℤ) (at m : ℕ) → OneRate (eachOf (λ k. jobOf (zs k)) at m)
 unfolding jobOf
 rate-of-each zs at zero = tt
@@ -108,10 +107,7 @@ module _ (bytes : List ℕ) where
 
   -- The numbers read at a place are those of the job there,
   module _ (k : ℕ) (below : k < countOf bytes) (numbers : Numbers)
-      (read : fieldsOf numbers ≡ decode jobLayout (numberOf (take 8 (drop (4 + 8 * k) bytes)))) where
-    numbers-there : fieldsOf numbers ≡ jobFields bytes k
-    numbers-there = read ∙ sym (rw (fields-is bytes k, word-is bytes k))
-
+      (numbers-there : fieldsOf numbers ≡ jobFields bytes k) where
     pub job-there : getElem? (jobsIn bytes) k ≡ some (asJob numbers)
     unfolding each
     job-there =

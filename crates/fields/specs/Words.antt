@@ -6,52 +6,110 @@ use native.Mathlib.Nat.{lt-of-lt-of-le}
 use native.Mathlib.Omega.{arith}
 use lib.Pow.{pow-mono, shr-lt}
 use lib.IntN.{pos}
-use lib.ListN.{length, getD, take, drop, set, length-set, take-append-drop}
+use lib.ListN.{length, getD, take, drop, set, length-set, length-append, length-drop, take-append-drop}
 use lib.Seq.{drop-cons, append-snoc, lt-length-set, getD-set-same, drop-set-lt, take-set-le}
+use lib.Seq.{length-take-le, take-at, drop-append-add, drop-drop}
 use mir.Syntax.{w32}
 use mir.Val.{toZ}
 use mir.Facts.{toZ-pos}
 use Rattle.seconds.specs.Twos.{bitsTo}
-use Rattle.packed.specs.Layout.{numberOf, bytesOf, decode, jobLayout}
-use Rattle.packed.specs.LayoutLaws.{AreBytes, part-lt, part-on, bytesOf-snoc, job-decode}
-use Rattle.fields.specs.Fields.{WordIn}
+use Rattle.packed.specs.Layout.{numberOf, bytesOf, decode, jobLayout, packBits, recordBytes}
+use Rattle.packed.specs.LayoutLaws.{AreBytes, part-lt, part-on, numberOf-cons, bytesOf-snoc, length-bytesOf, job-decode}
+use Rattle.fields.specs.Asked.{WordIn, WordIs}
 
 -- ---- reading bytes
 
 -- No byte makes 0.
-pub word-none : (bytes : List ℕ) (at : ℕ) → 0 ≡ numberOf (take 0 (drop at bytes))
+pub word-none : (bytes : List ℕ) (at : ℕ) → WordIs bytes at 0 0
 unfolding numberOf
-word-none bytes at = refl
+word-none bytes at = record { is = refl; small = omega arith }
 
-module _ (bytes : List ℕ) (at count i : ℕ) (within : WordIn bytes at count) (more : i < count) where
+module _ (bytes : List ℕ) (at count i : ℕ) (within : WordIn bytes at count) (more : i < count) (all : AreBytes bytes) where
   -- One byte more, behind the word of those before it.
-  pub word-on : (word : ℕ) → word ≡ numberOf (take i (drop at bytes))
-      → word * 256 + getD bytes (at + i) 0 ≡ numberOf (take (i + 1) (drop at bytes))
-  word-on word e =
-      ap (λ w. w * 256 + getD bytes (at + i) 0) e ∙ sym (part-on bytes at i (omega (arith, within .room)))
+  pub word-on : (word : ℕ) → WordIs bytes at i word → WordIs bytes at (i + 1) (word * 256 + getD bytes (at + i) 0)
+  word-on word w =
+      let e : word * 256 + getD bytes (at + i) 0 ≡ numberOf (take (i + 1) (drop at bytes)) =
+      ap (λ w. w * 256 + getD bytes (at + i) 0) (w .is) ∙ sym (part-on bytes at i (omega (arith, within .room))) in
+      record { is = e; small = rw e (part-lt bytes all (i + 1) at) }
 
   -- The word of eight bytes or fewer has 64 bits.
-  pub word-fits : AreBytes bytes → (word : ℕ) → word ≡ numberOf (take i (drop at bytes))
-      → word * 256 + getD bytes (at + i) 0 < 2 ^ 64
-  word-fits h word e =
+  pub word-fits : (word : ℕ) → WordIs bytes at i word → word * 256 + getD bytes (at + i) 0 < 2 ^ 64
+  word-fits word w =
       let short : 8 * (i + 1) ≤ 64 = omega (arith, within .short) in
-      rw (word-on word e) (lt-of-lt-of-le (part-lt bytes h (i + 1) at) (pow-mono short))
+      lt-of-lt-of-le (word-on word w .small) (pow-mono short)
 
 -- ---- the numbers of a record
 
--- A job's six numbers.
-pub job-numbers : (w : ℕ) → w < 2 ^ 64
-    → toZ w32 (w / 2 ^ 58) ∷ toZ w32 (w % 2 ^ 58 / 2 ^ 57) ∷ toZ w32 (w % 2 ^ 58 % 2 ^ 57 / 2 ^ 50)
-    ∷ bitsTo 18 (w % 2 ^ 58 % 2 ^ 57 % 2 ^ 50 / 2 ^ 32) ∷ toZ w32 (w % 2 ^ 58 % 2 ^ 57 % 2 ^ 50 % 2 ^ 32 / 2 ^ 18)
-    ∷ bitsTo 18 (w % 2 ^ 58 % 2 ^ 57 % 2 ^ 50 % 2 ^ 32 % 2 ^ 18) ∷ []
-    ≡ decode jobLayout w
-job-numbers w h =
-    let number : toZ w32 (w / 2 ^ 58) ≡ pos (w / 2 ^ 58) = toZ-pos w32 (omega arith) in
-    let critical : toZ w32 (w % 2 ^ 58 / 2 ^ 57) ≡ pos (w % 2 ^ 58 / 2 ^ 57) = toZ-pos w32 (omega arith) in
-    let weight : toZ w32 (w % 2 ^ 58 % 2 ^ 57 / 2 ^ 50) ≡ pos (w % 2 ^ 58 % 2 ^ 57 / 2 ^ 50) = toZ-pos w32 (omega arith) in
-    let long : toZ w32 (w % 2 ^ 58 % 2 ^ 57 % 2 ^ 50 % 2 ^ 32 / 2 ^ 18) ≡ pos (w % 2 ^ 58 % 2 ^ 57 % 2 ^ 50 % 2 ^ 32 / 2 ^ 18)
-    = toZ-pos w32 (omega arith) in
-    rw (number, critical, weight, long) (sym (job-decode w))
+-- Some bytes are the first and those behind it.
+first-byte : (bytes : List ℕ) (at n : ℕ) → at + suc n ≤ length bytes
+    → numberOf (take (suc n) (drop at bytes)) ≡ getD bytes at 0 * 2 ^ (8 * n) + numberOf (take n (drop (suc at) bytes))
+first-byte bytes at n room =
+    let rest : length (take n (drop (suc at) bytes)) ≡ n =
+    length-take-le n (drop (suc at) bytes) (omega (arith, length-drop (suc at) bytes)) in
+    ap (λ l. numberOf (take (suc n) l)) (drop-cons bytes at 0 (omega arith))
+    ∙ numberOf-cons (getD bytes at 0) (take n (drop (suc at) bytes))
+    ∙ ap (λ l. getD bytes at 0 * 2 ^ (8 * l) + numberOf (take n (drop (suc at) bytes))) rest
+
+-- The bytes of a record, of kind 0 or 1.
+pub record-size : (kind : ℕ) → kind ≤ 1 → recordBytes kind ≡ 8 + kind
+unfolding recordBytes
+record-size zero h = refl
+record-size (suc zero) h = refl
+record-size (suc (suc kind)) h = absurd (omega arith)
+
+-- A pack has few bits.
+pub pack-small : (kind n : ℕ) → n % 2 ^ packBits kind < 2 ^ 31
+pack-small zero n = omega arith
+pack-small (suc kind) n = omega arith
+
+-- Its first byte and its last eight make the record's number: in kind 0 the byte is the first of the eight, in kind 1 it stands
+-- before them.
+module _ (bytes : List ℕ) (all : AreBytes bytes) (at word : ℕ) where
+  abbrev first : ℕ
+  first = getD bytes at 0
+
+  record HeadRead (kind n : ℕ) : Type 0 where
+    number : n / 2 ^ (packBits kind + 58) ≡ first / 4
+    pack : n % 2 ^ (packBits kind + 58) / 2 ^ 58 ≡ (first * 2 ^ 6 + word / 2 ^ 58) % 2 ^ packBits kind
+    behind : n % 2 ^ (packBits kind + 58) % 2 ^ 58 ≡ word % 2 ^ 58
+
+  head-read : (kind : ℕ) → kind ≤ 1 → at + (8 + kind) ≤ length bytes → WordIs bytes (at + kind) 8 word
+      → HeadRead kind (numberOf (take (8 + kind) (drop at bytes)))
+  head-read zero few room w =
+      let e : at + 0 ≡ at = omega arith in
+      let same : numberOf (take 8 (drop at bytes)) ≡ word = ap (λ i. numberOf (take 8 (drop i bytes))) (sym e) ∙ sym (w .is) in
+      let parts : word ≡ first * 2 ^ 56 + numberOf (take 7 (drop (suc at) bytes)) = sym same ∙ first-byte bytes at 7 room in
+      let low : numberOf (take 7 (drop (suc at) bytes)) < 2 ^ 56 = part-lt bytes all 7 (suc at) in
+      rw same (record { number = omega arith; pack = omega arith; behind = omega arith })
+  head-read (suc zero) few room w =
+      let e : at + 1 ≡ suc at = omega arith in
+      let same : numberOf (take 8 (drop (suc at) bytes)) ≡ word = ap (λ i. numberOf (take 8 (drop i bytes))) (sym e) ∙ sym (w .is) in
+      let parts : numberOf (take 9 (drop at bytes)) ≡ first * 2 ^ 64 + word =
+      first-byte bytes at 8 room ∙ ap (λ n. first * 2 ^ 64 + n) same in
+      let low : word < 2 ^ 64 = w .small in
+      rw parts (record { number = omega arith; pack = omega arith; behind = omega arith })
+  head-read (suc (suc kind)) few room w = absurd (omega arith)
+
+  -- So they are a job's seven numbers.
+  pub job-read : (kind : ℕ) → kind ≤ 1 → at + (8 + kind) ≤ length bytes → WordIs bytes (at + kind) 8 word
+      → (let m = word % 2 ^ 58 in
+      toZ w32 (first / 4) ∷ toZ w32 ((first * 2 ^ 6 + word / 2 ^ 58) % 2 ^ packBits kind) ∷ toZ w32 (m / 2 ^ 57)
+      ∷ toZ w32 (m % 2 ^ 57 / 2 ^ 50) ∷ bitsTo 18 (m % 2 ^ 57 % 2 ^ 50 / 2 ^ 32) ∷ toZ w32 (m % 2 ^ 57 % 2 ^ 50 % 2 ^ 32 / 2 ^ 18)
+      ∷ bitsTo 18 (m % 2 ^ 57 % 2 ^ 50 % 2 ^ 32 % 2 ^ 18) ∷ [])
+      ≡ decode (jobLayout kind) (numberOf (take (8 + kind) (drop at bytes)))
+  job-read kind few room w =
+      let n : ℕ = numberOf (take (8 + kind) (drop at bytes)) in
+      let m : ℕ = word % 2 ^ 58 in
+      let h = head-read kind few room w in
+      let byte : first < 256 = all at in
+      let packed : ℕ = (first * 2 ^ 6 + word / 2 ^ 58) % 2 ^ packBits kind in
+      let number : toZ w32 (first / 4) ≡ pos (first / 4) = toZ-pos w32 (omega arith) in
+      let pack : toZ w32 packed ≡ pos packed = toZ-pos w32 (pack-small kind (first * 2 ^ 6 + word / 2 ^ 58)) in
+      let critical : toZ w32 (m / 2 ^ 57) ≡ pos (m / 2 ^ 57) = toZ-pos w32 (omega arith) in
+      let weight : toZ w32 (m % 2 ^ 57 / 2 ^ 50) ≡ pos (m % 2 ^ 57 / 2 ^ 50) = toZ-pos w32 (omega arith) in
+      let long : toZ w32 (m % 2 ^ 57 % 2 ^ 50 % 2 ^ 32 / 2 ^ 18) ≡ pos (m % 2 ^ 57 % 2 ^ 50 % 2 ^ 32 / 2 ^ 18)
+      = toZ-pos w32 (omega arith) in
+      rw (number, pack, critical, weight, long, job-decode kind n, h .number, h .pack, h .behind)
 
 -- ---- writing bytes
 
@@ -111,3 +169,20 @@ module _ (bytes₀ : List ℕ) (at count word : ℕ) (room : at + count ≤ leng
       let back : drop at bytes ≡ bytesOf count word ++ drop (at + count) bytes₀ = rw (bytesOf-none left, e) at (w .back) in
       sym (take-append-drop at bytes) ∙ ap₂ (λ xs ys. xs ++ ys) (w .front) back
       ∙ sym (append-assoc (take at bytes₀) (bytesOf count word) (drop (at + count) bytes₀))
+
+-- Two words, the second behind the first: their bytes, written at the first's place.
+pub words-written : (l l₁ l₂ : List ℕ) (at f b x y : ℕ) → at + (f + b) ≤ length l
+    → l₁ ≡ take at l ++ bytesOf f x ++ drop (at + f) l → l₂ ≡ take (at + f) l₁ ++ bytesOf b y ++ drop (at + f + b) l₁
+    → l₂ ≡ take at l ++ (bytesOf f x ++ bytesOf b y) ++ drop (at + (f + b)) l
+words-written l l₁ l₂ at f b x y room first second =
+    let xs : List ℕ = take at l ++ bytesOf f x in
+    let ys : List ℕ = bytesOf b y in
+    let long : length xs ≡ at + f =
+    length-append (take at l) (bytesOf f x) ∙ ap₂ (λ p q. p + q) (length-take-le at l (omega arith)) (length-bytesOf f x) in
+    let front : take (at + f) l₁ ≡ xs = ap (take (at + f)) first ∙ take-at xs (drop (at + f) l) (at + f) long in
+    let past : drop (length xs + b) (xs ++ drop (at + f) l) ≡ drop (at + f + b) l =
+    drop-append-add xs (drop (at + f) l) b ∙ drop-drop b (at + f) l in
+    let back : drop (at + f + b) l₁ ≡ drop (at + f + b) l = ap (drop (at + f + b)) first ∙ rw long at past in
+    let end : at + f + b ≡ at + (f + b) = omega arith in
+    second ∙ ap₂ (λ p q. p ++ ys ++ q) front (back ∙ ap (λ i. drop i l) end)
+    ∙ ap (λ p. p ++ drop (at + (f + b)) l) (append-assoc (take at l) (bytesOf f x) ys)

@@ -1,25 +1,23 @@
 -- The job at a place as the code reads it from its bytes: its numbers are within their limits, and stepping a list by them is
 -- stepping it by the job.
-use Prim.Native.Nat.{ℕ, _+_, _*_, _<_}
-use mathlib.Core.Path.{_≡_, refl, sym, ap, _∙_}
+use Prim.Native.Nat.{ℕ, _<_}
+use mathlib.Core.Path.{_≡_, sym, ap, _∙_}
 use mathlib.Core.List.{List}
 use native.Mathlib.Omega.{arith}
 use lib.Dec.{T, eqb}
 use lib.IntN.{ℤ, natAbs}
-use lib.ListN.{take, drop}
 use lib.Signed.{nonNeg}
 use mir.Syntax.{w32, w64}
 use mir.Val.{Fits, toZ, ofZ}
 use mir.Facts.{toZ-ofZ}
 use Rattle.seconds.specs.Signed.{signed, abs-is}
 use Rattle.order.specs.Job.{Job, oneRate, Point}
-use Rattle.packed.specs.Layout.{decode, jobLayout, numberOf}
 use Rattle.packed.specs.Packed.{countOf, jobFields, jobOf, jobIn}
 use Rattle.packed.specs.PackedLaws.{fields-of-numbers, numbers-count}
 use Rattle.packed.specs.RefusalLaws.{Within, within-is}
 use Rattle.packed.specs.Accepted.{OrderFine}
 use Rattle.fields.specs.Fields.{fieldsOf}
-use Rattle.fields.specs.Facts.{JobFacts, JobFits, job-facts, facts-fit, mark-bits, read-at}
+use Rattle.fields.specs.Facts.{JobFacts, JobFits, job-facts, facts-fit, mark-bits}
 use Rattle.fields.specs.declared.Job.{Job as Numbers}
 use Rattle.points.specs.Steps.{listStep}
 use Rattle.codes.specs.Code.{listAt}
@@ -35,11 +33,8 @@ abbrev read : ℤ → ℤ
 read z = toZ w32 (ofZ w32 z)
 
 module _ (bytes : List ℕ) (k : ℕ) (order : OrderFine bytes) (there : k < countOf bytes)
-    (job : Numbers) (is : fieldsOf job ≡ decode jobLayout (numberOf (take 8 (drop (4 + 8 * k) bytes))))
+    (job : Numbers) (fields : fieldsOf job ≡ jobFields bytes k)
   where
-    fields : fieldsOf job ≡ jobFields bytes k
-    fields = read-at bytes k (4 + 8 * k) job refl is
-
     -- Its numbers are within their limits,
     within : JobFacts job
     within =

@@ -57,7 +57,7 @@ jobs-next bytes k h =
     rw jobs-each (getD-each (jobIn bytes) 0 (countOf bytes) k (jobIn bytes 0) (omega arith) ∙ rw zero-add) in
     rw e (take-suc (jobsIn bytes) k (jobIn bytes 0) (omega (arith, jobs-count bytes)) ∙ rw one)
 
--- A job of six numbers is one of the rules': one rate, which counts its weight.
+-- A job of seven numbers is one of the rules': one rate, which counts its weight.
 job-single : (zs : List ℤ) → JobWithin (jobOf zs) → Single (jobOf zs)
 unfolding jobOf
 job-single zs w = record { rate = record { takes = natAbs (theLength zs); gain = natAbs (theWeight zs) }; only = refl; weighty = w .weighty }

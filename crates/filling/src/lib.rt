@@ -3,7 +3,7 @@
 use codes::PAST;
 use codes::Prefix;
 use codes::code_of;
-use fields::job_at;
+use fields::job_in;
 use pushing::Rate;
 use stepping::Terms;
 use stepping::step;
@@ -46,7 +46,7 @@ fn fill_one(
         FilledOne (now (bytes .entry)) k place count (now (work .entry)) (r .place) (r .count) (r .weight)
         (now (work .exit)) (now (pushed .exit)) ⌝ }
 {
-    let job = job_at(bytes, 4 + 8 * k);
+    let job = job_in(bytes, k);
     let weight = job.weight as usize;
     let takes = job.length as usize;
     let list = Prefix {

@@ -37,11 +37,13 @@ pub sequence-of-both : map placed (sequenceOf (pump ++ fan)) ≡ (0, 0) ∷ (1, 
 unfolding gcdIn gcd lcm part each flat jobsGiven givenAt frameOf repeatsOf sequenceOf
 sequence-of-both = refl
 
--- A deadline is set by the ready time of its repeat.
+-- Each repeat has pack 0, and its deadline is set by its ready time.
 pub order-of-both : frameNumbers (pump ++ fan)
-    ≡ (pos 0 ∷ pos 1 ∷ pos 0 ∷ pos 0 ∷ pos 60 ∷ pos 300 ∷ []) ++ (pos 1 ∷ pos 0 ∷ pos 5 ∷ pos 100 ∷ pos 120 ∷ pos 500 ∷ [])
-    ++ (pos 2 ∷ pos 1 ∷ pos 0 ∷ pos 1200 ∷ pos 60 ∷ pos 1500 ∷ []) ++ (pos 3 ∷ pos 0 ∷ pos 5 ∷ pos 1900 ∷ pos 120 ∷ pos 2300 ∷ [])
-    ++ (pos 4 ∷ pos 1 ∷ pos 0 ∷ pos 2400 ∷ pos 60 ∷ pos 2700 ∷ [])
+    ≡ (pos 0 ∷ pos 0 ∷ pos 1 ∷ pos 0 ∷ pos 0 ∷ pos 60 ∷ pos 300 ∷ [])
+    ++ (pos 1 ∷ pos 0 ∷ pos 0 ∷ pos 5 ∷ pos 100 ∷ pos 120 ∷ pos 500 ∷ [])
+    ++ (pos 2 ∷ pos 0 ∷ pos 1 ∷ pos 0 ∷ pos 1200 ∷ pos 60 ∷ pos 1500 ∷ [])
+    ++ (pos 3 ∷ pos 0 ∷ pos 0 ∷ pos 5 ∷ pos 1900 ∷ pos 120 ∷ pos 2300 ∷ [])
+    ++ (pos 4 ∷ pos 0 ∷ pos 1 ∷ pos 0 ∷ pos 2400 ∷ pos 60 ∷ pos 2700 ∷ [])
 unfolding gcdIn gcd lcm part each flat jobsGiven givenAt frameOf repeatsOf sequenceOf frameNumbers
 order-of-both = refl
 

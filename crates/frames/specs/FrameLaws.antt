@@ -1,5 +1,5 @@
--- The order of a frame: what stands at each of its places, what it weighs, that it is an order that planning accepts, and that each
--- of its jobs leaves the bus free by the frame's end.
+-- The order of a frame: what stands at each of its places, that it is of kind 0, what it weighs, that it is an order that planning
+-- accepts, and that each of its jobs leaves the bus free by the frame's end.
 use Prim.Native.Nat.{ℕ, zero, suc, _+_, _*_, _-_, _≤_, _<_}
 use mathlib.Core.Path.{_≡_, refl, sym, ap, ap₂, _∙_}
 use mathlib.Core.List.{List, [], _∷_, _++_, List·Memᴰ, List·Memᴰ·head, List·Memᴰ·tail}
@@ -12,17 +12,19 @@ use Rattle.seconds.specs.Limits.{rest, mostJobs, longestFrame}
 use Rattle.seconds.specs.Signed.{signed, add-is, abs-is}
 use Rattle.order.specs.Job.{weightOf}
 use Rattle.order.specs.Later.{InFrame, AllInFrame}
+use Rattle.packed.specs.LayoutLaws.{bytes-old}
 use Rattle.packed.specs.Judge.{fine, judge}
 use Rattle.packed.specs.JudgeLaws.{judge-at, stages-fine}
 use Rattle.packed.specs.Places.{eachOf, each}
 use Rattle.packed.specs.PlacesLaws.{length-flat, part-flat, each-cong, ext-each}
-use Rattle.packed.specs.Packed.{jobCount, fieldsAt, jobOf, jobAt, jobsOf}
-use Rattle.packed.specs.PackedLaws.{whole-count}
+use Rattle.packed.specs.Packed.{jobCount, fieldsAt, hasPack, kindFor, packIn, jobOf, jobAt, jobsOf}
+use Rattle.packed.specs.PackedLaws.{whole-count, kind-old, length-packed}
 use Rattle.packed.specs.Refusals.{numberAt, weightChecks, numberChecks}
 use Rattle.packed.specs.RefusalLaws.{Within, weight-fine}
 use Rattle.packed.specs.Accepted.{numbers-fine}
 use Rattle.frames.specs.Frames.{theDeadline, jobsGiven, givenAt, weightAt, frameOf, Repeat, timesAt}
-use Rattle.frames.specs.Frames.{sequenceOf, repeatCount, numbersFor, repeatAt, frameNumbers, givenChecks, madeChecks, makingChecks}
+use Rattle.frames.specs.Frames.{sequenceOf, repeatCount, numbersFor, repeatAt, frameNumbers, frameBytes}
+use Rattle.frames.specs.Frames.{givenChecks, madeChecks, makingChecks}
 use Rattle.frames.specs.SequenceLaws.{tally, tally-length}
 use Rattle.frames.specs.Facts.{GivenFine, MakingFine}
 use Rattle.frames.specs.GivenLaws.{given-fine}
@@ -34,10 +36,10 @@ module _ (zs : List ℤ) where
   abbrev at : ℕ → List ℤ
   at k = numbersFor zs k (repeatAt zs k)
 
-  -- Six numbers a repeat.
-  pub frame-length : length (frameNumbers zs) ≡ 6 * repeatCount zs
+  -- Seven numbers a repeat.
+  pub frame-length : length (frameNumbers zs) ≡ 7 * repeatCount zs
   unfolding frameNumbers
-  frame-length = length-flat 6 at (λ k. refl) (repeatCount zs)
+  frame-length = length-flat 7 at (λ k. refl) (repeatCount zs)
 
   pub frame-count : jobCount (frameNumbers zs) ≡ repeatCount zs
   frame-count = whole-count (frameNumbers zs) (repeatCount zs) frame-length
@@ -45,13 +47,26 @@ module _ (zs : List ℤ) where
   -- At each place those of the repeat there.
   pub frame-at : (k : ℕ) → k < repeatCount zs → fieldsAt (frameNumbers zs) k ≡ numbersFor zs k (repeatAt zs k)
   unfolding frameNumbers fieldsAt
-  frame-at k h = part-flat 6 at (λ k. refl) (repeatCount zs) k h
+  frame-at k h = part-flat 7 at (λ k. refl) (repeatCount zs) k h
 
   pub frame-jobs : jobsOf (frameNumbers zs) ≡ each (λ k. jobOf (numbersFor zs k (repeatAt zs k))) 0 (repeatCount zs)
   unfolding jobsOf
   frame-jobs = rw frame-count
       (each-cong (jobAt (frameNumbers zs)) (λ k. jobOf (numbersFor zs k (repeatAt zs k))) 0 (repeatCount zs)
       (λ k a b. ap jobOf (frame-at k b)))
+
+  -- Every pack is 0, so the kind is,
+  pub frame-kind : kindFor (frameNumbers zs) ≡ 0
+  frame-kind = kind-old (frameNumbers zs) .1 (λ k h. ap hasPack (frame-at k (omega (arith, frame-count))))
+
+  -- the bytes are those of kind 0,
+  pub frame-packed : frameBytes zs ≡ packIn 0 (pos 0) (frameNumbers zs)
+  frame-packed = ap (λ kind. packIn kind (pos 0) (frameNumbers zs)) frame-kind
+
+  -- and they are 4, and 8 a repeat.
+  pub frame-bytes : length (frameBytes zs) ≡ 4 + 8 * repeatCount zs
+  frame-bytes =
+      ap length frame-packed ∙ length-packed 0 (pos 0) (frameNumbers zs) ∙ ap₂ (λ (size n : ℕ). 4 + size * n) bytes-old frame-count
 
   -- ---- how many there are, and their weight
 
@@ -106,6 +121,7 @@ module _ {zs : List ℤ} (g : GivenFine zs) where
       let inside = done-inside a i in
       record {
         number = record { low = omega signed; high = omega (signed, few) };
+        pack = record { low = omega signed; high = omega signed };
         mark = m .mark;
         weight = m .weight;
         ready = record { low = omega signed; high = omega (signed, i .inside) };

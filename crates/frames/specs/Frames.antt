@@ -10,7 +10,7 @@ use lib.Signed.{leZ}
 use Rattle.seconds.specs.Limits.{rest, longest, mostJobs, mostRepeating, longestFrame}
 use Rattle.seconds.specs.Ranges.{same, isBetween}
 use Rattle.multiples.specs.Multiples.{leastCommon}
-use Rattle.packed.specs.Layout.{headerBytes, jobBytes}
+use Rattle.packed.specs.Layout.{headerBytes, recordBytes}
 use Rattle.packed.specs.Places.{part, flat, each, first}
 use Rattle.packed.specs.Judge.{Check, check, checkAt}
 use Rattle.packed.specs.Packed.{packOrder}
@@ -137,11 +137,11 @@ repeatCount zs = length (sequenceOf zs)
 
 -- ---- the order of a frame
 
--- A repeat as a job of an order, by its number and its ready time: with the mark, the weight and the length of its repeating job, and
--- its deadline that much later than it is ready.
+-- A repeat as a job of an order, by its number and its ready time: with pack 0, with the mark, the weight and the length of its
+-- repeating job, and its deadline that much later than it is ready.
 abbrev pub madeOf : ℕ → ℕ → List ℤ → List ℤ
 madeOf number ready job =
-    pos number ∷ theMark job ∷ theWeight job ∷ pos ready ∷ theLength job ∷ (pos ready +ℤ theDeadline job) ∷ []
+    pos number ∷ pos 0 ∷ theMark job ∷ theWeight job ∷ pos ready ∷ theLength job ∷ (pos ready +ℤ theDeadline job) ∷ []
 
 -- It is numbered by its place in the sequence.
 abbrev pub numbersFor : List ℤ → ℕ → Repeat → List ℤ
@@ -176,4 +176,4 @@ abbrev pub makingChecks : List ℤ → List Check
 makingChecks zs = givenChecks zs ++ madeChecks zs ++ weightChecks 0 (frameNumbers zs)
 
 abbrev pub frameChecks : List ℤ → ℕ → List Check
-frameChecks zs room = makingChecks zs ++ roomChecks (headerBytes + jobBytes * repeatCount zs) room
+frameChecks zs room = makingChecks zs ++ roomChecks (headerBytes + recordBytes 0 * repeatCount zs) room

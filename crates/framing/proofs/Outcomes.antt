@@ -1,5 +1,5 @@
--- What the contract of framing says of every outcome that it allows: what its refusal names, when it is 16, and that what it writes is an order that
--- planning accepts (1 to 7 and 9 never apply).
+-- What the contract of framing says of every outcome that it allows: what its refusal names, when it is 16, and that what it writes
+-- is an order of kind 0 that planning accepts (1 to 7, 9 and 19 never apply).
 use Prim.Native.Nat.{ℕ}
 use mathlib.Core.Path.{_≡_, sym, _∙_}
 use mathlib.Core.Logic.{_↔_}

@@ -13,11 +13,11 @@ use Rattle.seconds.specs.Signed.{signed}
 use Rattle.order.specs.Job.{weightOf}
 use Rattle.packed.specs.declared.Refusal.{Refusal}
 use Rattle.packed.specs.Judge.{plainly, Verdict as Judged, fine, refused, judge}
+use Rattle.packed.specs.Layout.{recordBytes}
 use Rattle.packed.specs.Packed.{jobCount, jobsOf, packedHeader}
-use Rattle.packed.specs.PackedLaws.{length-packed}
 use Rattle.packed.specs.Refusals.{weightChecks, roomChecks}
 use Rattle.packed.specs.RefusalLaws.{weight-fine, room-fine}
-use Rattle.fields.specs.Fields.{HeaderRoom}
+use Rattle.fields.specs.Asked.{HeaderRoom}
 use Rattle.judge.specs.Verdicts.{verdictOf}
 use Rattle.judge.specs.Told.{refusal-told, told-next, stays}
 use Rattle.judge.specs.declared.Verdict.the-variants.{Refused as Said}
@@ -26,7 +26,7 @@ use Rattle.pack.specs.WritingLaws.{all-written}
 use Rattle.frames.specs.Frames.{frameOf, repeatCount, frameNumbers, frameBytes, givenChecks, madeChecks, makingChecks, frameChecks}
 use Rattle.frames.specs.Facts.{GivenFine, MakingFine}
 use Rattle.frames.specs.GivenLaws.{given-fine}
-use Rattle.frames.specs.FrameLaws.{frame-count}
+use Rattle.frames.specs.FrameLaws.{frame-count, frame-packed, frame-bytes}
 use Rattle.repeating.specs.Repeating.{CanCount, Counts}
 use Rattle.repeating.specs.declared.Totals.{Totals}
 use Rattle.framing.specs.Answer.{framedBy, orderBy, framedOf, orderAfter}
@@ -48,6 +48,7 @@ module _ (zs : List ℤ) (was : List ℕ) where
 
   -- A refusal by the stage of the jobs that are given stays the verdict, and so does one by the frame, or by the weights.
   by-weights : (r : Refusal) → judge (makingChecks zs) ≡ refused r → Frames (Refused r) was
+  unfolding recordBytes
   by-weights r e = frames-by (refused r) (stays (makingChecks zs) (roomChecks (4 + 8 * repeatCount zs) (length was)) e)
 
   by-frame : (r : Refusal) → judge (givenChecks zs ++ madeChecks zs) ≡ refused r → Frames (Refused r) was
@@ -105,6 +106,7 @@ module _ (zs : List ℤ) (was : List ℕ) where
 
         -- The verdict is then that on the room.
         on-room : judge (frameChecks zs (length was)) ≡ judge (roomChecks (4 + 8 * repeatCount zs) (length was))
+        unfolding recordBytes
         on-room =
             told-next (makingChecks zs) (roomChecks (4 + 8 * repeatCount zs) (length was))
             (told-next (givenChecks zs ++ madeChecks zs) (weightChecks 0 (frameNumbers zs)) frame-fine
@@ -119,8 +121,8 @@ module _ (zs : List ℤ) (was : List ℕ) where
         -- or there is room
         module _ (room : 4 + 8 * made .count ≤ length was) where
           -- for the header
-          pub header-room : HeaderRoom was (made .count) (pos 0)
-          header-room = record { room = omega arith; few = few; timely = omega signed }
+          pub header-room : HeaderRoom was 0 (made .count) (pos 0)
+          header-room = record { room = omega arith; known = omega arith; few = few; timely = omega signed }
 
           -- and for the repeats,
           pub can-write : (bytes : List ℕ) → length bytes ≡ length was → CanWrite zs (made .count) bytes
@@ -128,14 +130,16 @@ module _ (zs : List ℤ) (was : List ℕ) where
 
           -- and they are written.
           pub frames-written : (bytes : List ℕ)
-              → bytes ≡ firstRecords (frameNumbers zs) (made .count) (packedHeader (made .count) (pos 0) ++ drop 4 was)
+              → bytes ≡ firstRecords 0 (frameNumbers zs) (made .count) (packedHeader 0 (made .count) (pos 0) ++ drop 4 was)
               → Frames (Made (record { bytes = 4 + 8 * made .count; frame = frame })) bytes
           frames-written bytes e =
               let count : made .count ≡ jobCount (frameNumbers zs) = all .count ∙ sym (frame-count zs) in
-              let long : 4 + 8 * made .count ≡ length (frameBytes zs) =
-              ap (λ (n : ℕ). 4 + 8 * n) count ∙ sym (length-packed (pos 0) (frameNumbers zs)) in
+              let long : 4 + 8 * made .count ≡ length (frameBytes zs) = omega (arith, all .count, frame-bytes zs) in
               let enough : 4 + 8 * repeatCount zs ≤ length was = omega (arith, all .count) in
               let by = frames-by fine (on-room ∙ room-fine (4 + 8 * repeatCount zs) (length was) .1 enough) in
-              let first : ℕ → List ℕ = λ n. firstRecords (frameNumbers zs) n (packedHeader n (pos 0) ++ drop 4 was) in
+              let first : ℕ → List ℕ = λ n. firstRecords 0 (frameNumbers zs) n (packedHeader 0 n (pos 0) ++ drop 4 was) in
               let told : ℕ → ℕ → Framed = λ n f. Made (record { bytes = n; frame = f }) in
-              (ap₂ told long (can .is) ∙ by .0, e ∙ ap first count ∙ all-written (frameNumbers zs) was (pos 0) ∙ by .1)
+              let lent : List ℕ → List ℕ = λ bs. bs ++ drop (length bs) was in (
+                ap₂ told long (can .is) ∙ by .0,
+                e ∙ ap first count ∙ all-written 0 (frameNumbers zs) was (pos 0) ∙ ap lent (sym (frame-packed zs)) ∙ by .1,
+              )

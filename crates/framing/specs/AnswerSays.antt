@@ -17,16 +17,17 @@ use Rattle.order.specs.Later.{AllInFrame}
 use Rattle.packed.specs.declared.Refusal.{Refusal}
 use Rattle.packed.specs.Judge.{plainly, atPlace, noRefusal, Verdict, fine, refused, judge}
 use Rattle.packed.specs.JudgeLaws.{stages-fine, Tells, judge-tells, everyNumber, number-passes, given-before}
-use Rattle.packed.specs.Packed.{orderFrom, orderOf}
+use Rattle.packed.specs.Layout.{recordBytes}
+use Rattle.packed.specs.Packed.{kindOf, orderFrom, orderOf}
 use Rattle.packed.specs.PlacesLaws.{IsFirst, first-unique}
 use Rattle.packed.specs.Refusals.{weightChecks, roomChecks, orderChecks}
 use Rattle.packed.specs.RefusalPlaces.{nowhere, answer-says}
-use Rattle.packed.specs.RoundTrip.{unpack-pack}
+use Rattle.packed.specs.RoundTrip.{unpack-pack, pack-kind}
 use Rattle.frames.specs.Frames.{jobsGiven, unfitAt, firstUnfit, frameOf, repeatCount, frameNumbers, frameBytes}
 use Rattle.frames.specs.Frames.{givenChecks, madeChecks, makingChecks, frameChecks}
 use Rattle.frames.specs.GivenLaws.{unfit-is-first}
 use Rattle.frames.specs.Facts.{MakingFine}
-use Rattle.frames.specs.FrameLaws.{making-fine, made-fine, inside-frame}
+use Rattle.frames.specs.FrameLaws.{frame-kind, making-fine, made-fine, inside-frame}
 use Rattle.framing.specs.Answer.{framedBy, orderBy, framedOf, orderAfter, refusalOf, bytesWritten, frameTold}
 use Rattle.framing.specs.declared.Framed.{Framed}
 use Rattle.framing.specs.declared.FrameOrder.{FrameOrder}
@@ -38,10 +39,11 @@ use Rattle.framing.specs.declared.Framed.the-variants.{Refused, Made}
 abbrev pub frameOrder : List ℤ → Order
 frameOrder zs = orderFrom (pos 0) (frameNumbers zs)
 
--- The front of the bytes at exit is an order that planning accepts, the order of the frame that the answer tells, and each of its
--- jobs stands in that frame.
+-- The front of the bytes at exit is an order of kind 0 that planning accepts (1 to 7, 9 and 19 do not apply), the order of the frame
+-- that the answer tells, and each of its jobs stands in that frame.
 pub record FrameWritten (zs : List ℤ) (order : List ℕ) (made : FrameOrder) : Type 0 where
   pub front : take (made .bytes) order ≡ frameBytes zs
+  pub kind : kindOf (take (made .bytes) order) ≡ 0
   pub accepted : judge (orderChecks (take (made .bytes) order)) ≡ fine
   pub says : orderOf (take (made .bytes) order) ≡ frameOrder zs
   pub frame : made .frame ≡ frameOf zs
@@ -56,6 +58,7 @@ order-says zs f =
 -- Every answer with bytes says so.
 pub frame-written : (zs : List ℤ) (was order : List ℕ) (made : FrameOrder) → framedOf zs (length was) ≡ Made made
     → order ≡ orderAfter zs was → FrameWritten zs order made
+unfolding recordBytes
 frame-written zs was order made e lent = go (judge (frameChecks zs (length was))) refl
   where
     go : (v : Verdict) → judge (frameChecks zs (length was)) ≡ v → FrameWritten zs order made
@@ -72,6 +75,7 @@ frame-written zs was order made e lent = go (judge (frameChecks zs (length was))
         let says = order-says zs making in
         record {
           front = front;
+          kind = ap kindOf front ∙ pack-kind (pos 0) (frameNumbers zs) (made-fine making) ∙ frame-kind zs;
           accepted = ap (λ (b : List ℕ). judge (orderChecks b)) front ∙ says .0;
           says = ap orderOf front ∙ says .1;
           frame = sym frame;
@@ -153,7 +157,7 @@ given-sixteen zs p = (there, back)
         rw (le-ltb 96 (length zs) (u .few), eq-eqb (length zs % 6) 0 (u .whole), same, lt-ltb p (jobsGiven zs) (u .there))
 
 pub sixteen-is : (zs : List ℤ) (room p : ℕ) → refusalOf (framedOf zs room) ≡ atPlace 16 p ↔ Unfit zs p
-unfolding madeChecks weightChecks
+unfolding recordBytes madeChecks weightChecks
 sixteen-is zs room p =
     let rooms = roomChecks (4 + 8 * repeatCount zs) room in
     let told : Verdict → Refusal = λ v. refusalOf (framedBy zs v) in

@@ -1,4 +1,4 @@
-// One frame of repeating jobs, written as a packed order to the front of a lent buffer (R41 to R43). Any numbers and any room have
+// One frame of repeating jobs, written as a packed order of kind 0 to the front of a lent buffer (R41 to R43). Any numbers and any room have
 // an answer. Assumes nothing.
 ghost use mathlib.Core.Path.{_≡_};
 ghost use lib.ListN.{length};
@@ -42,7 +42,7 @@ fn make(numbers: &[i32], frame: u32, order: &mut [u8]) -> Framed
     if order.len() < written {
         return Framed::Refused(plainly(10));
     }
-    fields::put_header(order, count, 0);
+    fields::put_header(order, 0, count, 0);
     picking::write_repeats(numbers, count, order);
     Framed::Made(FrameOrder {
         bytes: written,

@@ -9,7 +9,7 @@ use mathlib.Core.Option.{some}
 use native.Mathlib.Omega.{arith}
 use lib.Dec.{leb, ltb, eqb}
 use lib.IntN.{pos, natAbs}
-use lib.ListN.{length, take, drop, getD, set, replicate, getElem?, length-set, length-replicate, getD-replicate}
+use lib.ListN.{length, take, getD, set, replicate, getElem?, length-set, length-replicate, getD-replicate}
 use lib.Seq.{getD-set-same, getD-set-other}
 use mir.Syntax.{w32}
 use mir.Val.{toZ, ofZ}
@@ -22,10 +22,9 @@ use Rattle.seconds.specs.Ranges.{same}
 use Rattle.order.specs.Job.{Job, lengthOf}
 use Rattle.order.specs.Halves.{isHalf, hasPartner, offends, offendsAt}
 use Rattle.order.specs.HalvesLaws.{has-more}
-use Rattle.packed.specs.Layout.{decode, numberOf, jobLayout}
 use Rattle.packed.specs.Places.{first}
 use Rattle.packed.specs.PlacesLaws.{first-on, first-here, first-end}
-use Rattle.packed.specs.Packed.{countOf, numbersOf, jobOf, jobsIn}
+use Rattle.packed.specs.Packed.{jobFields, countOf, numbersOf, jobOf, jobsIn}
 use Rattle.packed.specs.PackedLaws.{numbers-count}
 use Rattle.packed.specs.Refusals.{firstOffending}
 use Rattle.packed.specs.Accepted.{OrderFine}
@@ -161,7 +160,7 @@ search-starts bytes n awaited c =
 
 -- A job was read at a place.
 module _ {bytes : List ℕ} {n : ℕ} {awaited : List ℕ} {place : ℕ} (s : Searching bytes n awaited place) (more : place < n)
-    (job : Fields) (read : fieldsOf job ≡ decode jobLayout (numberOf (take 8 (drop (4 + 8 * place) bytes)))) where
+    (job : Fields) (read : fieldsOf job ≡ jobFields bytes place) where
   below : place < countOf bytes
   below = omega (arith, s .count)
 

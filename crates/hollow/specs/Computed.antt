@@ -11,10 +11,10 @@ use Rattle.seconds.specs.Limits.{rest}
 use Rattle.seconds.specs.Twos.{bitsTo, toBits}
 use Rattle.order.specs.Job.{Order, oneRate}
 use Rattle.packed.specs.Judge.{inField, plainly, fine, refused}
-use Rattle.packed.specs.Layout.{decode, encode, numberOf, bytesOf}
+use Rattle.packed.specs.Layout.{decode, encode, numberOf, bytesOf, recordBytes}
 use Rattle.packed.specs.Places.{part, flat, each, first}
-use Rattle.packed.specs.Packed.{headerWord, headerOf, countOf, t0Of, spareOf, recordAt, jobWord, jobFields, numbersOf}
-use Rattle.packed.specs.Packed.{jobCount, fieldsAt, packedHeader, packedJob, packOrder, jobOf, jobsOf, orderOf}
+use Rattle.packed.specs.Packed.{headerWord, headerOf, countOf, t0Of, kindOf, recordAt, jobWord, jobFields, numbersOf}
+use Rattle.packed.specs.Packed.{jobCount, fieldsAt, packedHeader, packedJob, packIn, firstPacked, kindFor, jobOf, jobsOf, orderOf}
 use Rattle.packed.specs.Refusals.{fieldsWithin, badField, firstBad, numberAt, firstRepeat, firstOffending, headerChecks, jobChecks, weightChecks}
 use Rattle.packed.specs.Refusals.{halvesChecks}
 use Rattle.packed_plan.specs.Plan.{planNumber, packPlan, maskIn, countIn, planFields, startsIn, padIn, keptIn, sentChecks}
@@ -37,7 +37,8 @@ use Rattle.worked.specs.Examples.{morning}
 use Rattle.worked.specs.Halves.{twoChecks}
 use Rattle.packed_plan.specs.PlanLaws.{ones-raised}
 use Rattle.worked.specs.Plans.{ownPlan, lighterPlan}
-use Rattle.hollow.specs.Named.{ones, front, room, workArea, refusedBytes, oneJobBytes, start, page, oneJobPlan, planPage}
+use Rattle.hollow.specs.Named.{ones, front, room, workArea, refusedBytes, oneJobBytes, onePackBytes, start, page}
+use Rattle.hollow.specs.Named.{oneJobPlan, planPage}
 
 -- P4 as an order.
 abbrev pub oneJob : Order
@@ -59,13 +60,13 @@ checked =
 -- With room for a profile and for the work area,
 pub record Accepted (out work : List ℤ) : Type 0 where
   pub plan-morning : planVerdict morningBytes (ones 5) work ≡ fine
-  pub plan-refused : planVerdict refusedBytes (ones 5) work ≡ refused (inField 6 2 5)
+  pub plan-refused : planVerdict refusedBytes (ones 5) work ≡ refused (inField 6 2 6)
   pub plan-one-job : planVerdict oneJobBytes (ones 1) work ≡ fine
   pub halves-checked : halvesVerdict twoChecks (ones 4) work ≡ fine
   pub halves-one-job : halvesVerdict oneJobBytes (ones 1) work ≡ fine
   pub extend-morning : extendVerdict start morningBytes out work ≡ fine
   pub extend-one-job : extendVerdict start oneJobBytes out work ≡ fine
-  pub choose : choosingVerdict morningBytes oneJobBytes work ≡ fine
+  pub choose : choosingVerdict morningBytes onePackBytes work ≡ fine
   pub legal-own : legalOf morningBytes ownPlan ≡ Answered true
   pub legal-other : legalOf morningBytes oneJobPlan ≡ Answered false
   pub legal-one-job : legalOf oneJobBytes oneJobPlan ≡ Answered true
@@ -78,15 +79,17 @@ pub record Accepted (out work : List ℤ) : Type 0 where
   pub write-one-job : writeVerdict oneJobBytes planPage work ≡ fine
   pub morning-order : orderOf morningBytes ≡ morning
   pub one-job-order : orderOf oneJobBytes ≡ oneJob
+  pub one-pack-order : orderOf onePackBytes ≡ oneJob
+  pub one-pack-kind : kindOf onePackBytes ≡ 1
   pub checked-order : orderOf twoChecks ≡ checked
 
 -- whatever the buffers hold.
 with-room : (out work : List ℤ) → length out ≡ mostNumbers → length work ≡ area → Accepted out work
-unfolding rest bitsTo toBits decode encode numberOf bytesOf part flat each first headerWord headerOf countOf t0Of spareOf
-    recordAt jobWord jobFields numbersOf jobCount fieldsAt packedHeader packedJob packOrder jobOf jobsOf orderOf fieldsWithin
-    badField firstBad numberAt firstRepeat firstOffending headerChecks jobChecks weightChecks halvesChecks planChecks planHalvesChecks
-    extendJudged extendChecks choosingChecks planNumber packPlan maskIn countIn planFields startsIn padIn keptIn sentChecks isLegal
-    isBest legalChecks bestChecks writeChecks ones
+unfolding rest bitsTo toBits decode encode numberOf bytesOf part flat each first headerWord headerOf countOf t0Of kindOf
+    recordBytes recordAt jobWord jobFields numbersOf jobCount fieldsAt packedHeader packedJob packIn firstPacked kindFor jobOf
+    jobsOf orderOf fieldsWithin badField firstBad numberAt firstRepeat firstOffending headerChecks jobChecks weightChecks
+    halvesChecks planChecks planHalvesChecks extendJudged extendChecks choosingChecks planNumber packPlan maskIn countIn
+    planFields startsIn padIn keptIn sentChecks isLegal isBest legalChecks bestChecks writeChecks ones
 with-room out work d e =
     record {
       plan-morning = rw e;
@@ -109,6 +112,8 @@ with-room out work d e =
       write-one-job = rw e;
       morning-order = refl;
       one-job-order = refl;
+      one-pack-order = refl;
+      one-pack-kind = refl;
       checked-order = refl;
     }
 
@@ -138,9 +143,9 @@ oneJobText =
     ∷ 48 ∷ 32 ∷ 48 ∷ 10 ∷ []
 
 one-job-printed : reportOf oneJobBytes ≡ oneJobText
-unfolding rest bitsTo decode numberOf part flat each first headerWord headerOf countOf t0Of spareOf recordAt jobWord jobFields
-    numbersOf jobCount fieldsAt jobOf jobsOf orderOf fieldsWithin firstBad numberAt firstRepeat headerChecks jobChecks
-    weightChecks digitsIn digits figure refusalLine planLine startWord jobLine jobLines planText textOf reportOf
+unfolding rest bitsTo decode numberOf part flat each first headerWord headerOf countOf t0Of kindOf recordBytes recordAt
+    jobWord jobFields numbersOf jobCount fieldsAt jobOf jobsOf orderOf fieldsWithin firstBad numberAt firstRepeat headerChecks
+    jobChecks weightChecks digitsIn digits figure refusalLine planLine startWord jobLine jobLines planText textOf reportOf
 one-job-printed = refl
 
 -- With room a page has the whole text.

@@ -49,9 +49,11 @@ use Rattle.halves.specs.declared.HalvesPlanned.the-variants as halved
 use Rattle.extending.specs.declared.Extended.{Extended}
 use Rattle.extending.specs.declared.Extended.the-variants as extended
 use Rattle.ties.specs.Winning.{TieRule}
-use Rattle.choosing.specs.Choosing.{chosenOf, workAfter, Asked, partOf, placeOf, Handed}
+use Rattle.choosing.specs.Choosing.{chosenOf, workAfter, partOf, placeOf, Handed}
 use Rattle.ties.specs.declared.Chosen.{Chosen}
 use Rattle.ties.specs.declared.Chosen.the-variants as chosen
+use Rattle.openings.specs.Answer.{answerOf, Questioned}
+use Rattle.openings.specs.declared.Answer.{Answer}
 use Rattle.checking.specs.Calls.{legalOf}
 use Rattle.checking.specs.declared.Checked.{Checked}
 use Rattle.checking.specs.declared.Checked.the-variants as checked
@@ -299,16 +301,19 @@ heatingUp = answering heatingOf heatRefused
 -- ---- openings
 
 -- Two packed orders, a time and the work area; by a tie rule.
-abbrev pub asking : TieRule → Contract (List ℕ × List ℕ × ℤ × List ℤ) Chosen (List ℤ)
+abbrev pub AskInput : Type 0
+AskInput = List ℕ × List ℕ × ℤ × List ℤ
+
+abbrev pub asking : TieRule → Contract AskInput Answer (List ℤ)
 asking rule =
     record {
-      allows = λ x r b. Asked rule (x .0) (x .1) (x .2) (x .3) r b;
-      answer = λ x. chosenOf rule (x .0) (x .1) (x .2) (x .3);
+      allows = λ x r b. Questioned rule (x .0) (x .1) (x .2) (x .3) r b;
+      answer = λ x. answerOf rule (x .0) (x .1) (x .2) (x .3);
       left = λ x. workAfter rule (x .0) (x .1) (x .2) (x .3);
       met = λ x. record { answer = refl; area = refl };
       only = λ x r b h. (h .answer, h .area);
       lent = λ x. x .3;
-      refusal = questionRefused;
+      refusal = λ r. questionRefused (r .chosen);
     }
 
 -- The same, with the orders where they stand. What is handed back is a part, by its bytes and its place, under whatever

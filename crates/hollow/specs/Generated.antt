@@ -53,7 +53,7 @@ use Rattle.halves.proofs.plan_halves as plan-halves
 use Rattle.halves.proofs.plan_halves.Reads as plan-halves-reads
 use Rattle.extending.proofs.extend as extend
 use Rattle.extending.proofs.extend.Reads as extend-reads
-use Rattle.ties.specs.declared.Chosen.{Chosen}
+use Rattle.openings.specs.declared.Answer.{Answer}
 use Rattle.openings.proofs.question as question
 use Rattle.openings.proofs.question.Reads as question-reads
 use Rattle.openings.proofs.question_first as question-first
@@ -145,12 +145,12 @@ pub heat-up-is : (κs : Lfts 0) (a : Args heat-up.signature κs) (r : Heating) (
     → heat-up-reads.Post κs a r x ≡ heatingUp .allows (a .0) r tt
 heat-up-is κs a r x = refl
 
-pub question-is : (κs : Lfts 3) (a : Args question.signature κs) (r : Chosen) (x : AtExit question.ended κs)
+pub question-is : (κs : Lfts 3) (a : Args question.signature κs) (r : Answer) (x : AtExit question.ended κs)
     → question-reads.Post κs a r x
     ≡ asking sooner .allows (a .0 .now, a .1 .0 .now, a .1 .1 .0, a .1 .1 .1 .0 .now) r (x .1 .1 .1 .0 .now)
 question-is κs a r x = refl
 
-pub question-first-is : (κs : Lfts 3) (a : Args question-first.signature κs) (r : Chosen) (x : AtExit question-first.ended κs)
+pub question-first-is : (κs : Lfts 3) (a : Args question-first.signature κs) (r : Answer) (x : AtExit question-first.ended κs)
     → question-first-reads.Post κs a r x
     ≡ asking toFirst .allows (a .0 .now, a .1 .0 .now, a .1 .1 .0, a .1 .1 .1 .0 .now) r (x .1 .1 .1 .0 .now)
 question-first-is κs a r x = refl

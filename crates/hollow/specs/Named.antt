@@ -16,7 +16,7 @@ use Rattle.report.specs.AsPrinted.{morningBytes}
 use Rattle.plan_writer.specs.Calls.{planRoom}
 use Rattle.worked.specs.Halves.{twoChecks}
 use Rattle.worked.specs.Plans.{keeping}
-use Rattle.hollow.specs.Contracts.{PlanInput, ExtendInput, BestInput, WriteInput}
+use Rattle.hollow.specs.Contracts.{PlanInput, ExtendInput, BestInput, WriteInput, AskInput}
 
 -- ---- lent buffers
 
@@ -40,6 +40,10 @@ workArea = ones area
 -- P4: one critical job, ready at 0, of 10 seconds and with the deadline 10; the bus is free at 0.
 abbrev pub oneJobBytes : List ℕ
 oneJobBytes = 0x04 ∷ 0x00 ∷ 0x00 ∷ 0x00 ∷ 0x02 ∷ 0x00 ∷ 0x00 ∷ 0x00 ∷ 0x00 ∷ 0x28 ∷ 0x00 ∷ 0x0A ∷ []
+
+-- P4 for pack 3, so of kind 1.
+abbrev pub onePackBytes : List ℕ
+onePackBytes = 0x04 ∷ 0x00 ∷ 0x00 ∷ 0x01 ∷ 0x00 ∷ 0x0E ∷ 0x00 ∷ 0x00 ∷ 0x00 ∷ 0x00 ∷ 0x28 ∷ 0x00 ∷ 0x0A ∷ []
 
 -- P1 with a length of 10,001 for the job at place 2.
 abbrev pub refusedBytes : List ℕ
@@ -100,10 +104,10 @@ lookupRecordsAt t = (point 215 0 ∷ point 330 15 ∷ point 340 20 ∷ point 445
 
 -- Unpacking P1, and P4; and packing them again.
 abbrev pub unpackMorning : List ℕ × List ℤ
-unpackMorning = (morningBytes, ones 30)
+unpackMorning = (morningBytes, ones 35)
 
 abbrev pub unpackOneJob : List ℕ × List ℤ
-unpackOneJob = (oneJobBytes, ones 6)
+unpackOneJob = (oneJobBytes, ones 7)
 
 abbrev pub packMorning : ℤ × List ℤ × List ℕ
 packMorning = (negsuc 599, numbersOf morningBytes, replicate 44 1)
@@ -126,13 +130,13 @@ readerAt place = record { bytes = block 0 morningBytes; place = place }
 unfoldable pub page : List ℕ
 page = replicate textRoom 1
 
--- Two openings, P1 and P4, at a time: P4 has a point long before P1, which has the heavier one in the end.
-abbrev pub askAt : ℤ → List ℕ × List ℕ × ℤ × List ℤ
-askAt t = (morningBytes, oneJobBytes, t, workArea)
+-- Two openings, P1 and P4 for pack 3, at a time: P4 has a point long before P1, which has the heavier one in the end.
+abbrev pub askAt : ℤ → AskInput
+askAt t = (morningBytes, onePackBytes, t, workArea)
 
 -- The same openings in two blocks.
 abbrev pub chooseAt : ℤ → RefT (List ℕ) × RefT (List ℕ) × ℤ × List ℤ
-chooseAt t = (block 0 morningBytes, block 1 oneJobBytes, t, workArea)
+chooseAt t = (block 0 morningBytes, block 1 onePackBytes, t, workArea)
 
 -- Asking whether a plan is best for P1, and for P4.
 abbrev pub bestMorning : List ℕ → BestInput

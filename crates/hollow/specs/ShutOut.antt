@@ -1,7 +1,7 @@
 -- Of every call, a version that refuses everything, one with a constant answer and one that writes nothing are shut out, at
 -- inputs that the call accepts, by what the definitions answer and write there.
 use Prim.Native.Nat.{ℕ}
-use mathlib.Core.Path.{_≡_, refl}
+use mathlib.Core.Path.{_≡_, refl, ap}
 use mathlib.Core.Bool.{false}
 use mathlib.Core.List.{List}
 use native.Mathlib.Omega.{arith}
@@ -10,10 +10,10 @@ use lib.ListN.{length, getD}
 use Rattle.seconds.specs.Limits.{rest}
 use Rattle.seconds.specs.Signed.{signed}
 use Rattle.seconds.specs.Twos.{bitsTo, toBits}
-use Rattle.packed.specs.Layout.{decode, encode, numberOf, bytesOf}
+use Rattle.packed.specs.Layout.{decode, encode, numberOf, bytesOf, recordBytes}
 use Rattle.packed.specs.Places.{part, flat, each, first}
-use Rattle.packed.specs.Packed.{headerWord, headerOf, countOf, t0Of, spareOf, recordAt, jobWord, jobFields, numbersOf}
-use Rattle.packed.specs.Packed.{jobCount, fieldsAt, packedHeader, packedJob, packOrder, jobOf, jobsOf}
+use Rattle.packed.specs.Packed.{headerWord, headerOf, countOf, t0Of, kindOf, recordAt, jobWord, jobFields, numbersOf}
+use Rattle.packed.specs.Packed.{jobCount, fieldsAt, packedHeader, packedJob, packIn, firstPacked, kindFor, jobOf, jobsOf}
 use Rattle.packed.specs.Refusals.{fieldsWithin, firstBad, numberAt, firstRepeat, headerChecks, listChecks, jobChecks}
 use Rattle.packed.specs.Refusals.{weightChecks}
 use Rattle.packed_plan.specs.Plan.{planNumber, packPlan}
@@ -37,6 +37,7 @@ use Rattle.halves.specs.declared.HalvesPlanned.{HalvesPlanned}
 use Rattle.extending.specs.declared.Extended.{Extended}
 use Rattle.ties.specs.Winning.{TieRule}
 use Rattle.choosing.specs.Choosing.{winnerOf}
+use Rattle.openings.specs.declared.Answer.{Answer}
 use Rattle.checking.specs.Calls.{checkedNumbers}
 use Rattle.checking.specs.declared.Checked.{Checked}
 use Rattle.plan_writer.specs.Calls.{bytesFor}
@@ -45,9 +46,9 @@ use Rattle.worked.specs.Plans.{ownPlan, lighterPlan}
 use Rattle.hollow.specs.Contract.{Allowed, ShutOut, Leaves, NotHollow, NotHollowIn}
 use Rattle.hollow.specs.Contracts.{PlanInput, planning, ExtendInput, extending, joiningProfiles, lookingUp, lookingUpRecords}
 use Rattle.hollow.specs.Contracts.{unpacking, packing, framing, openingReader, stepping, beginning, steppingReader, readingAt}
-use Rattle.hollow.specs.Contracts.{planningHalves, reporting, heatingUp, asking, choosing}
+use Rattle.hollow.specs.Contracts.{planningHalves, reporting, heatingUp, AskInput, asking, choosing}
 use Rattle.hollow.specs.Contracts.{checkingLegal, BestInput, checkingBest, WriteInput, writingPlan}
-use Rattle.hollow.specs.Laws.{answered-wrongly, same-buffers, unwritten, not-hollow, not-hollow-in}
+use Rattle.hollow.specs.Laws.{other-answer, answered-wrongly, same-buffers, unwritten, not-hollow, not-hollow-in}
 use Rattle.hollow.specs.Named.{ones, front, workArea, oneJobBytes, planMorning, planOneJob, halvesChecked}
 use Rattle.hollow.specs.Named.{extendMorning, extendOneJob}
 use Rattle.hollow.specs.Named.{joinTwo, joinOne, lookupAt, lookupRecordsAt, unpackMorning, unpackOneJob}
@@ -121,22 +122,34 @@ pub heat-up-not-hollow : NotHollow heatingUp 255 0
 unfolding bitsTo
 heat-up-not-hollow = not-hollow heatingUp refl lengthOf (omega arith)
 
--- ---- openings, by every tie rule: P1 wins at 1,000, and P4 at 100, when P1 has no point yet
+-- ---- openings, by every tie rule: P1 wins at 1,000, and P4 for pack 3 at 100, when P1 has no point yet
 
 pub question-not-hollow : (rule : TieRule) → NotHollowIn (asking rule) (λ b. b) (askAt (pos 1000)) (askAt (pos 100))
 unfolding rest
 question-not-hollow rule =
-    not-hollow-in (asking rule) (rw (accepted .choose, accepted .morning-order, accepted .one-job-order)) winnerOf
-    (rw (accepted .choose, accepted .morning-order, accepted .one-job-order) (omega arith)) (λ b. b) front
-    (rw (accepted .choose, accepted .morning-order, accepted .one-job-order, front-cleared workArea, front-ones 14748)
+    not-hollow-in (asking rule) (rw (accepted .choose, accepted .morning-order, accepted .one-pack-order))
+    (λ r. winnerOf (r .chosen)) (rw (accepted .choose, accepted .morning-order, accepted .one-pack-order) (omega arith))
+    (λ b. b) front
+    (rw (accepted .choose, accepted .morning-order, accepted .one-pack-order, front-cleared workArea, front-ones 14748)
     (omega signed))
+
+-- Nor may the kind always be 0: P4 for pack 3 has records of kind 1.
+pub question-kind : (rule : TieRule) (f : AskInput → Answer × List ℤ) → f (askAt (pos 100)) .0 .kind ≡ 0
+    → ShutOut (asking rule) f (askAt (pos 100))
+unfolding rest
+question-kind rule f plain =
+    other-answer (asking rule) f (askAt (pos 100))
+    (λ e.
+    let told = rw (accepted .choose, accepted .morning-order, accepted .one-pack-order, accepted .one-pack-kind) at
+    (ap (λ (r : Answer). r .kind) e) in
+    omega (arith, plain, told))
 
 pub choose-not-hollow : (rule : TieRule) → NotHollowIn (choosing rule) (λ b. b) (chooseAt (pos 1000)) (chooseAt (pos 100))
 unfolding rest
 choose-not-hollow rule =
-    not-hollow-in (choosing rule) (rw (accepted .choose, accepted .morning-order, accepted .one-job-order)) (λ r. length (r .0))
-    (rw (accepted .choose, accepted .morning-order, accepted .one-job-order) (omega arith)) (λ b. b) front
-    (rw (accepted .choose, accepted .morning-order, accepted .one-job-order, front-cleared workArea, front-ones 14748)
+    not-hollow-in (choosing rule) (rw (accepted .choose, accepted .morning-order, accepted .one-pack-order)) (λ r. length (r .0))
+    (rw (accepted .choose, accepted .morning-order, accepted .one-pack-order) (omega arith)) (λ b. b) front
+    (rw (accepted .choose, accepted .morning-order, accepted .one-pack-order, front-cleared workArea, front-ones 14748)
     (omega signed))
 
 -- ---- packed orders, on P1 and P4
@@ -153,8 +166,8 @@ pub record PackedNotHollow : Type 0 where
   pub reads : NotHollow readingAt (morningBytes, 0) (morningBytes, 1)
 
 pub packed-not-hollow : PackedNotHollow
-unfolding bitsTo toBits decode encode numberOf bytesOf part flat each first headerWord headerOf countOf t0Of spareOf
-    recordAt jobWord jobFields numbersOf jobCount fieldsAt packedHeader packedJob packOrder jobOf jobsOf
+unfolding bitsTo toBits decode encode numberOf bytesOf part flat each first headerWord headerOf countOf t0Of kindOf recordBytes
+    recordAt jobWord jobFields numbersOf jobCount fieldsAt packedHeader packedJob packIn firstPacked kindFor jobOf jobsOf
     fieldsWithin firstBad numberAt firstRepeat headerChecks listChecks jobChecks weightChecks ones rest gcdIn gcd lcm mayRepeat
     jobsGiven givenAt firstUnfit frameOf repeatsOf sequenceOf frameNumbers givenChecks madeChecks
 packed-not-hollow =

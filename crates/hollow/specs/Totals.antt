@@ -1,5 +1,5 @@
 -- An invented point total is shut out: at every order that has a plan any total but the definition's, at P1 any but 14. So is an
--- invented field: at every order that is refused any but the definition's, at the README's any but 5. So are invented seconds
+-- invented field: at every order that is refused any but the definition's, at the README's any but 6. So are invented seconds
 -- lost: at every order of halves that is planned any but the definition's, at the README's any but 300.
 use Prim.Native.Nat.{ℕ}
 use mathlib.Core.Path.{_≡_, ap}
@@ -56,8 +56,8 @@ invented-field field x r is d =
     other-answer planning (planningNaming field) x (λ e. d (ap (λ a. planNumbers a .refusal .field) (rw is at e)))
 
 -- Of the README's refused order.
-pub refused-field : (field : PlanInput → ℕ) → field planRefused ≢ 5 → ShutOut planning (planningNaming field) planRefused
-refused-field field d = invented-field field planRefused (inField 6 2 5) (rw (accepted .plan-refused)) d
+pub refused-field : (field : PlanInput → ℕ) → field planRefused ≢ 6 → ShutOut planning (planningNaming field) planRefused
+refused-field field d = invented-field field planRefused (inField 6 2 6) (rw (accepted .plan-refused)) d
 
 -- The seconds lost, of an order of halves that is planned.
 pub invented-seconds : (seconds : PlanInput → ℕ) (x : PlanInput)

@@ -26,7 +26,7 @@ pub record Joins (A B J : List ℕ) : Type 0 where
 abbrev pub joinedBytes : List ℕ → List ℕ → List ℕ
 joinedBytes A B = packOrder (t0Of A) (numbersOf A ++ numbersOf B)
 
--- Two packed orders, by refusals 1 to 5, whose numbers, one behind the other, packing accepts.
+-- Two packed orders, by refusals 1 to 5 and 19, of like or unlike kinds, whose numbers, one behind the other, packing accepts.
 pub record Joinable (A B : List ℕ) : Type 0 where
   pub first : judge (headerChecks A) ≡ fine
   pub second : judge (headerChecks B) ≡ fine

@@ -1,20 +1,24 @@
 -- Two orders joined as bytes are the two orders joined (R16): where packing accepts the numbers of both, the bytes say the joined
 -- order, and all three are accepted as orders.
-use Prim.Native.Nat.{ℕ, _+_, _<_}
-use mathlib.Core.Path.{_≡_, ap, _∙_}
+use Prim.Native.Nat.{ℕ, _+_, _-_, _<_}
+use mathlib.Core.Path.{_≡_, sym, ap, _∙_}
+use mathlib.Core.Logic.{_↔_}
 use mathlib.Core.List.{List, _++_}
 use native.Mathlib.Omega.{arith}
+use lib.Dec.{ltb}
 use lib.IntN.{ℤ}
+use borrow.Author.Tests.{ltb-true, ltb-false}
+use borrow.Table.Steps.{cases}
 use Rattle.order.specs.Job.{joined, weightOf}
 use Rattle.order.specs.Within.{weightOf-append}
 use Rattle.packed.specs.Judge.{fine, judge}
-use Rattle.packed.specs.Packed.{countOf, t0Of, numbersOf, jobCount, fieldsAt, jobsOf, orderOf, jobsIn}
+use Rattle.packed.specs.Packed.{countOf, t0Of, kindOf, numbersOf, jobCount, fieldsAt, hasPack, kindFor, jobsOf, orderOf, jobsIn}
 use Rattle.packed.specs.PlacesLaws.{part-first, part-second}
-use Rattle.packed.specs.PackedLaws.{length-numbers, numbers-count, count-append, jobs-append}
+use Rattle.packed.specs.PackedLaws.{length-numbers, numbers-count, count-append, jobs-append, kind-old}
 use Rattle.packed.specs.Refusals.{orderChecks, numberAt}
 use Rattle.packed.specs.RefusalLaws.{header-fine, JobsFine}
 use Rattle.packed.specs.Accepted.{numbers-fine, order-fine}
-use Rattle.packed.specs.RoundTrip.{unpack-pack}
+use Rattle.packed.specs.RoundTrip.{unpack-pack, pack-kind}
 use Rattle.joining.specs.Demand3.{Joins, joinedBytes, Joinable}
 
 module _ {A B : List ℕ} (j : Joinable A B) where
@@ -42,11 +46,11 @@ module _ {A B : List ℕ} (j : Joinable A B) where
 
   first-fields : (k : ℕ) → k < countOf A → fieldsAt numbers k ≡ fieldsAt (numbersOf A) k
   unfolding fieldsAt
-  first-fields k h = part-first 6 (numbersOf A) (numbersOf B) k (omega (arith, length-numbers A))
+  first-fields k h = part-first 7 (numbersOf A) (numbersOf B) k (omega (arith, length-numbers A))
 
   second-fields : (k : ℕ) → fieldsAt numbers (countOf A + k) ≡ fieldsAt (numbersOf B) k
   unfolding fieldsAt
-  second-fields k = part-second 6 (numbersOf A) (numbersOf B) (countOf A) k (length-numbers A)
+  second-fields k = part-second 7 (numbersOf A) (numbersOf B) (countOf A) k (length-numbers A)
 
   first-jobs : JobsFine (numbersOf A)
   unfolding numberAt
@@ -83,3 +87,37 @@ module _ {A B : List ℕ} (j : Joinable A B) where
   -- which is accepted.
   pub joined-accepted : judge (orderChecks (joinedBytes A B)) ≡ fine
   joined-accepted = unpack-pack (t0Of A) numbers (j .packs) .0
+
+  -- It is of kind 0 exactly when both are.
+  pub joined-kind : kindOf (joinedBytes A B) ≡ 0 ↔ ((kindOf A ≡ 0) × (kindOf B ≡ 0))
+  joined-kind = (λ e. there (sym as-kind ∙ e), λ h. as-kind ∙ back h)
+    where
+      as-kind : kindOf (joinedBytes A B) ≡ kindFor numbers
+      as-kind = pack-kind (t0Of A) numbers (j .packs)
+
+      first-kind : kindFor (numbersOf A) ≡ kindOf A
+      first-kind = header-fine A .0 (j .first) .kinded
+
+      second-kind : kindFor (numbersOf B) ≡ kindOf B
+      second-kind = header-fine B .0 (j .second) .kinded
+
+      there : kindFor numbers ≡ 0 → (kindOf A ≡ 0) × (kindOf B ≡ 0)
+      there e =
+          let none = kind-old numbers .0 e in
+          let first = kind-old (numbersOf A) .1
+          (λ k h. let l : k < countOf A = omega (arith, numbers-count A) in
+          ap hasPack (sym (first-fields k l)) ∙ none k (omega (arith, count))) in
+          let second = kind-old (numbersOf B) .1
+          (λ k h. ap hasPack (sym (second-fields k)) ∙ none (countOf A + k) (omega (arith, count, numbers-count B))) in
+          (sym first-kind ∙ first, sym second-kind ∙ second)
+
+      back : (kindOf A ≡ 0) × (kindOf B ≡ 0) → kindFor numbers ≡ 0
+      back h =
+          let first = kind-old (numbersOf A) .0 (first-kind ∙ h .0) in
+          let second = kind-old (numbersOf B) .0 (second-kind ∙ h .1) in
+          kind-old numbers .1 (λ k l. cases (ltb k (countOf A))
+          (λ e. let m : k < countOf A = ltb-true k (countOf A) e in
+          ap hasPack (first-fields k m) ∙ first k (omega (arith, numbers-count A)))
+          (λ e. let past : k ≡ countOf A + (k - countOf A) = omega (arith, ltb-false k (countOf A) e) in
+          ap (λ i. hasPack (fieldsAt numbers i)) past ∙ ap hasPack (second-fields (k - countOf A))
+          ∙ second (k - countOf A) (omega (arith, count, numbers-count B, ltb-false k (countOf A) e))))

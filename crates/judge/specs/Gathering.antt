@@ -19,17 +19,17 @@ use borrow.Table.Steps.{cases}
 use Rattle.seconds.specs.Signed.{signed, abs-is}
 use Rattle.seconds.specs.Ranges.{Between}
 use Rattle.order.specs.Job.{weightOf}
-use Rattle.packed.specs.Layout.{decode, numberOf, jobLayout}
 use Rattle.packed.specs.Places.{each, first}
 use Rattle.packed.specs.PlacesLaws.{each-end, first-on, first-here, first-end}
 use Rattle.packed.specs.Judge.{fine, judge}
-use Rattle.packed.specs.Packed.{headerOf, countOf, numbersOf, jobCount, fieldsAt, theWeight, jobAt, jobsOf}
+use Rattle.packed.specs.Packed.{jobFields, headerOf, countOf, numbersOf, jobCount, fieldsAt, theWeight, jobAt, jobsOf}
 use Rattle.packed.specs.PackedLaws.{numbers-count, fields-of-numbers, whole-count}
 use Rattle.packed.specs.Refusals.{headerChecks, fieldsWithin, badField, badAt, firstBad, numberAt}
 use Rattle.packed.specs.RefusalLaws.{header-fine}
 use Rattle.packed.specs.Steps.{bad-from-0, weights-on}
 use Rattle.fields.specs.Fields.{fieldsOf, headerFields}
-use Rattle.fields.specs.Facts.{job-facts, read-at, read-from, header-read}
+use Rattle.fields.specs.Asked.{RecordIn}
+use Rattle.fields.specs.Facts.{job-facts, record-in, read-from, header-read}
 use Rattle.fields.specs.declared.Job.{Job}
 use Rattle.fields.specs.declared.Header.{Header}
 use Rattle.judge.specs.Verdicts.{AllGiven, takenIn, notedIn, CanTakeIn, Found}
@@ -124,7 +124,7 @@ module _ {zs : List ℤ} {numbers : List ℕ} {jobs : Gathered} {j : Job} (t : T
       let b = t .before in
       let f = job-facts j .0 w in
       let e : natAbs (theWeight (fieldsAt zs (jobs .place))) ≡ natAbs (j .weight) =
-      ap (λ l. natAbs (getD l 2 (pos 0))) (sym (t .read)) in
+      ap (λ l. natAbs (getD l 3 (pos 0))) (sym (t .read)) in
       record {
         counted = b .counted;
         room = b .room;
@@ -213,27 +213,26 @@ module _ (bytes : List ℕ) {numbers : List ℕ} (passed : judge (headerChecks b
     there : jobs .place < countOf bytes
     there = omega (arith, numbers-count bytes, more, before .few, before .counted)
 
-    pub there-room : 4 + 8 * jobs .place + 8 ≤ length bytes
-    there-room = omega (arith, header-fine bytes .0 passed .whole, there)
+    pub there-room : RecordIn bytes (jobs .place)
+    there-room = record-in bytes (jobs .place) (header-fine bytes .0 passed) there
 
-    pub there-turn : (j : Job) → fieldsOf j ≡ decode jobLayout (numberOf (take 8 (drop (4 + 8 * jobs .place) bytes)))
+    pub there-turn : (j : Job) → fieldsOf j ≡ jobFields bytes (jobs .place)
         → Turn (numbersOf bytes) numbers jobs j
     there-turn j r =
-        let read = read-at bytes (jobs .place) (4 + 8 * jobs .place) j refl r in
-        record { more = more; read = read ∙ sym (fields-of-numbers bytes (jobs .place) there); before = before }
+        record { more = more; read = r ∙ sym (fields-of-numbers bytes (jobs .place) there); before = before }
 
 -- In numbers.
-given-count : (zs : List ℤ) → AllGiven zs (length zs / 6) → length zs / 6 ≡ jobCount zs
-given-count zs all = sym (whole-count zs (length zs / 6) (all .whole))
+given-count : (zs : List ℤ) → AllGiven zs (length zs / 7) → length zs / 7 ≡ jobCount zs
+given-count zs all = sym (whole-count zs (length zs / 7) (all .whole))
 
-module _ (zs : List ℤ) {numbers : List ℕ} (all : AllGiven zs (length zs / 6)) where
+module _ (zs : List ℤ) {numbers : List ℕ} (all : AllGiven zs (length zs / 7)) where
   pub given-starts : length numbers ≡ 48
-      → Passing zs numbers (record { count = length zs / 6; place = 0; end = length zs / 6; weight = 0; field = 0 })
-  given-starts long = passing-starts zs (length zs / 6) numbers (given-count zs all) (all .few) long
+      → Passing zs numbers (record { count = length zs / 7; place = 0; end = length zs / 7; weight = 0; field = 0 })
+  given-starts long = passing-starts zs (length zs / 7) numbers (given-count zs all) (all .few) long
 
   module _ {jobs : Gathered} (more : jobs .place < jobs .end) (before : Passing zs numbers jobs) where
-    pub given-room : 6 * jobs .place + 6 ≤ length zs
+    pub given-room : 7 * jobs .place + 7 ≤ length zs
     given-room = omega (arith, all .whole, given-count zs all, more, before .few, before .counted)
 
-    pub given-turn : (j : Job) → fieldsOf j ≡ take 6 (drop (6 * jobs .place) zs) → Turn zs numbers jobs j
-    given-turn j r = record { more = more; read = read-from zs (jobs .place) (6 * jobs .place) j refl r; before = before }
+    pub given-turn : (j : Job) → fieldsOf j ≡ take 7 (drop (7 * jobs .place) zs) → Turn zs numbers jobs j
+    given-turn j r = record { more = more; read = read-from zs (jobs .place) (7 * jobs .place) j refl r; before = before }

@@ -2,3 +2,4 @@
 pub mod Verdicts
 pub mod Gathering
 pub mod Told
+pub mod Kind

@@ -1,22 +1,22 @@
 -- The checks as the code makes them: of a header that was read, of the searches that were made, and stage by stage; and what
--- number, place and field a refusal by stages has.
+-- place and field a refusal by stages has.
 use Prim.Native.Nat.{ℕ, _+_, _*_, _/_, _≤_, _<_}
 use mathlib.Core.Path.{_≡_, refl, sym, ap, _∙_}
 use mathlib.Core.Bool.{Bool, false, not, cond}
 use mathlib.Core.List.{List, [], _∷_, _++_}
 use native.Mathlib.Omega.{arith}
-use lib.Dec.{T, leb, ltb, eqb}
+use lib.Dec.{ltb, eqb}
 use lib.IntN.{ℤ, pos}
 use lib.ListN.{length, take}
 use lib.Seq.{length-take-le, getD-take}
 use borrow.Author.Tests.{lt-ltb, le-ltb, ltb-true, ltb-false}
 use borrow.Table.Steps.{cases}
 use Rattle.seconds.specs.Ranges.{isTime}
-use Rattle.seconds.specs.Signed.{signed}
 use Rattle.packed.specs.declared.Refusal.{Refusal}
 use Rattle.packed.specs.Judge.{inField, plainly, Check, Verdict as Judged, fine, refused, judge, orElse, check}
-use Rattle.packed.specs.JudgeLaws.{judge-append, judge-tells, everyNumber, number-passes}
+use Rattle.packed.specs.JudgeLaws.{judge-append, judge-tells}
 use Rattle.order.specs.Job.{weightOf}
+use Rattle.packed.specs.Layout.{recordBytes}
 use Rattle.packed.specs.Packed.{countOf, numbersOf, jobCount, jobsOf}
 use Rattle.packed.specs.Refusals.{headerChecks, listChecks, jobChecks, weightChecks, roomChecks, orderChecks, firstRepeat}
 use Rattle.packed.specs.RefusalLaws.{list-fine}
@@ -24,7 +24,7 @@ use Rattle.packed.specs.RefusalPlaces.{hasPlace, RefusalIs, nowhere, unpack-ref
 use Rattle.packed.specs.Steps.{header-judge, jobs-judge}
 use Rattle.fields.specs.Facts.{HeaderRead}
 use Rattle.fields.specs.declared.Header.{Header}
-use Rattle.judge.specs.Verdicts.{verdictOf, AllGiven, Found, foundIn, sumJudged}
+use Rattle.judge.specs.Verdicts.{kindJudged, verdictOf, AllGiven, Found, foundIn, sumJudged}
 use Rattle.repeats.specs.Repeats.{firstAgain}
 use Rattle.repeats.specs.RepeatLaws.{repeat-again}
 use Rattle.judge.specs.declared.Gathered.{Gathered}
@@ -32,17 +32,17 @@ use Rattle.judge.specs.declared.Verdict.the-variants.{Fine, Refused}
 
 -- ---- the header
 
--- 1 to 5 of the header that was read.
+-- 1 to 5 and 19 of the header that was read.
 pub header-told : (bytes : List ℕ) (h : Header) → HeaderRead bytes h → judge (headerChecks bytes)
     ≡ cond (ltb (length bytes) 4) (refused (plainly 1))
-    (cond (not (eqb (h .spare) 0)) (refused (plainly 2))
+    (cond (ltb 1 (h .kind)) (refused (plainly 2))
     (cond (ltb 48 (h .count)) (refused (plainly 3))
-    (cond (not (eqb (length bytes) (4 + 8 * h .count))) (refused (plainly 4))
-    (cond (not (isTime (h .t0))) (refused (plainly 5)) fine))))
-header-told bytes h r = rw (r .count, r .t0, r .spare) (header-judge bytes)
+    (cond (not (eqb (length bytes) (4 + recordBytes (h .kind) * h .count))) (refused (plainly 4))
+    (cond (not (isTime (h .t0))) (refused (plainly 5)) (kindJudged bytes)))))
+header-told bytes h r = rw (r .count, r .t0, r .kind) (header-judge bytes)
 
 -- Past 3 to 5, the numbers are those of so many jobs.
-pub given-told : (t0 : ℤ) (zs : List ℤ) → judge (listChecks t0 zs) ≡ fine → AllGiven zs (length zs / 6)
+pub given-told : (t0 : ℤ) (zs : List ℤ) → judge (listChecks t0 zs) ≡ fine → AllGiven zs (length zs / 7)
 unfolding jobCount
 given-told t0 zs passed = let f = list-fine t0 zs .0 passed in record { few = f .few; whole = f .whole }
 
@@ -143,16 +143,6 @@ module _ (cs : List Check) (passed : judge cs ≡ fine) (need room more space : 
     pub all-fine : more ≤ space → judge withRooms ≡ fine
     all-fine h = told-next (cs ++ roomChecks need room) (roomChecks more space) first-fine ∙ rw (le-ltb space more h)
 
--- ---- the number of a refusal
-
--- No check of a list has a number above 10.
-abbrev pub upToTen : List Check → Bool
-upToTen cs = everyNumber (λ n. leb n 10) cs
-
--- Then no refusal by them has.
-pub up-to-ten : (cs : List Check) → T (upToTen cs) → {r : Refusal} → judge cs ≡ refused r → r .number ≤ 10
-up-to-ten cs t e = let h = number-passes (λ n. leb n 10) cs t e in omega signed
-
 -- ---- the place and the field of a refusal
 
 -- P holds of every refusal of some checks.
@@ -184,7 +174,7 @@ named-rooms zs cs need room more space first =
 
 -- The order's own checks name what unpacking names.
 pub named-order : (bytes : List ℕ) → Named (numbersOf bytes) (orderChecks bytes)
-named-order bytes r e = unpack-refusal bytes 0 (stays (orderChecks bytes) (roomChecks (6 * countOf bytes) 0) e)
+named-order bytes r e = unpack-refusal bytes 0 (stays (orderChecks bytes) (roomChecks (7 * countOf bytes) 0) e)
 
 -- The two rooms keep when 6 is given.
 pub six-rooms : (zs : List ℤ) (before cs : List Check) (need room more space : ℕ) → SixIs zs before cs

@@ -2,15 +2,16 @@
 -- Definitions only.
 use Prim.Native.Nat.{ℕ, _+_, _*_, _≤_, _<_}
 use mathlib.Core.Path.{_≡_}
-use mathlib.Core.Bool.{cond}
+use mathlib.Core.Bool.{cond, _&&_}
 use mathlib.Core.List.{List, [], _∷_}
-use lib.Dec.{ltb}
+use lib.Dec.{ltb, eqb}
 use lib.IntN.{ℤ, pos, natAbs}
 use lib.ListN.{length, getD, take, set}
 use Rattle.seconds.specs.Limits.{mostWeight}
 use Rattle.order.specs.Job.{weightOf}
-use Rattle.packed.specs.Judge.{Verdict as Judged, fine, refused, judge, check, checkAt, checkField}
-use Rattle.packed.specs.Packed.{jobCount, fieldsAt, jobsOf}
+use Rattle.packed.specs.Judge.{plainly, Verdict as Judged, fine, refused, judge, check, checkAt, checkField}
+use Rattle.packed.specs.Layout.{recordBytes}
+use Rattle.packed.specs.Packed.{kindOf, countOf, numbersOf, kindFor, jobCount, fieldsAt, jobsOf}
 use Rattle.packed.specs.Refusals.{fieldsWithin, badField, numberAt, firstBad}
 use Rattle.fields.specs.Fields.{fieldsOf}
 use Rattle.fields.specs.declared.Job.{Job}
@@ -27,7 +28,21 @@ verdictOf (refused r) = Refused r
 -- The numbers are those of so many jobs, at most 48.
 pub record AllGiven (zs : List ℤ) (count : ℕ) : Type 0 where
   pub few : count ≤ 48
-  pub whole : length zs ≡ 6 * count
+  pub whole : length zs ≡ 7 * count
+
+-- ---- the kind
+
+-- 19 alone.
+abbrev pub kindJudged : List ℕ → Judged
+kindJudged bytes = cond (eqb (kindOf bytes) 1 && eqb (kindFor (numbersOf bytes)) 0) (refused (plainly 19)) fine
+
+-- Bytes of a kind and a count that have passed 1 to 4.
+pub record Kinded (bytes : List ℕ) (kind count : ℕ) : Type 0 where
+  pub kind-is : kind ≡ kindOf bytes
+  pub count-is : count ≡ countOf bytes
+  pub known : kind ≤ 1
+  pub few : count ≤ 48
+  pub whole : length bytes ≡ 4 + recordBytes (kindOf bytes) * countOf bytes
 
 -- ---- what is gathered of the jobs
 

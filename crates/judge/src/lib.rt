@@ -8,7 +8,7 @@ ghost use Rattle.packed.specs.Packed.{numbersOf};
 ghost use Rattle.packed.specs.Judge.{fine, judge, orElse};
 ghost use Rattle.packed.specs.Refusals.{headerChecks, listChecks, jobChecks, weightChecks, numberChecks};
 ghost use Rattle.judge.specs.Verdicts.{verdictOf, AllGiven, CanTakeIn, takenIn, notedIn, CanGather, Found};
-ghost use Rattle.judge.specs.Verdicts.{foundIn, sumJudged};
+ghost use Rattle.judge.specs.Verdicts.{foundIn, sumJudged, Kinded, kindJudged};
 use fields::Job;
 use packed::Refusal;
 use packed::at_place;
@@ -38,7 +38,21 @@ pub const MOST_JOBS: usize = 48;
 
 pub const MOST_WEIGHT: u64 = 300;
 
-// Checks 1 to 5 on bytes.
+// Check 19 on bytes that have passed 1 to 5: kind 1 where every pack is 0.
+fn judge_kind(bytes: &[u8], kind: usize, count: usize) -> Verdict
+    requires { ⌜ Kinded (now bytes) kind count ⌝ }
+    ensures { λ r. ⌜ r ≡ verdictOf (kindJudged (now (bytes .entry))) ⌝ }
+{
+    if kind != 1 {
+        return Verdict::Fine;
+    }
+    if kinds::first_packed(bytes, count) < count {
+        return Verdict::Fine;
+    }
+    Verdict::Refused(plainly(19))
+}
+
+// Checks 1 to 5 and 19 on bytes.
 pub fn judge_header(bytes: &[u8]) -> Verdict
     ensures { λ r. ⌜ r ≡ verdictOf (judge (headerChecks (now (bytes .entry)))) ⌝ }
 {
@@ -48,20 +62,20 @@ pub fn judge_header(bytes: &[u8]) -> Verdict
     let header = fields::header_at(bytes);
     let count = header.count;
     let t0 = header.t0;
-    let spare = header.spare;
-    if spare != 0 {
+    let kind = header.kind;
+    if kind > 1 {
         return Verdict::Refused(plainly(2));
     }
     if count > MOST_JOBS {
         return Verdict::Refused(plainly(3));
     }
-    if bytes.len() != 4 + 8 * count {
+    if bytes.len() != 4 + fields::record_bytes(kind) * count {
         return Verdict::Refused(plainly(4));
     }
     if !limits::is_time(t0) {
         return Verdict::Refused(plainly(5));
     }
-    Verdict::Fine
+    judge_kind(bytes, kind, count)
 }
 
 // One job more: within its limits it is gathered; else the search ends before it.
@@ -103,6 +117,7 @@ fn gather(bytes: &[u8], numbers: &mut [u8]) -> Gathered
 {
     let header = fields::header_at(bytes);
     let count = header.count;
+    let kind = header.kind;
     let mut jobs = Gathered {
         count: count,
         place: 0,
@@ -111,7 +126,7 @@ fn gather(bytes: &[u8], numbers: &mut [u8]) -> Gathered
         field: 0,
     };
     while jobs.place < jobs.end {
-        let job = fields::job_at(bytes, 4 + 8 * jobs.place);
+        let job = fields::job_by_kind(bytes, kind, jobs.place);
         jobs = take_in(job, jobs, numbers);
     }
     jobs
@@ -119,10 +134,10 @@ fn gather(bytes: &[u8], numbers: &mut [u8]) -> Gathered
 
 // The same over the numbers of the jobs.
 fn gather_given(given: &[i32], numbers: &mut [u8]) -> Gathered
-    requires { ⌜ CanGather (AllGiven (now given) (length (now given) / 6)) (now numbers) ⌝ }
+    requires { ⌜ CanGather (AllGiven (now given) (length (now given) / 7)) (now numbers) ⌝ }
     ensures { λ r. ⌜ Found (now (given .entry)) (now (numbers .exit)) r ⌝ }
 {
-    let count = given.len() / 6;
+    let count = given.len() / 7;
     let mut jobs = Gathered {
         count: count,
         place: 0,
@@ -131,7 +146,7 @@ fn gather_given(given: &[i32], numbers: &mut [u8]) -> Gathered
         field: 0,
     };
     while jobs.place < jobs.end {
-        let job = fields::job_from(given, 6 * jobs.place);
+        let job = fields::job_from(given, 7 * jobs.place);
         jobs = take_in(job, jobs, numbers);
     }
     jobs
@@ -219,10 +234,10 @@ pub fn judge_order(bytes: &[u8], before: u32) -> Verdict
 fn judge_list(t0: i32, given: &[i32]) -> Verdict
     ensures { λ r. ⌜ r ≡ verdictOf (judge (listChecks t0 (now (given .entry)))) ⌝ }
 {
-    if given.len() > 6 * MOST_JOBS {
+    if given.len() > 7 * MOST_JOBS {
         return Verdict::Refused(plainly(3));
     }
-    if given.len() % 6 != 0 {
+    if given.len() % 7 != 0 {
         return Verdict::Refused(plainly(4));
     }
     if !limits::is_time(t0) {

@@ -141,7 +141,7 @@ fn change_start(seed: u64, way: u8, numbers: &[i32], t0: i32, starts: &mut [i32]
 fn change_starts(seed: u64, way: u8, numbers: &[i32], t0: i32, starts: &mut [i32]) {
     let added_seed = next(seed);
     let off_seed = next(added_seed);
-    let kept = drawn_kept(seed, (numbers.len() / 6) as u64, starts);
+    let kept = drawn_kept(seed, (numbers.len() / 7) as u64, starts);
     let place = changed_place(way, kept, drawn(added_seed, 12));
     change_start(next(off_seed), way, numbers, t0, starts, place);
     put_off(starts, kept, put_off_by(way, drawn(off_seed, 40)));

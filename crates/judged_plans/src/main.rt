@@ -68,7 +68,7 @@ fn judge_plans(run: Run, order: &[u8], numbers: &[i32], t0: i32) -> Run {
 
 // The same for an order's numbers.
 fn pack_and_judge(so_far: Run, numbers: &[i32], t0: i32) -> Run {
-    let mut space = [0; 84];
+    let mut space = [0; 94];
     let size = pack_order(t0, numbers, &mut space);
     let mut run = judge_plans(so_far, front_bytes(&space, size), numbers, t0);
     run.orders = more(run.orders, 1);
@@ -77,7 +77,7 @@ fn pack_and_judge(so_far: Run, numbers: &[i32], t0: i32) -> Run {
 
 // An order of a kind drawn, and plans for it judged.
 fn try_order(run: Run, kind: Kind) -> Run {
-    let mut jobs = [0; 60];
+    let mut jobs = [0; 70];
     let order = draw_order(run.seed, kind, &mut jobs);
     pack_and_judge(
         with_seed(run, order.seed),

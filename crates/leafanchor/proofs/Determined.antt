@@ -21,7 +21,8 @@ use Rattle.plan_writer.specs.Calls.{writtenOf, outAfter as planAfter, writeWork
 use Rattle.checking.specs.Calls.{legalOf}
 use Rattle.best_plan.specs.Calls.{bestOf, bestWorkAfter}
 use Rattle.ties.specs.Winning.{sooner, toFirst}
-use Rattle.choosing.specs.Choosing.{chosenOf, workAfter}
+use Rattle.choosing.specs.Choosing.{workAfter}
+use Rattle.openings.specs.Answer.{answerOf}
 use Rattle.packed_answers.specs.Numbers.{heatNumbers, unpackNumbers, packNumbers, framedNumbers, openNumbers, stepNumbers}
 use Rattle.plan_answers.specs.Numbers.{lookupNumbers, betterNumbers, extendNumbers, planFigures}
 use Rattle.plan_answers.specs.Numbers.{halvesFigures}
@@ -179,7 +180,7 @@ pub question-determined : (κs : Lfts 3)
 question-determined κs =
     determined (question.Post κs) (λ r x. (r, now (x .1 .1 .1 .0)))
     (λ a. (
-      questionNumbers (chosenOf sooner (now (a .0)) (now (a .1 .0)) (a .1 .1 .0) (now (a .1 .1 .1 .0))),
+      questionNumbers (answerOf sooner (now (a .0)) (now (a .1 .0)) (a .1 .1 .0) (now (a .1 .1 .1 .0))),
       workAfter sooner (now (a .0)) (now (a .1 .0)) (a .1 .1 .0) (now (a .1 .1 .1 .0)),
     ))
     (λ a r x h. two (h .0) (h .1))
@@ -189,7 +190,7 @@ pub question-first-determined : (κs : Lfts 3)
 question-first-determined κs =
     determined (question-first.Post κs) (λ r x. (r, now (x .1 .1 .1 .0)))
     (λ a. (
-      questionNumbers (chosenOf toFirst (now (a .0)) (now (a .1 .0)) (a .1 .1 .0) (now (a .1 .1 .1 .0))),
+      questionNumbers (answerOf toFirst (now (a .0)) (now (a .1 .0)) (a .1 .1 .0) (now (a .1 .1 .1 .0))),
       workAfter toFirst (now (a .0)) (now (a .1 .0)) (a .1 .1 .0) (now (a .1 .1 .1 .0)),
     ))
     (λ a r x h. two (h .0) (h .1))
@@ -199,7 +200,7 @@ pub choose-determined : (κs : Lfts 3)
 choose-determined κs =
     determined (choose.Post κs) (λ r x. (r, now (x .1 .1 .1 .0)))
     (λ a. (
-      chooseNumbers (chosenOf sooner (now (a .0)) (now (a .1 .0)) (a .1 .1 .0) (now (a .1 .1 .1 .0)))
+      chooseNumbers (answerOf sooner (now (a .0)) (now (a .1 .0)) (a .1 .1 .0) (now (a .1 .1 .1 .0)))
           (length (now (a .0))) (length (now (a .1 .0))),
       workAfter sooner (now (a .0)) (now (a .1 .0)) (a .1 .1 .0) (now (a .1 .1 .1 .0)),
     ))
@@ -210,7 +211,7 @@ pub choose-first-determined : (κs : Lfts 3)
 choose-first-determined κs =
     determined (choose-first.Post κs) (λ r x. (r, now (x .1 .1 .1 .0)))
     (λ a. (
-      chooseNumbers (chosenOf toFirst (now (a .0)) (now (a .1 .0)) (a .1 .1 .0) (now (a .1 .1 .1 .0)))
+      chooseNumbers (answerOf toFirst (now (a .0)) (now (a .1 .0)) (a .1 .1 .0) (now (a .1 .1 .1 .0)))
           (length (now (a .0))) (length (now (a .1 .0))),
       workAfter toFirst (now (a .0)) (now (a .1 .0)) (a .1 .1 .0) (now (a .1 .1 .1 .0)),
     ))

@@ -2,5 +2,6 @@
 pub mod ByHand
 pub mod Determined
 pub mod Part
-pub mod UpToTwelve
+pub mod NumbersGiven
+pub mod Nineteen
 pub mod NamedFields

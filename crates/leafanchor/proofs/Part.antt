@@ -13,10 +13,12 @@ use lib.ListN.{length, take, drop}
 use borrow.Rule.Slice.PartAt.{part-to-end}
 use Rattle.packed.specs.Layout.{headerBytes}
 use Rattle.ties.specs.Winning.{TieRule, sooner, toFirst}
-use Rattle.choosing.specs.Choosing.{Asked, Handed, chosenOf, workAfter, partOf, placeOf}
+use Rattle.choosing.specs.Choosing.{Asked, Handed, workAfter, partOf, placeOf}
 use Rattle.choosing.specs.ChoosingLaws.{headers-there}
 use Rattle.ties.specs.declared.Chosen.{Chosen}
 use Rattle.ties.specs.declared.Chosen.the-variants.{Refused, First, Second}
+use Rattle.openings.specs.Answer.{answerOf}
+use Rattle.openings.specs.declared.Answer.{Answer}
 use Rattle.openings.proofs.Inputs.{Given, workIn}
 use Rattle.openings.proofs.choose.Reads as handing
 use Rattle.openings.proofs.choose_first.Reads as handing-first
@@ -39,24 +41,26 @@ pub record IsPart (r : ChooseAnswer) (first second part : RefT (List ℕ)) : Typ
   pub place : part .ptr ≡ onBy (r .offset) (named (r .winner) (first .ptr) (second .ptr))
 
 -- So is the part of each answer of the question.
-bytes-said : (c : Chosen) (first second : List ℕ) → let r = chooseNumbers c (length first) (length second) in
+bytes-said : (c : Chosen) (kind : ℕ) (first second : List ℕ)
+    → let r = chooseNumbers (record { chosen = c; kind = kind }) (length first) (length second) in
     partOf c first second ≡ take (r .length) (drop (r .offset) (named (r .winner) first second))
-bytes-said (Refused n) first second = refl
-bytes-said First first second = sym (part-to-end first headerBytes)
-bytes-said Second first second = sym (part-to-end second headerBytes)
+bytes-said (Refused n) kind first second = refl
+bytes-said First kind first second = sym (part-to-end first headerBytes)
+bytes-said Second kind first second = sym (part-to-end second headerBytes)
 
-place-said : (c : Chosen) (first second : ℕ × ℕ) (m n : ℕ) → let r = chooseNumbers c m n in
+place-said : (c : Chosen) (kind : ℕ) (first second : ℕ × ℕ) (m n : ℕ)
+    → let r = chooseNumbers (record { chosen = c; kind = kind }) m n in
     placeOf c first second ≡ onBy (r .offset) (named (r .winner) first second)
-place-said (Refused k) first second m n = let e : first .1 ≡ 0 + first .1 = omega arith in ap (λ (o : ℕ). (first .0, o)) e
-place-said First first second m n = refl
-place-said Second first second m n = refl
+place-said (Refused k) kind first second m n = let e : first .1 ≡ 0 + first .1 = omega arith in ap (λ (o : ℕ). (first .0, o)) e
+place-said First kind first second m n = refl
+place-said Second kind first second m n = refl
 
 module _ (rule : TieRule) (first second : RefT (List ℕ)) (t : ℤ) (work : List ℤ) where
   -- The question's answer, as the definitions say it.
-  abbrev answer : Chosen
-  answer = chosenOf rule (now first) (now second) t work
+  abbrev answer : Answer
+  answer = answerOf rule (now first) (now second) t work
 
-  asked : Asked rule (now first) (now second) t work answer (workAfter rule (now first) (now second) t work)
+  asked : Asked rule (now first) (now second) t work (answer .chosen) (workAfter rule (now first) (now second) t work)
   asked = record { answer = refl; area = refl }
 
   -- What is handed back by a tie rule is the part that the numbers by it say.
@@ -64,16 +68,18 @@ module _ (rule : TieRule) (first second : RefT (List ℕ)) (t : ℤ) (work : Lis
       → r ≡ chooseNumbers answer (length (now first)) (length (now second)) → Handed rule first second t work part work′
       → IsPart r first second part
   is-part e h =
-      let bytes = h .bytes ∙ bytes-said answer (now first) (now second) in
-      let place = h .place ∙ place-said answer (first .ptr) (second .ptr) (length (now first)) (length (now second)) in
+      let won = answer .chosen in
+      let bytes = h .bytes ∙ bytes-said won (answer .kind) (now first) (now second) in
+      let place = h .place ∙ place-said won (answer .kind) (first .ptr) (second .ptr) (length (now first)) (length (now second)) in
       rw e (record { bytes = bytes; place = place })
 
   -- Offset and length stay within the bytes of the winner, for a winner has a header; they are 0 if refused.
-  inside : (c : Chosen) → answer ≡ c → let r = chooseNumbers c (length (now first)) (length (now second)) in
+  inside : (c : Chosen) (kind : ℕ) → answer .chosen ≡ c
+      → let r = chooseNumbers (record { chosen = c; kind = kind }) (length (now first)) (length (now second)) in
       r .offset + r .length ≤ length (named (r .winner) (now first) (now second))
-  inside (Refused n) e = omega arith
-  inside First e = let h = headers-there rule first second t work asked e (lit< tt) in omega arith
-  inside Second e = let h = headers-there rule first second t work asked e (lit< tt) in omega arith
+  inside (Refused n) kind e = omega arith
+  inside First kind e = let h = headers-there rule first second t work asked e (lit< tt) in omega arith
+  inside Second kind e = let h = headers-there rule first second t work asked e (lit< tt) in omega arith
 
 -- On the same inputs the part that is handed back is the one that the numbers say, and the work area is left the same.
 module _ (κs : Lfts 3) (μs : Lfts 2) (a x y : Given) (r : ChooseAnswer) (part : RefT (List ℕ)) where
@@ -92,7 +98,7 @@ abbrev Inside : ChooseAnswer → Given → Type 0
 Inside r a = r .offset + r .length ≤ length (named (r .winner) (now (a .0)) (now (a .1 .0)))
 
 pub part-inside : (κs : Lfts 3) (a x : Given) (r : ChooseAnswer) → choose.Post κs a r x → Inside r a
-part-inside κs a x r h = rw (h .0) (inside sooner (a .0) (a .1 .0) (a .1 .1 .0) (workIn a) _ refl)
+part-inside κs a x r h = rw (h .0) (inside sooner (a .0) (a .1 .0) (a .1 .1 .0) (workIn a) _ 0 refl)
 
 pub part-inside-first : (κs : Lfts 3) (a x : Given) (r : ChooseAnswer) → choose-first.Post κs a r x → Inside r a
-part-inside-first κs a x r h = rw (h .0) (inside toFirst (a .0) (a .1 .0) (a .1 .1 .0) (workIn a) _ refl)
+part-inside-first κs a x r h = rw (h .0) (inside toFirst (a .0) (a .1 .0) (a .1 .1 .0) (workIn a) _ 0 refl)

@@ -19,7 +19,8 @@ ghost use Rattle.plan_writer.specs.Calls.{writtenOf, outAfter as planAfter, wri
 ghost use Rattle.checking.specs.Calls.{legalOf};
 ghost use Rattle.best_plan.specs.Calls.{bestOf, bestWorkAfter};
 ghost use Rattle.ties.specs.Winning.{sooner, toFirst};
-ghost use Rattle.choosing.specs.Choosing.{chosenOf, workAfter};
+ghost use Rattle.choosing.specs.Choosing.{workAfter};
+ghost use Rattle.openings.specs.Answer.{answerOf};
 ghost use Rattle.packed_answers.specs.Numbers.{heatNumbers, unpackNumbers, packNumbers, framedNumbers};
 ghost use Rattle.packed_answers.specs.Numbers.{openNumbers, stepNumbers};
 ghost use Rattle.plan_answers.specs.Numbers.{lookupNumbers, betterNumbers, extendNumbers, planFigures};
@@ -50,7 +51,7 @@ pub extern "C" fn leafanchor_heat_up(byte: u8) -> HeatAnswer
     packed_answers::heat_answer(heat::heat_up(byte))
 }
 
-// The numbers of a packed order, six a job, written to the front of `numbers`.
+// The numbers of a packed order, seven a job, written to the front of `numbers`.
 #[no_mangle]
 pub extern "C" fn leafanchor_unpack(order: &[u8], numbers: &mut [i32]) -> UnpackAnswer
     ensures answer { λ r. ⌜ r ≡ unpackNumbers (unpackOf (now (order .entry)) (length (now (numbers .entry)))) ⌝ }
@@ -59,7 +60,7 @@ pub extern "C" fn leafanchor_unpack(order: &[u8], numbers: &mut [i32]) -> Unpack
     packed_answers::unpack_answer(unpack::unpack(order, numbers))
 }
 
-// The packed order of a bus-free time and numbers, six a job, written to the front of `order`.
+// The packed order of a bus-free time and numbers, seven a job, written to the front of `order`.
 #[no_mangle]
 pub extern "C" fn leafanchor_pack(t0: i32, numbers: &[i32], order: &mut [u8]) -> PackAnswer
     ensures answer { λ r. ⌜ r ≡ packNumbers (packOf t0 (now (numbers .entry)) (length (now (order .entry)))) ⌝ }
@@ -214,7 +215,7 @@ pub extern "C" fn leafanchor_question(
     work: &mut [i32],
 ) -> QuestionAnswer
     ensures answer { λ r. ⌜
-        r ≡ questionNumbers (chosenOf sooner (now (first .entry)) (now (second .entry)) t (now (work .entry))) ⌝ }
+        r ≡ questionNumbers (answerOf sooner (now (first .entry)) (now (second .entry)) t (now (work .entry))) ⌝ }
     ensures area { λ r. ⌜
         now (work .exit) ≡ workAfter sooner (now (first .entry)) (now (second .entry)) t (now (work .entry)) ⌝ }
 {
@@ -230,7 +231,7 @@ pub extern "C" fn leafanchor_question_first(
     work: &mut [i32],
 ) -> QuestionAnswer
     ensures answer { λ r. ⌜
-        r ≡ questionNumbers (chosenOf toFirst (now (first .entry)) (now (second .entry)) t (now (work .entry))) ⌝ }
+        r ≡ questionNumbers (answerOf toFirst (now (first .entry)) (now (second .entry)) t (now (work .entry))) ⌝ }
     ensures area { λ r. ⌜
         now (work .exit) ≡ workAfter toFirst (now (first .entry)) (now (second .entry)) t (now (work .entry)) ⌝ }
 {
@@ -248,13 +249,13 @@ pub extern "C" fn leafanchor_choose(
 ) -> ChooseAnswer
     ensures answer { λ r. ⌜
         r
-        ≡ chooseNumbers (chosenOf sooner (now (first .entry)) (now (second .entry)) t (now (work .entry)))
+        ≡ chooseNumbers (answerOf sooner (now (first .entry)) (now (second .entry)) t (now (work .entry)))
         (length (now (first .entry))) (length (now (second .entry))) ⌝ }
     ensures area { λ r. ⌜
         now (work .exit) ≡ workAfter sooner (now (first .entry)) (now (second .entry)) t (now (work .entry)) ⌝ }
 {
-    let chosen = openings::question(first, second, t, work);
-    opening_answers::choose_answer(chosen, first.len(), second.len())
+    let answer = openings::question(first, second, t, work);
+    opening_answers::choose_answer(answer, first.len(), second.len())
 }
 
 // The same by the night desk's rule: of equal weights, the first.
@@ -267,11 +268,11 @@ pub extern "C" fn leafanchor_choose_first(
 ) -> ChooseAnswer
     ensures answer { λ r. ⌜
         r
-        ≡ chooseNumbers (chosenOf toFirst (now (first .entry)) (now (second .entry)) t (now (work .entry)))
+        ≡ chooseNumbers (answerOf toFirst (now (first .entry)) (now (second .entry)) t (now (work .entry)))
         (length (now (first .entry))) (length (now (second .entry))) ⌝ }
     ensures area { λ r. ⌜
         now (work .exit) ≡ workAfter toFirst (now (first .entry)) (now (second .entry)) t (now (work .entry)) ⌝ }
 {
-    let won = openings::question_first(first, second, t, work);
-    opening_answers::choose_answer(won, first.len(), second.len())
+    let told = openings::question_first(first, second, t, work);
+    opening_answers::choose_answer(told, first.len(), second.len())
 }

@@ -40,15 +40,16 @@ fn field_or(passed: bool, field: u32, later: u32) -> u32
     if passed { later } else { field }
 }
 
-// The first number of a job that is out of range, 1 for its number to 6 for its deadline; 0 if none is. The last field is tested
+// The first number of a job that is out of range, 1 for its number to 7 for its deadline; 0 if none is. The last field is tested
 // first, so that the first that is out of range is named.
 pub fn bad_field(job: Job) -> u32
     ensures { λ r. ⌜ r ≡ badField (fieldsOf job) ⌝ }
 {
-    let mut bad = field_or(is_time(job.deadline), 6, 0);
-    bad = field_or(between(1, 10000, job.length), 5, bad);
-    bad = field_or(is_time(job.ready), 4, bad);
-    bad = field_or(weight_within(job.critical == 1, job.weight), 3, bad);
-    bad = field_or(between(0, 1, job.critical), 2, bad);
+    let mut bad = field_or(is_time(job.deadline), 7, 0);
+    bad = field_or(between(1, 10000, job.length), 6, bad);
+    bad = field_or(is_time(job.ready), 5, bad);
+    bad = field_or(weight_within(job.critical == 1, job.weight), 4, bad);
+    bad = field_or(between(0, 1, job.critical), 3, bad);
+    bad = field_or(between(0, 255, job.pack), 2, bad);
     field_or(between(0, 63, job.number), 1, bad)
 }

@@ -9,12 +9,14 @@ use borrow.Author.Tests.{lt-ltb}
 use Rattle.packed.specs.declared.Refusal.{Refusal}
 use Rattle.packed.specs.Judge.{plainly, Verdict as Judged, fine, refused, judge, orElse}
 use Rattle.packed.specs.JudgeLaws.{judge-append}
-use Rattle.packed.specs.Packed.{jobCount, packedHeader, packOrder}
-use Rattle.packed.specs.PackedLaws.{length-packed}
+use Rattle.packed.specs.Layout.{recordBytes}
+use Rattle.packed.specs.Packed.{kindFor, jobCount, packedHeader, packOrder}
+use Rattle.packed.specs.PackedLaws.{length-packed, kind-few, kind-old}
 use Rattle.packed.specs.Refusals.{numberChecks, roomChecks, packChecks}
 use Rattle.packed.specs.RefusalLaws.{within-is, room-fine}
 use Rattle.packed.specs.Accepted.{numbers-fine}
-use Rattle.fields.specs.Fields.{HeaderRoom}
+use Rattle.fields.specs.Asked.{HeaderRoom}
+use Rattle.kinds.specs.Kinds.{Whole}
 use Rattle.judge.specs.Verdicts.{verdictOf}
 use Rattle.judge.specs.Told.{refusal-told}
 use Rattle.judge.specs.declared.Verdict.the-variants.{Refused as Said}
@@ -36,8 +38,8 @@ module _ (t0 : ℤ) (numbers : List ℤ) (was : List ℕ) where
 
   -- The verdict is that on the numbers, and on the room where it is fine.
   by-stages : judge (packChecks t0 numbers (length was))
-      ≡ orElse (judge (numberChecks t0 numbers)) (judge (roomChecks (4 + 8 * jobCount numbers) (length was)))
-  by-stages = judge-append (numberChecks t0 numbers) (roomChecks (4 + 8 * jobCount numbers) (length was))
+      ≡ orElse (judge (numberChecks t0 numbers)) (judge (roomChecks (4 + recordBytes (kindFor numbers) * jobCount numbers) (length was)))
+  by-stages = judge-append (numberChecks t0 numbers) (roomChecks (4 + recordBytes (kindFor numbers) * jobCount numbers) (length was))
 
   -- The numbers are no order.
   pub packs-refused : (r : Refusal) → verdictOf (judge (numberChecks t0 numbers)) ≡ Said r → Packs (Refused r) was
@@ -46,43 +48,50 @@ module _ (t0 : ℤ) (numbers : List ℤ) (was : List ℕ) where
       packs-by (refused r) (by-stages ∙ rw said)
 
   -- They are one, and there is room.
-  pub packs-order : judge (numberChecks t0 numbers) ≡ fine → 4 + 8 * jobCount numbers ≤ length was
+  pub packs-order : judge (numberChecks t0 numbers) ≡ fine → 4 + recordBytes (kindFor numbers) * jobCount numbers ≤ length was
       → Packs (Bytes (length (packOrder t0 numbers))) (packOrder t0 numbers ++ drop (length (packOrder t0 numbers)) was)
-  packs-order order enough = packs-by fine (by-stages ∙ rw (order, room-fine (4 + 8 * jobCount numbers) (length was) .1 enough))
+  packs-order order enough = packs-by fine (by-stages ∙ rw (order, room-fine (4 + recordBytes (kindFor numbers) * jobCount numbers) (length was) .1 enough))
 
   -- They are one, and are packed by the count of jobs that the code takes.
   module _ (order : judge (numberChecks t0 numbers) ≡ fine) where
+    -- They are of whole jobs.
+    pub whole-jobs : Whole numbers (length numbers / 7)
+    unfolding jobCount
+    whole-jobs = let f = numbers-fine t0 numbers .0 order .list in record { few = f .few; whole = f .whole }
+
     -- There is too little room.
-    pub packs-no-room : length was < 4 + 8 * (length numbers / 6) → Packs (Refused (plainly 10)) was
+    pub packs-no-room : length was < 4 + recordBytes (kindFor numbers) * (length numbers / 7) → Packs (Refused (plainly 10)) was
     unfolding jobCount
     packs-no-room l =
-        packs-by (refused (plainly 10)) (by-stages ∙ rw (order, lt-ltb (length was) (4 + 8 * (length numbers / 6)) l))
+        packs-by (refused (plainly 10)) (by-stages ∙ rw (order, lt-ltb (length was) (4 + recordBytes (kindFor numbers) * (length numbers / 7)) l))
 
     -- There is room
-    module _ (room : 4 + 8 * (length numbers / 6) ≤ length was) where
+    module _ (room : 4 + recordBytes (kindFor numbers) * (length numbers / 7) ≤ length was) where
       -- for the header
-      pub header-room : (t : ℤ) → t ≡ t0 → HeaderRoom was (length numbers / 6) t
+      pub header-room : (t : ℤ) → t ≡ t0 → HeaderRoom was (kindFor numbers) (length numbers / 7) t
       unfolding jobCount
       header-room t e =
           let f = numbers-fine t0 numbers .0 order .list in
-          record { room = omega arith; few = f .few; timely = rw e (f .timely) }
+          record { room = omega arith; known = kind-few numbers; few = f .few; timely = rw e (f .timely) }
 
       -- and for the bytes of all jobs, as writing asks,
-      pub packable : (bytes : List ℕ) → length bytes ≡ length was → Packable numbers (length numbers / 6) bytes
+      pub packable : (bytes : List ℕ) → length bytes ≡ length was → Packable numbers (kindFor numbers) (length numbers / 7) bytes
       unfolding jobCount
       packable bytes e =
           let f = numbers-fine t0 numbers .0 order in
           record {
-            there = omega arith;
+            few = f .list .few;
+            there = omega (arith, f .list .whole);
             within = λ k h. within-is _ .1 (f .jobs .within k h);
+            kinded = λ k h e. kind-old numbers .0 e k h;
             room = omega arith;
           }
 
       -- and they are written.
       pub packs-written : (bytes : List ℕ)
-          → bytes ≡ firstRecords numbers (length numbers / 6) (packedHeader (length numbers / 6) t0 ++ drop 4 was)
-          → Packs (Bytes (4 + 8 * (length numbers / 6))) bytes
+          → bytes ≡ firstRecords (kindFor numbers) numbers (length numbers / 7) (packedHeader (kindFor numbers) (length numbers / 7) t0 ++ drop 4 was)
+          → Packs (Bytes (4 + recordBytes (kindFor numbers) * (length numbers / 7))) bytes
       unfolding jobCount
       packs-written bytes e =
           let packs = packs-order order room in
-          (ap Bytes (sym (length-packed t0 numbers)) ∙ packs .0, e ∙ all-written numbers was t0 ∙ packs .1)
+          (ap Bytes (sym (length-packed (kindFor numbers) t0 numbers)) ∙ packs .0, e ∙ all-written (kindFor numbers) numbers was t0 ∙ packs .1)

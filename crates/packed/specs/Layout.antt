@@ -1,7 +1,7 @@
 -- Records of bits. A layout is a list of fields, highest bit first; a record is one number in mixed base, and bytes are
 -- digits of 8 bits each. Reading and writing follow from the layout. Definitions only.
-use Prim.Native.Nat.{ℕ, _+_, _*_, _/_, _%_, _^_}
-use mathlib.Core.List.{List, [], _∷_}
+use Prim.Native.Nat.{ℕ, zero, suc, _+_, _*_, _/_, _%_, _^_}
+use mathlib.Core.List.{List, [], _∷_, _++_}
 use lib.IntN.{ℤ, pos, natAbs}
 use lib.ListN.{length, replicate}
 use Rattle.seconds.specs.Twos.{bitsTo, toBits}
@@ -85,22 +85,38 @@ bytesOf k n = cut (replicate k 8) n
 
 -- ---- the two records of an order
 
--- Header: count of jobs, bus-free time, spare.
+-- Header: count of jobs, bus-free time, kind of the records.
 abbrev pub headerLayout : List Field
 headerLayout = plain 6 ∷ twos 18 ∷ plain 8 ∷ []
 
--- Job: number, critical mark, weight, ready time, length, deadline.
-abbrev pub jobLayout : List Field
-jobLayout = plain 6 ∷ plain 1 ∷ plain 7 ∷ twos 18 ∷ plain 14 ∷ twos 18 ∷ []
+-- The bits of a job's pack, by kind: none in kind 0.
+abbrev pub packBits : ℕ → ℕ
+packBits zero = 0
+packBits (suc kind) = 8
+
+-- Job, in front: number, pack, critical mark, weight, ready time;
+abbrev pub frontLayout : ℕ → List Field
+frontLayout kind = plain 6 ∷ plain (packBits kind) ∷ plain 1 ∷ plain 7 ∷ twos 18 ∷ []
+
+-- behind them: length, deadline.
+abbrev pub backLayout : List Field
+backLayout = plain 14 ∷ twos 18 ∷ []
+
+-- A job of a kind. A field that a kind lacks has no bits: it reads as 0 and holds only 0.
+abbrev pub jobLayout : ℕ → List Field
+jobLayout kind = frontLayout kind ++ backLayout
 
 -- The bytes of a header.
 abbrev pub headerBytes : ℕ
 headerBytes = total (widths headerLayout) / 8
 
--- The bytes of a job.
-abbrev pub jobBytes : ℕ
-jobBytes = total (widths jobLayout) / 8
+-- The bytes of a job's front, and of all of it, by kind.
+unfoldable pub frontBytes : ℕ → ℕ
+frontBytes kind = total (widths (frontLayout kind)) / 8
 
--- The numbers of a job.
+unfoldable pub recordBytes : ℕ → ℕ
+recordBytes kind = total (widths (jobLayout kind)) / 8
+
+-- The numbers of a job, the same in every kind.
 abbrev pub jobNumbers : ℕ
-jobNumbers = length jobLayout
+jobNumbers = length (jobLayout 0)

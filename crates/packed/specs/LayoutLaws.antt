@@ -8,16 +8,17 @@ use native.Mathlib.Omega.{arith}
 use lib.Arith.{digits-lt, digits-div, digits-mod, lt-one}
 use lib.Pow.{pow-pos, pow-mono, pow-add, shr-lt, shr-shr, split, field, mod-mod-pow}
 use lib.Dec.{ltb}
-use lib.IntN.{ℤ, pos, negsuc, natAbs}
+use lib.IntN.{ℤ, pos, negsuc}
 use lib.ListN.{length, replicate, getD, take, drop}
 use lib.ListN.{length-replicate, length-append, length-take, length-drop, List·getD-eq-default}
-use lib.Seq.{drop-nil, take-suc, getD-take, getD-drop}
+use lib.Seq.{take-suc, getD-take, getD-drop}
 use borrow.Author.Tests.{ltb-true, ltb-false}
 use borrow.Table.Steps.{cases}
 use Rattle.seconds.specs.Twos.{bitsTo, toBits}
 use Rattle.seconds.specs.TwosLaws.{InBits, toBits-below, toBits-bitsTo, bitsTo-toBits}
 use Rattle.packed.specs.Layout.{total, join, cut, Field, plain, twos, widthOf, widths, meaning}
 use Rattle.packed.specs.Layout.{bitsFor, meanings, digitsFor, decode, encode, numberOf, bytesOf, headerLayout, jobLayout}
+use Rattle.packed.specs.Layout.{packBits, frontLayout, frontBytes, recordBytes}
 
 -- ---- digits
 
@@ -123,22 +124,6 @@ decode-cons f fs n = refl
 pub length-decode : (fs : List Field) (n : ℕ) → length (decode fs n) ≡ length fs
 length-decode [] n = unfold decode in refl
 length-decode (f ∷ fs) n = rw (decode-cons f fs n, length-decode fs (n % 2 ^ total (widths fs)))
-
-encode-nil : (fs : List Field) → encode fs [] ≡ 0
-unfolding encode
-encode-nil [] = refl
-encode-nil (f ∷ fs) = refl
-
-bitsFor-zero : (f : Field) → bitsFor f (pos 0) ≡ 0
-bitsFor-zero (plain w) = refl
-bitsFor-zero (twos w) = unfold toBits in refl
-
--- One field is written, with the number at a place, and the others with the numbers behind it.
-pub encode-cons : (zs : List ℤ) (k : ℕ) (f : Field) (fs : List Field)
-    → encode (f ∷ fs) (drop k zs) ≡ bitsFor f (getD zs k (pos 0)) * 2 ^ total (widths fs) + encode fs (drop (suc k) zs)
-encode-cons [] k f fs = rw (drop-nil k, encode-nil (f ∷ fs), encode-nil fs, bitsFor-zero f) (omega arith)
-encode-cons (z ∷ zs) zero f fs = unfold encode in refl
-encode-cons (z ∷ zs) (suc k) f fs = encode-cons zs k f fs
 
 -- ---- bytes
 
@@ -261,16 +246,27 @@ pub p1-header-bytes : bytesOf 4 (encode headerLayout (pos 5 ∷ negsuc 599 ∷ p
 unfolding encode bytesOf toBits
 p1-header-bytes = refl
 
--- Number 7, critical, ready at -600, length 495, deadline 0.
-pub p1-job : decode jobLayout (numberOf (0x1E ∷ 0x03 ∷ 0xFD ∷ 0xA8 ∷ 0x07 ∷ 0xBC ∷ 0x00 ∷ 0x00 ∷ []))
-    ≡ pos 7 ∷ pos 1 ∷ pos 0 ∷ negsuc 599 ∷ pos 495 ∷ pos 0 ∷ []
+-- Number 7, pack 0, critical, ready at -600, length 495, deadline 0.
+pub p1-job : decode (jobLayout 0) (numberOf (0x1E ∷ 0x03 ∷ 0xFD ∷ 0xA8 ∷ 0x07 ∷ 0xBC ∷ 0x00 ∷ 0x00 ∷ []))
+    ≡ pos 7 ∷ pos 0 ∷ pos 1 ∷ pos 0 ∷ negsuc 599 ∷ pos 495 ∷ pos 0 ∷ []
 unfolding decode numberOf bitsTo
 p1-job = refl
 
-pub p1-job-bytes : bytesOf 8 (encode jobLayout (pos 7 ∷ pos 1 ∷ pos 0 ∷ negsuc 599 ∷ pos 495 ∷ pos 0 ∷ []))
+pub p1-job-bytes : bytesOf 8 (encode (jobLayout 0) (pos 7 ∷ pos 0 ∷ pos 1 ∷ pos 0 ∷ negsuc 599 ∷ pos 495 ∷ pos 0 ∷ []))
     ≡ 0x1E ∷ 0x03 ∷ 0xFD ∷ 0xA8 ∷ 0x07 ∷ 0xBC ∷ 0x00 ∷ 0x00 ∷ []
 unfolding encode bytesOf toBits
 p1-job-bytes = refl
+
+-- The same of pack 3, in kind 1.
+pub p1-job-packed : decode (jobLayout 1) (numberOf (0x1C ∷ 0x0E ∷ 0x03 ∷ 0xFD ∷ 0xA8 ∷ 0x07 ∷ 0xBC ∷ 0x00 ∷ 0x00 ∷ []))
+    ≡ pos 7 ∷ pos 3 ∷ pos 1 ∷ pos 0 ∷ negsuc 599 ∷ pos 495 ∷ pos 0 ∷ []
+unfolding decode numberOf bitsTo
+p1-job-packed = refl
+
+pub p1-job-packed-bytes : bytesOf 9 (encode (jobLayout 1) (pos 7 ∷ pos 3 ∷ pos 1 ∷ pos 0 ∷ negsuc 599 ∷ pos 495 ∷ pos 0 ∷ []))
+    ≡ 0x1C ∷ 0x0E ∷ 0x03 ∷ 0xFD ∷ 0xA8 ∷ 0x07 ∷ 0xBC ∷ 0x00 ∷ 0x00 ∷ []
+unfolding encode bytesOf toBits
+p1-job-packed-bytes = refl
 
 -- ---- the header and the job, written out
 
@@ -279,21 +275,48 @@ pub header-decode : (n : ℕ)
     → decode headerLayout n ≡ pos (n / 2 ^ 26) ∷ bitsTo 18 (n % 2 ^ 26 / 2 ^ 8) ∷ pos (n % 2 ^ 26 % 2 ^ 8) ∷ []
 header-decode n = unfold decode in rw (div-one (n % 2 ^ 26 % 2 ^ 8))
 
--- What a job's number says.
-pub job-decode : (n : ℕ) → decode jobLayout n
-    ≡ pos (n / 2 ^ 58) ∷ pos (n % 2 ^ 58 / 2 ^ 57) ∷ pos (n % 2 ^ 58 % 2 ^ 57 / 2 ^ 50)
-    ∷ bitsTo 18 (n % 2 ^ 58 % 2 ^ 57 % 2 ^ 50 / 2 ^ 32) ∷ pos (n % 2 ^ 58 % 2 ^ 57 % 2 ^ 50 % 2 ^ 32 / 2 ^ 18)
-    ∷ bitsTo 18 (n % 2 ^ 58 % 2 ^ 57 % 2 ^ 50 % 2 ^ 32 % 2 ^ 18) ∷ []
-job-decode n = unfold decode in rw (div-one (n % 2 ^ 58 % 2 ^ 57 % 2 ^ 50 % 2 ^ 32 % 2 ^ 18))
+-- What a job's number says, by kind.
+pub job-decode : (kind n : ℕ) → decode (jobLayout kind) n
+    ≡ (let p = 2 ^ (packBits kind + 58) in
+    let m = n % p % 2 ^ 58 in
+    pos (n / p) ∷ pos (n % p / 2 ^ 58) ∷ pos (m / 2 ^ 57) ∷ pos (m % 2 ^ 57 / 2 ^ 50)
+    ∷ bitsTo 18 (m % 2 ^ 57 % 2 ^ 50 / 2 ^ 32) ∷ pos (m % 2 ^ 57 % 2 ^ 50 % 2 ^ 32 / 2 ^ 18)
+    ∷ bitsTo 18 (m % 2 ^ 57 % 2 ^ 50 % 2 ^ 32 % 2 ^ 18) ∷ [])
+job-decode kind n =
+    unfold decode in rw (div-one (n % 2 ^ (packBits kind + 58) % 2 ^ 58 % 2 ^ 57 % 2 ^ 50 % 2 ^ 32 % 2 ^ 18))
 
--- The number of a header with no spare bits set.
-pub header-encode : (n : ℕ) (t : ℤ) → encode headerLayout (pos n ∷ t ∷ pos 0 ∷ []) ≡ n * 2 ^ 26 + toBits 18 t * 2 ^ 8
-header-encode n t = unfold encode in omega arith
+-- The number of a header.
+pub header-encode : (kind n : ℕ) (t : ℤ)
+    → encode headerLayout (pos n ∷ t ∷ pos kind ∷ []) ≡ n * 2 ^ 26 + (toBits 18 t * 2 ^ 8 + kind)
+header-encode kind n t = unfold encode in omega arith
 
--- The number of a job.
-pub job-encode : (zs : List ℤ) → encode jobLayout zs
-    ≡ natAbs (getD zs 0 (pos 0)) * 2 ^ 58 + (natAbs (getD zs 1 (pos 0)) * 2 ^ 57 + (natAbs (getD zs 2 (pos 0)) * 2 ^ 50
-    + (toBits 18 (getD zs 3 (pos 0)) * 2 ^ 32 + (natAbs (getD zs 4 (pos 0)) * 2 ^ 18 + toBits 18 (getD zs 5 (pos 0))))))
-job-encode zs =
-    rw (encode-cons zs 0, encode-cons zs 1, encode-cons zs 2, encode-cons zs 3, encode-cons zs 4, encode-cons zs 5)
-    (unfold encode in omega arith)
+-- ---- the widths by kind
+
+-- A record has whole bytes,
+pub record-bits : (kind : ℕ) → total (widths (jobLayout kind)) ≡ 8 * recordBytes kind
+unfolding recordBytes
+record-bits zero = refl
+record-bits (suc kind) = refl
+
+-- and so have its front
+pub front-bits : (kind : ℕ) → total (widths (frontLayout kind)) ≡ 8 * frontBytes kind
+unfolding frontBytes
+front-bits zero = refl
+front-bits (suc kind) = refl
+
+-- and its back.
+pub record-front : (kind : ℕ) → recordBytes kind ≡ frontBytes kind + 4
+unfolding frontBytes recordBytes
+record-front zero = refl
+record-front (suc kind) = refl
+
+-- In kind 0 it has eight.
+pub bytes-old : recordBytes 0 ≡ 8
+unfolding recordBytes
+bytes-old = refl
+
+-- In any, eight or nine.
+pub bytes-few : (kind : ℕ) → (8 ≤ recordBytes kind) × (recordBytes kind ≤ 9)
+unfolding recordBytes
+bytes-few zero = (omega arith, omega arith)
+bytes-few (suc kind) = (omega arith, omega arith)

@@ -1,15 +1,47 @@
 -- An order in bytes and in numbers: what the bytes say, the bytes of some numbers, and the order that either means.
 -- Definitions only.
 use Prim.Native.Nat.{ℕ, _/_}
-use mathlib.Core.Bool.{Bool}
+use mathlib.Core.Bool.{Bool, not, cond}
 use mathlib.Core.List.{List, [], _∷_, _++_}
+use lib.Dec.{ltb}
 use lib.IntN.{ℤ, pos, natAbs}
 use lib.ListN.{length, take, drop, getD}
 use Rattle.seconds.specs.Ranges.{same}
 use Rattle.order.specs.Job.{Job, Order, oneRate}
 use Rattle.packed.specs.Layout.{decode, encode, numberOf, bytesOf, headerLayout}
-use Rattle.packed.specs.Layout.{jobLayout, headerBytes, jobBytes, jobNumbers}
-use Rattle.packed.specs.Places.{part, flat, each}
+use Rattle.packed.specs.Layout.{jobLayout, headerBytes, recordBytes, jobNumbers}
+use Rattle.packed.specs.Places.{part, flat, each, first}
+
+-- ---- a job's numbers by name, in the sequence of the layout
+
+abbrev pub theNumber : List ℤ → ℤ
+theNumber zs = getD zs 0 (pos 0)
+
+abbrev pub thePack : List ℤ → ℤ
+thePack zs = getD zs 1 (pos 0)
+
+abbrev pub theMark : List ℤ → ℤ
+theMark zs = getD zs 2 (pos 0)
+
+abbrev pub theWeight : List ℤ → ℤ
+theWeight zs = getD zs 3 (pos 0)
+
+abbrev pub theReady : List ℤ → ℤ
+theReady zs = getD zs 4 (pos 0)
+
+abbrev pub theLength : List ℤ → ℤ
+theLength zs = getD zs 5 (pos 0)
+
+abbrev pub theDeadline : List ℤ → ℤ
+theDeadline zs = getD zs 6 (pos 0)
+
+-- The mark of a critical job is 1.
+abbrev pub isCritical : List ℤ → Bool
+isCritical zs = same (theMark zs) (pos 1)
+
+-- A pack other than 0.
+abbrev pub hasPack : List ℤ → Bool
+hasPack zs = not (same (thePack zs) (pos 0))
 
 -- ---- what the bytes say
 
@@ -29,13 +61,13 @@ countOf bytes = natAbs (getD (headerOf bytes) 0 (pos 0))
 unfoldable pub t0Of : List ℕ → ℤ
 t0Of bytes = getD (headerOf bytes) 1 (pos 0)
 
--- The spare bits.
-unfoldable pub spareOf : List ℕ → ℕ
-spareOf bytes = natAbs (getD (headerOf bytes) 2 (pos 0))
+-- The kind of the records.
+unfoldable pub kindOf : List ℕ → ℕ
+kindOf bytes = natAbs (getD (headerOf bytes) 2 (pos 0))
 
 -- The bytes of the job at a place.
 unfoldable pub recordAt : List ℕ → ℕ → List ℕ
-recordAt bytes k = part jobBytes (drop headerBytes bytes) k
+recordAt bytes k = part (recordBytes (kindOf bytes)) (drop headerBytes bytes) k
 
 -- The number that they make.
 unfoldable pub jobWord : List ℕ → ℕ → ℕ
@@ -43,7 +75,7 @@ jobWord bytes k = numberOf (recordAt bytes k)
 
 -- The numbers of that job.
 unfoldable pub jobFields : List ℕ → ℕ → List ℤ
-jobFields bytes k = decode jobLayout (jobWord bytes k)
+jobFields bytes k = decode (jobLayout (kindOf bytes)) (jobWord bytes k)
 
 -- The numbers of all jobs.
 unfoldable pub numbersOf : List ℕ → List ℤ
@@ -59,41 +91,29 @@ jobCount zs = length zs / jobNumbers
 unfoldable pub fieldsAt : List ℤ → ℕ → List ℤ
 fieldsAt zs k = part jobNumbers zs k
 
+-- The place of the first job with a pack other than 0; behind all jobs if there is none.
+unfoldable pub firstPacked : List ℤ → ℕ
+firstPacked zs = first (λ k. hasPack (fieldsAt zs k)) 0 (jobCount zs)
+
+-- The kind that jobs are packed in: 0 exactly when every pack is 0.
+unfoldable pub kindFor : List ℤ → ℕ
+kindFor zs = cond (ltb (firstPacked zs) (jobCount zs)) 1 0
+
 -- The header's bytes.
-unfoldable pub packedHeader : ℕ → ℤ → List ℕ
-packedHeader n t0 = bytesOf headerBytes (encode headerLayout (pos n ∷ t0 ∷ pos 0 ∷ []))
+unfoldable pub packedHeader : ℕ → ℕ → ℤ → List ℕ
+packedHeader kind n t0 = bytesOf headerBytes (encode headerLayout (pos n ∷ t0 ∷ pos kind ∷ []))
 
 -- The bytes of the job at a place.
-unfoldable pub packedJob : List ℤ → ℕ → List ℕ
-packedJob zs k = bytesOf jobBytes (encode jobLayout (fieldsAt zs k))
+unfoldable pub packedJob : ℕ → List ℤ → ℕ → List ℕ
+packedJob kind zs k = bytesOf (recordBytes kind) (encode (jobLayout kind) (fieldsAt zs k))
 
--- All bytes.
-unfoldable pub packOrder : ℤ → List ℤ → List ℕ
-packOrder t0 zs = packedHeader (jobCount zs) t0 ++ flat (packedJob zs) (jobCount zs)
+-- All bytes, in a kind,
+unfoldable pub packIn : ℕ → ℤ → List ℤ → List ℕ
+packIn kind t0 zs = packedHeader kind (jobCount zs) t0 ++ flat (packedJob kind zs) (jobCount zs)
 
--- ---- a job's numbers by name, in the sequence of the layout
-
-abbrev pub theNumber : List ℤ → ℤ
-theNumber zs = getD zs 0 (pos 0)
-
-abbrev pub theMark : List ℤ → ℤ
-theMark zs = getD zs 1 (pos 0)
-
-abbrev pub theWeight : List ℤ → ℤ
-theWeight zs = getD zs 2 (pos 0)
-
-abbrev pub theReady : List ℤ → ℤ
-theReady zs = getD zs 3 (pos 0)
-
-abbrev pub theLength : List ℤ → ℤ
-theLength zs = getD zs 4 (pos 0)
-
-abbrev pub theDeadline : List ℤ → ℤ
-theDeadline zs = getD zs 5 (pos 0)
-
--- The mark of a critical job is 1.
-abbrev pub isCritical : List ℤ → Bool
-isCritical zs = same (theMark zs) (pos 1)
+-- and in the kind of the numbers.
+abbrev pub packOrder : ℤ → List ℤ → List ℕ
+packOrder t0 zs = packIn (kindFor zs) t0 zs
 
 -- ---- the jobs and the order
 

@@ -1,30 +1,31 @@
 -- The laws of the refusals of orders: a job within its limits, what the searches find, and what it is to pass each stage.
 use Prim.Native.Nat.{ℕ, zero, suc, _+_, _*_, _%_, _^_, _≤_, _<_}
-use mathlib.Core.Path.{_≡_, refl, ap}
-use mathlib.Core.Bool.{Bool, true, false, not, and-eq-true-iff}
+use mathlib.Core.Path.{_≡_, refl, sym, ap, _∙_}
+use mathlib.Core.Bool.{Bool, true, false, not, and-eq-true-iff, true≢false, _&&_}
 use mathlib.Core.Logic.{_↔_, _≢_}
 use mathlib.Core.List.{List, [], _∷_}
 use native.Mathlib.Omega.{arith}
-use lib.Dec.{T, leb, ltb}
+use lib.Dec.{T, leb, ltb, eqb}
 use lib.Ieee.Bits.{is-true}
 use lib.IntN.{ℤ, pos, negsuc, natAbs}
 use lib.ListN.{length, getD}
-use borrow.Author.Tests.{ltb-true, ltb-false, le-ltb, eqb-true, eq-eqb, not-false}
+use borrow.Author.Tests.{ltb-true, ltb-false, le-ltb, eqb-true, eqb-false, eq-eqb, not-false}
 use borrow.Table.Steps.{cases}
-use Rattle.seconds.specs.Limits.{longest, heaviest, mostWeight, mostJobs}
+use Rattle.seconds.specs.Limits.{highestPack, longest, heaviest, mostWeight, mostJobs}
 use Rattle.seconds.specs.Signed.{signed, abs-is}
-use Rattle.seconds.specs.Ranges.{Between, isBetween, InTime}
-use Rattle.seconds.specs.RangesLaws.{between-true, same-no}
+use Rattle.seconds.specs.Ranges.{Between, isBetween, InTime, same}
+use Rattle.seconds.specs.RangesLaws.{between-true, same-yes, same-no}
 use Rattle.seconds.specs.TwosLaws.{time-in}
 use Rattle.order.specs.Job.{weightOf, weightWithin, jobWithin}
 use Rattle.order.specs.Halves.{offendsAt}
 use Rattle.order.specs.HalvesLaws.{OfHalves, of-halves, offends-below}
-use Rattle.packed.specs.Layout.{plain, jobLayout}
+use Rattle.packed.specs.Layout.{plain, packBits, jobLayout, recordBytes}
 use Rattle.packed.specs.LayoutLaws.{HeldBy, Held, no-field, held}
 use Rattle.packed.specs.Places.{each}
 use Rattle.packed.specs.PlacesLaws.{IsFirst, first-is, first-none, length-each, ext-each}
-use Rattle.packed.specs.Packed.{countOf, t0Of, spareOf, jobCount, fieldsAt, jobOf, jobAt, jobsOf}
-use Rattle.packed.specs.Packed.{theNumber, theMark, theWeight, theReady, theLength, theDeadline, isCritical}
+use Rattle.packed.specs.Packed.{countOf, t0Of, kindOf, numbersOf, kindFor, hasPack, jobCount, fieldsAt, jobOf, jobAt, jobsOf}
+use Rattle.packed.specs.Packed.{theNumber, thePack, theMark, theWeight, theReady, theLength, theDeadline, isCritical}
+use Rattle.packed.specs.PackedLaws.{kind-few, kind-unpacked}
 use Rattle.packed.specs.Judge.{fine, judge}
 use Rattle.packed.specs.JudgeLaws.{judge-at}
 use Rattle.packed.specs.Refusals.{weightTest, fieldTests, allTrue, fieldsWithin, badAt, firstBad}
@@ -36,6 +37,7 @@ use Rattle.packed.specs.Refusals.{firstOffending, headerChecks, listChec
 -- The numbers of a job are within their limits.
 pub record Within (zs : List ℤ) : Type 0 where
   pub number : Between (pos 0) (pos 63) (theNumber zs)
+  pub pack : Between (pos 0) (pos highestPack) (thePack zs)
   pub mark : Between (pos 0) (pos 1) (theMark zs)
   pub weight : weightTest (isCritical zs) (theWeight zs) ≡ true
   pub ready : InTime (theReady zs)
@@ -60,16 +62,17 @@ within-is zs = (there, back)
     there e =
         record {
           number = between-true _ _ _ .0 (all-at (fieldTests zs) 0 e);
-          mark = between-true _ _ _ .0 (all-at (fieldTests zs) 1 e);
-          weight = all-at (fieldTests zs) 2 e;
-          ready = between-true _ _ _ .0 (all-at (fieldTests zs) 3 e);
-          long = between-true _ _ _ .0 (all-at (fieldTests zs) 4 e);
-          deadline = between-true _ _ _ .0 (all-at (fieldTests zs) 5 e);
+          pack = between-true _ _ _ .0 (all-at (fieldTests zs) 1 e);
+          mark = between-true _ _ _ .0 (all-at (fieldTests zs) 2 e);
+          weight = all-at (fieldTests zs) 3 e;
+          ready = between-true _ _ _ .0 (all-at (fieldTests zs) 4 e);
+          long = between-true _ _ _ .0 (all-at (fieldTests zs) 5 e);
+          deadline = between-true _ _ _ .0 (all-at (fieldTests zs) 6 e);
         }
 
     back : Within zs → allTrue (fieldTests zs) ≡ true
     back w =
-        rw (test-is (w .number), test-is (w .mark), w .weight, test-is (w .ready), test-is (w .long), test-is (w .deadline))
+        rw (test-is (w .number), test-is (w .pack), test-is (w .mark), w .weight, test-is (w .ready), test-is (w .long), test-is (w .deadline))
 
 -- The weight of either kind of job.
 pub weight-range : (c : Bool) (w : ℤ) → weightTest c w ≡ true → Between (pos 0) (pos heaviest) w
@@ -110,20 +113,29 @@ plain-held : (bits most : ℕ) (z : ℤ) → Between (pos 0) (pos most) z → mo
 plain-held bits most (pos n) h l = omega signed
 plain-held bits most (negsuc n) h l = omega signed
 
--- Six such numbers can be held by the fields of a job.
-pub job-held : (zs : List ℤ) → length zs ≡ 6 → Within zs → Held jobLayout zs
+-- A pack that its kind's field can hold: 0 where there is no field.
+pub pack-held : (kind : ℕ) (z : ℤ) → Between (pos 0) (pos highestPack) z → (kind ≡ 0 → not (same z (pos 0)) ≡ false)
+    → HeldBy (plain (packBits kind)) z
+pack-held zero z h none =
+    let e : z ≡ pos 0 = same-yes z (pos 0) .0 (not-false _ (none refl)) in
+    plain-held 0 0 z (omega signed) (omega arith)
+pack-held (suc kind) z h none = plain-held 8 highestPack z h (omega arith)
+
+-- Seven such numbers can be held by the fields of a job, of a kind that has its pack.
+pub job-held : (kind : ℕ) (zs : List ℤ) → length zs ≡ 7 → Within zs → (kind ≡ 0 → hasPack zs ≡ false) → Held (jobLayout kind) zs
 unfolding each
-job-held zs six w =
+job-held kind zs seven w none =
     let weight : Between (pos 0) (pos heaviest) (theWeight zs) = weight-range (isCritical zs) (theWeight zs) (w .weight) in
     let long : Between (pos 0) (pos longest) (theLength zs) = omega (signed, w .long) in
-    let all : Held jobLayout (each (λ k. getD zs k (pos 0)) 0 6) =
+    let all : Held (jobLayout kind) (each (λ k. getD zs k (pos 0)) 0 7) =
     held (plain-held 6 63 (theNumber zs) (w .number) (omega arith))
+    (held (pack-held kind (thePack zs) (w .pack) none)
     (held (plain-held 1 1 (theMark zs) (w .mark) (omega arith))
     (held (plain-held 7 heaviest (theWeight zs) weight (omega arith))
     (held (time-in (w .ready))
     (held (plain-held 14 longest (theLength zs) long (omega arith))
-    (held (time-in (w .deadline)) no-field))))) in
-    rw (ext-each (pos 0) zs 6 six) at all
+    (held (time-in (w .deadline)) no-field)))))) in
+    rw (ext-each (pos 0) zs 7 seven) at all
 
 -- ---- the searches
 
@@ -157,13 +169,38 @@ repeated-no zs k = (there, back)
 
 -- ---- what it is to pass each stage
 
--- 1 to 5 on bytes.
+-- 1 to 5 and 19 on bytes.
 pub record HeaderFine (bytes : List ℕ) : Type 0 where
   pub long : 4 ≤ length bytes
-  pub spare : spareOf bytes ≡ 0
+  pub known : kindOf bytes ≤ 1
   pub few : countOf bytes ≤ mostJobs
-  pub whole : length bytes ≡ 4 + 8 * countOf bytes
+  pub whole : length bytes ≡ 4 + recordBytes (kindOf bytes) * countOf bytes
   pub timely : InTime (t0Of bytes)
+  pub kinded : kindFor (numbersOf bytes) ≡ kindOf bytes
+
+-- 19, where the kind is 0 or 1: it is the kind that the numbers are packed in.
+kinded-is : (bytes : List ℕ) → kindOf bytes ≤ 1
+    → (eqb (kindOf bytes) 1 && eqb (kindFor (numbersOf bytes)) 0) ≡ false ↔ (kindFor (numbersOf bytes) ≡ kindOf bytes)
+kinded-is bytes few = (there, back)
+  where
+    k : ℕ
+    k = kindOf bytes
+
+    m : ℕ
+    m = kindFor (numbersOf bytes)
+
+    there : (eqb k 1 && eqb m 0) ≡ false → m ≡ k
+    there e = cases (eqb k 1)
+        (λ one. cases (eqb m 0)
+        (λ z. absurd (true≢false (sym (and-eq-true-iff (eqb k 1) (eqb m 0) .1 (one, z)) ∙ e)))
+        (λ z. omega (arith, eqb-true k 1 one, eqb-false m 0 z, kind-few (numbersOf bytes))))
+        (λ zero. let old : k ≡ 0 = omega (arith, eqb-false k 1 zero, few) in kind-unpacked bytes old ∙ sym old)
+
+    back : m ≡ k → (eqb k 1 && eqb m 0) ≡ false
+    back e = cases (eqb k 1 && eqb m 0)
+        (λ y. let h = and-eq-true-iff (eqb k 1) (eqb m 0) .0 y in
+        absurd (omega (arith, eqb-true k 1 (h .0), eqb-true m 0 (h .1))))
+        (λ n. n)
 
 -- The checks say so.
 pub header-fine : (bytes : List ℕ) → judge (headerChecks bytes) ≡ fine ↔ HeaderFine bytes
@@ -173,28 +210,31 @@ header-fine bytes = (there, back)
     there : judge (headerChecks bytes) ≡ fine → HeaderFine bytes
     there e =
         let at = judge-at (headerChecks bytes) e in
+        let known : kindOf bytes ≤ 1 = ltb-false _ _ (at 1) in
         record {
           long = ltb-false _ _ (at 0);
-          spare = eqb-true _ _ (not-false _ (at 1));
+          known = known;
           few = ltb-false _ _ (at 2);
           whole = eqb-true _ _ (not-false _ (at 3));
           timely = between-true _ _ _ .0 (not-false _ (at 4));
+          kinded = kinded-is bytes known .0 (at 5);
         }
 
     back : HeaderFine bytes → judge (headerChecks bytes) ≡ fine
     back f =
         rw (
           le-ltb (length bytes) 4 (f .long),
-          eq-eqb (spareOf bytes) 0 (f .spare),
+          le-ltb 1 (kindOf bytes) (f .known),
           le-ltb mostJobs (countOf bytes) (f .few),
-          eq-eqb (length bytes) (4 + 8 * countOf bytes) (f .whole),
+          eq-eqb (length bytes) (4 + recordBytes (kindOf bytes) * countOf bytes) (f .whole),
           test-is (f .timely),
+          kinded-is bytes (f .known) .1 (f .kinded),
         )
 
 -- 3 to 5 on a bus-free time and numbers.
 pub record ListFine (t0 : ℤ) (zs : List ℤ) : Type 0 where
   pub few : jobCount zs ≤ mostJobs
-  pub whole : length zs ≡ 6 * jobCount zs
+  pub whole : length zs ≡ 7 * jobCount zs
   pub timely : InTime t0
 
 -- The checks say so.
@@ -205,12 +245,12 @@ list-fine t0 zs = (there, back)
     there : judge (listChecks t0 zs) ≡ fine → ListFine t0 zs
     there e =
         let at = judge-at (listChecks t0 zs) e in
-        let few : length zs ≤ 288 = ltb-false _ _ (at 0) in
-        let whole : length zs % 6 ≡ 0 = eqb-true _ _ (not-false _ (at 1)) in
+        let few : length zs ≤ 336 = ltb-false _ _ (at 0) in
+        let whole : length zs % 7 ≡ 0 = eqb-true _ _ (not-false _ (at 1)) in
         record { few = omega arith; whole = omega arith; timely = between-true _ _ _ .0 (not-false _ (at 2)) }
 
     back : ListFine t0 zs → judge (listChecks t0 zs) ≡ fine
-    back f = rw (le-ltb 288 (length zs) (omega arith), eq-eqb (length zs % 6) 0 (omega arith), test-is (f .timely))
+    back f = rw (le-ltb 336 (length zs) (omega arith), eq-eqb (length zs % 7) 0 (omega arith), test-is (f .timely))
 
 -- 6 and 7 on the numbers of all jobs.
 pub record JobsFine (zs : List ℤ) : Type 0 where

@@ -1,4 +1,4 @@
--- The refusals of orders. Checks 1 to 7, 9, 10 and 13 stand here once each, in stages: a call's refusals are the stages that it
+-- The refusals of orders. Checks 1 to 7, 9, 10, 13 and 19 stand here once each, in stages: a call's refusals are the stages that it
 -- names, one behind the other. Checks 6, 7, 9 and 13 are over the numbers of all jobs, for bytes and for numbers alike.
 -- Definitions only.
 use Prim.Native.Nat.{ℕ, suc, _+_, _*_, _%_}
@@ -7,15 +7,15 @@ use mathlib.Core.List.{List, [], _∷_, _++_}
 use lib.Dec.{ltb, eqb}
 use lib.IntN.{ℤ, pos}
 use lib.ListN.{length}
-use Rattle.seconds.specs.Limits.{highestNumber, longest, heaviest, mostWeight, mostJobs}
+use Rattle.seconds.specs.Limits.{highestNumber, highestPack, longest, heaviest, mostWeight, mostJobs}
 use Rattle.seconds.specs.Ranges.{same, isBetween, isTime}
 use Rattle.order.specs.Job.{weightOf}
 use Rattle.order.specs.Halves.{offendsAt}
-use Rattle.packed.specs.Layout.{headerBytes, jobBytes, jobNumbers}
+use Rattle.packed.specs.Layout.{headerBytes, recordBytes, jobNumbers}
 use Rattle.packed.specs.Places.{first}
 use Rattle.packed.specs.Judge.{Check, check, checkAt, checkField}
-use Rattle.packed.specs.Packed.{countOf, t0Of, spareOf, numbersOf, jobCount, fieldsAt, theNumber}
-use Rattle.packed.specs.Packed.{theMark, theWeight, theReady, theLength, theDeadline, isCritical, jobsOf}
+use Rattle.packed.specs.Packed.{countOf, t0Of, kindOf, numbersOf, jobCount, fieldsAt, theNumber}
+use Rattle.packed.specs.Packed.{kindFor, thePack, theMark, theWeight, theReady, theLength, theDeadline, isCritical, jobsOf}
 
 -- ---- one job
 
@@ -27,6 +27,7 @@ weightTest critical w = cond critical (isBetween (pos 0) (pos 0) w) (isBetween (
 abbrev pub fieldTests : List ℤ → List Bool
 fieldTests zs =
     isBetween (pos 0) (pos highestNumber) (theNumber zs)
+    ∷ isBetween (pos 0) (pos highestPack) (thePack zs)
     ∷ isBetween (pos 0) (pos 1) (theMark zs)
     ∷ weightTest (isCritical zs) (theWeight zs)
     ∷ isTime (theReady zs)
@@ -50,7 +51,7 @@ firstFailed at (b ∷ bs) =
     let later = firstFailed (suc at) bs in
     cond b later at
 
--- The first field of a job that is out of range: 1 is its number, 6 its deadline, 0 none.
+-- The first field of a job that is out of range: 1 is its number, 7 its deadline, 0 none.
 unfoldable pub badField : List ℤ → ℕ
 badField zs = firstFailed 1 (fieldTests zs)
 
@@ -95,14 +96,22 @@ firstOffending zs = first (offendsAt (jobsOf zs)) 0 (jobCount zs)
 -- ---- the checks, in stages
 
 -- 1 to 5 on bytes.
-unfoldable pub headerChecks : List ℕ → List Check
-headerChecks bytes =
+abbrev pub firstFive : List ℕ → List Check
+firstFive bytes =
     check 1 (ltb (length bytes) headerBytes)
-    ∷ check 2 (not (eqb (spareOf bytes) 0))
+    ∷ check 2 (ltb 1 (kindOf bytes))
     ∷ check 3 (ltb mostJobs (countOf bytes))
-    ∷ check 4 (not (eqb (length bytes) (headerBytes + jobBytes * countOf bytes)))
+    ∷ check 4 (not (eqb (length bytes) (headerBytes + recordBytes (kindOf bytes) * countOf bytes)))
     ∷ check 5 (not (isTime (t0Of bytes)))
     ∷ []
+
+-- 19: kind 1 where every pack is 0.
+abbrev pub kindChecks : List ℕ → List Check
+kindChecks bytes = check 19 (eqb (kindOf bytes) 1 && eqb (kindFor (numbersOf bytes)) 0) ∷ []
+
+-- Both, before a job is judged.
+unfoldable pub headerChecks : List ℕ → List Check
+headerChecks bytes = firstFive bytes ++ kindChecks bytes
 
 -- 3 to 5 on a bus-free time and numbers, in packing.
 unfoldable pub listChecks : ℤ → List ℤ → List Check
@@ -147,4 +156,4 @@ unpackChecks bytes room = orderChecks bytes ++ roomChecks (jobNumbers * countOf 
 
 -- Packing, with room for so many bytes.
 abbrev pub packChecks : ℤ → List ℤ → ℕ → List Check
-packChecks t0 zs room = numberChecks t0 zs ++ roomChecks (headerBytes + jobBytes * jobCount zs) room
+packChecks t0 zs room = numberChecks t0 zs ++ roomChecks (headerBytes + recordBytes (kindFor zs) * jobCount zs) room

@@ -5,7 +5,7 @@ use lib.IntN.{pos}
 use Rattle.heat.specs.Answer.{refusalOf as heatRefusal, lengthOf}
 use Rattle.heat.specs.declared.Heating.{Heating}
 use Rattle.packed.specs.declared.Refusal.{Refusal}
-use Rattle.packed.specs.Packed.{theNumber, theMark, theWeight, theReady, theLength, theDeadline}
+use Rattle.packed.specs.Packed.{theNumber, thePack, theMark, theWeight, theReady, theLength, theDeadline}
 use Rattle.unpack.specs.Answer.{refusalOf as unpackRefusal, jobsUnpacked, t0Unpacked}
 use Rattle.unpack.specs.declared.Unpacked.{Unpacked}
 use Rattle.pack.specs.Answer.{refusalOf as packRefusal, bytesWritten}
@@ -56,6 +56,7 @@ noJob r end next =
       field = r .field;
       end = end;
       number = pos 0;
+      pack = pos 0;
       critical = pos 0;
       weight = pos 0;
       ready = pos 0;
@@ -73,6 +74,7 @@ stepNumbers m =
       field = readRefusal (m .answer) .field;
       end = readEnd (m .answer);
       number = theNumber (readNumbers (m .answer));
+      pack = thePack (readNumbers (m .answer));
       critical = theMark (readNumbers (m .answer));
       weight = theWeight (readNumbers (m .answer));
       ready = theReady (readNumbers (m .answer));

@@ -11,9 +11,12 @@ use mir.Facts.{toZ-ofZ, toZ-pos}
 use Rattle.seconds.specs.Limits.{heaviest, longestFrame}
 use Rattle.seconds.specs.Signed.{signed}
 use Rattle.seconds.specs.Ranges.{same, Between}
+use Rattle.packed.specs.LayoutLaws.{bytes-old}
+use Rattle.packed.specs.Packed.{hasPack}
 use Rattle.packed.specs.Refusals.{fieldsWithin}
 use Rattle.packed.specs.RefusalLaws.{within-is, weight-range}
-use Rattle.fields.specs.Fields.{fieldsOf, JobRoom}
+use Rattle.fields.specs.Fields.{fieldsOf}
+use Rattle.fields.specs.Asked.{JobRoom}
 use Rattle.fields.specs.declared.Job.{Job}
 use Rattle.frames.specs.Frames.{jobsGiven, periodAt, Repeat, numbersFor, repeatAt, madeOf}
 use Rattle.frames.specs.RepeatsLaws.{at-place}
@@ -40,6 +43,7 @@ module _ {number ready : ℕ} {j : Repeating} (can : CanMake number ready (numbe
   -- The numbers that the code makes are those of the repeat.
   pub job-made : fieldsOf (record {
     number = toZ w32 number;
+    pack = pos 0;
     critical = toZ w32 (ofZ w32 (j .critical));
     weight = toZ w32 (ofZ w32 (j .weight));
     ready = toZ w32 ready;
@@ -111,9 +115,10 @@ module _ {zs : List ℤ} {k : ℕ} {next order : List ℕ} (can : CanPut zs k ne
         pub job-next : fieldsOf job ≡ numbersFor zs k (repeatAt zs k)
         job-next = made ∙ made-next
 
-        pub job-room : JobRoom order (4 + 8 * k) job
+        pub job-room : JobRoom order (4 + 8 * k) 0 job
         job-room =
+            let within = within-is (numbersFor zs k (repeatAt zs k)) .1 (made-within (can .making) k (can .more)) in
             record {
-              room = omega (arith, can .more, can .room);
-              within = ap fieldsWithin job-next ∙ within-is (numbersFor zs k (repeatAt zs k)) .1 (made-within (can .making) k (can .more));
+              room = omega (arith, can .more, can .room, bytes-old);
+              fits = record { within = ap fieldsWithin job-next ∙ within; kinded = λ e. ap hasPack job-next };
             }

@@ -1,5 +1,5 @@
-// The repeats of a frame, picked one by one in their sequence and written as the jobs of a packed order behind its header (R42).
-// Assumes nothing.
+// The repeats of a frame, picked one by one in their sequence and written as the jobs of a packed order of kind 0 behind its header
+// (R42). Assumes nothing.
 ghost use mathlib.Core.Path.{_≡_};
 ghost use mathlib.Core.List.{_++_};
 ghost use Prim.Native.Nat.{_+_, _*_};
@@ -46,7 +46,7 @@ fn set_first(numbers: &[i32], next: &mut [u32])
     }
 }
 
-// A repeat as a job of the order, numbered by its place there, its deadline set by its ready time.
+// A repeat as a job of the order, numbered by its place there, with pack 0, its deadline set by its ready time.
 fn job_of(number: usize, ready: u32, job: Repeating) -> Job
     requires { ⌜ CanMake number ready (numbersIn job) ⌝ }
     ensures { λ r. ⌜ fieldsOf r ≡ madeOf number ready (numbersIn job) ⌝ }
@@ -54,6 +54,7 @@ fn job_of(number: usize, ready: u32, job: Repeating) -> Job
     let ready = ready as i32;
     Job {
         number: number as i32,
+        pack: 0,
         critical: job.critical,
         weight: job.weight,
         ready: ready,
@@ -67,20 +68,20 @@ fn put_next(numbers: &[i32], k: usize, next: &mut [u32], order: &mut [u8])
     requires { ⌜ CanPut (now numbers) k (now next) (now order) ⌝ }
     ensures moves { λ _. ⌜ Reached (now (numbers .entry)) (now (next .exit)) (k + 1) ⌝ }
     ensures writes { λ _. ⌜ now (order .exit) ≡ take (4 + 8 * k) (now (order .entry))
-        ++ bytesOf 8 (encode jobLayout (numbersFor (now (numbers .entry)) k (repeatAt (now (numbers .entry)) k)))
+        ++ bytesOf 8 (encode (jobLayout 0) (numbersFor (now (numbers .entry)) k (repeatAt (now (numbers .entry)) k)))
         ++ drop (4 + 8 * k + 8) (now (order .entry)) ⌝ }
 {
     let place = least(next, numbers.len() / 6);
     let ready = next[place];
     let job = repeating_at(numbers, 6 * place);
     next[place] = ready + count_of(job.period);
-    fields::put_job(order, 4 + 8 * k, job_of(k, ready, job));
+    fields::put_job(order, 4 + 8 * k, 0, job_of(k, ready, job));
 }
 
 // Writes the repeats of a frame behind the header, in their sequence.
 pub fn write_repeats(numbers: &[i32], count: usize, order: &mut [u8])
     requires { ⌜ CanWrite (now numbers) count (now order) ⌝ }
-    ensures { λ _. ⌜ now (order .exit) ≡ firstRecords (frameNumbers (now (numbers .entry))) count (now (order .entry)) ⌝ }
+    ensures { λ _. ⌜ now (order .exit) ≡ firstRecords 0 (frameNumbers (now (numbers .entry))) count (now (order .entry)) ⌝ }
 {
     let mut next = [0u32; MOST_REPEATING];
     set_first(numbers, &mut next);

@@ -11,7 +11,7 @@ ghost use Rattle.report.specs.Report.{reportOf, longestOrder};
 
 // One byte more than the longest order has: any longer input has the text of its first bytes (`read-enough`
 // of report).
-const READ: usize = 389;
+const READ: usize = 437;
 
 // The first bytes of standard input, into room for more than the longest order. A slow pipe is waited for.
 fn read(input: &mut [u8]) -> usize

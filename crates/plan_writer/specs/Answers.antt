@@ -15,14 +15,14 @@ use Rattle.plan.specs.Plan.{plan, Answer, answerOf, planAnswer}
 use Rattle.plan.specs.PlanIs.{plan-none}
 use Rattle.packed.specs.declared.Refusal.{Refusal}
 use Rattle.packed.specs.Judge.{inField, Verdict, fine, refused, judge}
-use Rattle.packed.specs.JudgeLaws.{stages-fine}
+use Rattle.packed.specs.JudgeLaws.{stages-fine, never}
 use Rattle.packed.specs.Packed.{numbersOf, orderOf}
 use Rattle.packed.specs.Refusals.{headerChecks, jobChecks, weightChecks, roomChecks, orderChecks}
 use Rattle.packed.specs.RefusalLaws.{room-fine}
 use Rattle.packed.specs.RefusalPlaces.{BadField, RefusalIs, nowhere, SixIs, six-order, answer-refusal, answer-says}
 use Rattle.packed_plan.specs.Plan.{planBytes, startsKept, maskIn, startsIn}
 use Rattle.area.specs.Area.{area}
-use Rattle.judge.specs.Told.{up-to-ten, Named, named-rooms, named-order, six-rooms}
+use Rattle.judge.specs.Told.{Named, named-rooms, named-order, six-rooms}
 use Rattle.plan_writer.specs.Calls.{planRoom, writeChecks, writeVerdict, bytesFor, writtenBy, outBy, WriteCall}
 use Rattle.plan_writer.specs.OwnPlans.{OwnPlan, own-plan, own-length, own-mask, own-kept}
 use Rattle.pack.specs.Answer.{refusalOf}
@@ -46,10 +46,10 @@ module _ (order out : List ℕ) (work : List ℤ) where
         λ h. all .1 (first .1 (h .0, room .1 (h .1)), longest .1 (h .2)),
       )
 
-  -- No refusal by them has a number above 10.
-  write-ten : {r : Refusal} → writeVerdict order out work ≡ refused r → r .number ≤ 10
+  -- No refusal by them is 11.
+  write-not-eleven : {r : Refusal} → writeVerdict order out work ≡ refused r → r .number ≢ 11
   unfolding writeChecks headerChecks jobChecks weightChecks
-  write-ten = up-to-ten (writeChecks order out work) tt
+  write-not-eleven = never 11 (writeChecks order out work) tt
 
   -- They name a place with 6 and 7, and a field with 6;
   write-named : Named (numbersOf order) (writeChecks order out work)
@@ -132,7 +132,7 @@ module _ (order out : List ℕ) (work : List ℤ) {r : Packed} {out′ : List �
           let passed = write-passed order out work .0 d in
           record { accepted = passed .0; out-room = passed .1; work-room = passed .2; none = without .0 is }
       there fine d (some a) is e = absurd (omega arith)
-      there (refused s) d o is e = absurd (omega (arith, write-ten order out work d))
+      there (refused s) d o is e = absurd (write-not-eleven order out work d e)
 
       back : NoneFeasible order out work → number r ≡ 11
       back h =

@@ -19,14 +19,14 @@ use Rattle.plan.specs.PlanIs.{plan-none, plan-is}
 use Rattle.plan.specs.Figures.{answer-figures}
 use Rattle.packed.specs.declared.Refusal.{Refusal}
 use Rattle.packed.specs.Judge.{inField, plainly, noRefusal, Verdict, fine, refused, judge}
-use Rattle.packed.specs.JudgeLaws.{stages-fine}
+use Rattle.packed.specs.JudgeLaws.{never, stages-fine}
 use Rattle.packed.specs.Packed.{countOf, numbersOf, orderOf}
 use Rattle.packed.specs.Refusals.{headerChecks, jobChecks, weightChecks, roomChecks, orderChecks}
 use Rattle.packed.specs.RefusalLaws.{room-fine}
 use Rattle.packed.specs.Accepted.{order-within}
 use Rattle.packed.specs.RefusalPlaces.{BadField, RefusalIs, nowhere, SixIs, six-order, answer-refusal, answer-says}
 use Rattle.area.specs.Area.{area}
-use Rattle.judge.specs.Told.{up-to-ten, Named, named-rooms, named-order, six-rooms}
+use Rattle.judge.specs.Told.{Named, named-rooms, named-order, six-rooms}
 use Rattle.starting.specs.Picks.{jobsKept}
 use Rattle.starting.specs.PicksLaws.{kept-list}
 use Rattle.planner.specs.Calls.{planChecks, planVerdict, figuresOf, plannedBy, plannedOf, PlanCall}
@@ -91,10 +91,15 @@ module _ (bytes : List ℕ) (starts work : List ℤ) where
         λ h. all .1 (first .1 (h .0, room .1 (h .1)), longest .1 (h .2)),
       )
 
-  -- No refusal by them has a number above 10.
-  pub plan-ten : {r : Refusal} → planVerdict bytes starts work ≡ refused r → r .number ≤ 10
+  -- None of them gives 11.
+  pub plan-other : {r : Refusal} → planVerdict bytes starts work ≡ refused r → r .number ≢ 11
   unfolding planChecks headerChecks jobChecks weightChecks
-  plan-ten = up-to-ten (planChecks bytes starts work) tt
+  plan-other = never 11 (planChecks bytes starts work) tt
+
+  -- Nor 13.
+  pub plan-no-thirteen : {r : Refusal} → planVerdict bytes starts work ≡ refused r → r .number ≢ 13
+  unfolding planChecks headerChecks jobChecks weightChecks
+  plan-no-thirteen = never 13 (planChecks bytes starts work) tt
 
   -- They name a place with 6 and 7, and a field with 6;
   plan-named : Named (numbersOf bytes) (planChecks bytes starts work)
@@ -169,7 +174,7 @@ module _ (bytes : List ℕ) (starts work : List ℤ) {r : Planned} {starts′ wo
           let passed = plan-passed bytes starts work .0 d in
           record { order = passed .0; places = passed .1; work-room = passed .2; none = without .0 is }
       there fine d (some a) is e = absurd (omega arith)
-      there (refused r) d o is e = absurd (omega (arith, plan-ten bytes starts work d))
+      there (refused r) d o is e = absurd (plan-other bytes starts work d e)
 
       back : NoneFeasible bytes starts work → planNumbers r .refusal .number ≡ 11
       back h =

@@ -2,22 +2,22 @@
 -- gives job by job.
 use Prim.Native.Nat.{ℕ, _+_, _≤_, _<_}
 use mathlib.Core.Path.{_≡_, refl, sym, ap, subst, _∙_}
-use mathlib.Core.Bool.{Bool, true, false, _&&_, and-eq-true-iff}
+use mathlib.Core.Bool.{Bool, true, false, _&&_, _||_, and-eq-true-iff}
 use mathlib.Core.Logic.{_↔_, _≢_}
 use mathlib.Core.List.{List, [], _∷_}
 use native.Mathlib.Omega.{arith}
-use lib.Dec.{T, ltb, leb, eqb, leb→le, eqb→eq}
+use lib.Dec.{T, ltb, leb, eqb, eqb→eq}
 use lib.Ieee.Fits.{and-l, and-r}
 use lib.IntN.{ℤ}
 use borrow.Author.Tests.{ltb-true, not-true, lt-ltb, le-ltb}
 use borrow.Table.Steps.{cases}
 use Rattle.packed.specs.declared.Refusal.{Refusal}
 use Rattle.packed.specs.Judge.{inField, plainly, noRefusal, Check, Verdict, fine, refused, judge, orElse}
-use Rattle.packed.specs.JudgeLaws.{judge-append, Tells, judge-tells}
+use Rattle.packed.specs.JudgeLaws.{judge-append, Tells, judge-tells, number-passes}
 use Rattle.packed.specs.LayoutLaws.{job-decode}
 use Rattle.packed.specs.Places.{flat}
 use Rattle.packed.specs.PlacesLaws.{flat-cong}
-use Rattle.packed.specs.Packed.{countOf, jobWord, jobFields, numbersOf, fieldsAt}
+use Rattle.packed.specs.Packed.{kindOf, countOf, jobWord, jobFields, numbersOf, fieldsAt}
 use Rattle.packed.specs.PackedLaws.{fields-is, numbers-is, numbers-count, fields-of-numbers}
 use Rattle.packed.specs.Refusals.{fieldsWithin, badField, headerChecks, orderChecks}
 use Rattle.packed.specs.RefusalLaws.{HeaderFine, header-fine, within-is}
@@ -35,9 +35,9 @@ use Rattle.reader.specs.declared.Moved.{Moved}
 pub made-again : (job : Job) {zs : List ℤ} → fieldsOf job ≡ zs → job ≡ jobFrom zs
 made-again job e = ap jobFrom e
 
--- The bytes of a job say six numbers.
-pub six-numbers : (bytes : List ℕ) (place : ℕ) → fieldsOf (jobFrom (jobFields bytes place)) ≡ jobFields bytes place
-six-numbers bytes place = rw (fields-is bytes place, job-decode (jobWord bytes place))
+-- The bytes of a job say seven numbers.
+pub seven-numbers : (bytes : List ℕ) (place : ℕ) → fieldsOf (jobFrom (jobFields bytes place)) ≡ jobFields bytes place
+seven-numbers bytes place = rw (fields-is bytes place, job-decode (kindOf bytes) (jobWord bytes place))
 
 -- ---- each case
 
@@ -75,10 +75,13 @@ module _ (bytes : List ℕ) (place : ℕ) where
 
 -- ---- the refusals that the reader gives
 
--- A refusal of bytes that are not accepted: 1 to 5, with no place and no field.
+-- The numbers of the checks on a header: 1 to 5 and 19.
+abbrev pub ofHeader : ℕ → Bool
+ofHeader n = (leb 1 n && leb n 5) || eqb n 19
+
+-- A refusal of bytes that are not accepted: one of these, with no place and no field.
 pub record Unaccepted (r : Refusal) : Type 0 where
-  pub low : 1 ≤ r .number
-  pub high : r .number ≤ 5
+  pub number : T (ofHeader (r .number))
   pub plain : r ≡ plainly (r .number)
 
 -- Bytes that are accepted have a job at a place, it is out of range, and this is its first field that is.
@@ -94,27 +97,29 @@ pub data StepRefusal (bytes : List ℕ) (place : ℕ) : Refusal → Type 0 where
   unaccepted : {r : Refusal} → Unaccepted r → StepRefusal bytes place r
   bad : {f : ℕ} → BadHere bytes place f → StepRefusal bytes place (inField 6 place f)
 
--- Checks 1 to 5, with no place and no field.
-abbrev oneToFive : List Check → Bool
-oneToFive [] = true
-oneToFive (c ∷ cs) =
-    leb 1 (c .says .number) && (leb (c .says .number) 5
-    && (eqb (c .says .place) 0 && (eqb (c .says .field) 0 && oneToFive cs)))
+-- Such checks, with no place and no field.
+abbrev onHeader : List Check → Bool
+onHeader [] = true
+onHeader (c ∷ cs) =
+    ofHeader (c .says .number) && (eqb (c .says .place) 0 && (eqb (c .says .field) 0 && onHeader cs))
 
-one-to-five-tell : (cs : List Check) → T (oneToFive cs) → Tells Unaccepted cs
-one-to-five-tell [] t = tt
-one-to-five-tell (c ∷ cs) t =
-    let low : 1 ≤ c .says .number = leb→le 1 (c .says .number) (search and-l) in
-    let high : c .says .number ≤ 5 = leb→le (c .says .number) 5 (search (and-l, and-r)) in
+on-header-tell : (cs : List Check) → T (onHeader cs) → Tells Unaccepted cs
+on-header-tell [] t = tt
+on-header-tell (c ∷ cs) t =
+    let number : T (ofHeader (c .says .number)) = search and-l in
     let place : c .says .place ≡ 0 = eqb→eq (c .says .place) 0 (search (and-l, and-r)) in
     let field : c .says .field ≡ 0 = eqb→eq (c .says .field) 0 (search (and-l, and-r)) in
     let plain : c .says ≡ plainly (c .says .number) = λ i. inField (c .says .number) (place i) (field i) in
-    (λ _. record { low = low; high = high; plain = plain }, one-to-five-tell cs (search (and-l, and-r)))
+    (λ _. record { number = number; plain = plain }, on-header-tell cs (search (and-l, and-r)))
 
 -- Opening is refused so.
 pub open-refusal : (bytes : List ℕ) {r : Refusal} → judge (headerChecks bytes) ≡ refused r → Unaccepted r
 unfolding headerChecks
-open-refusal bytes = judge-tells Unaccepted (headerChecks bytes) (one-to-five-tell (headerChecks bytes) tt)
+open-refusal bytes = judge-tells Unaccepted (headerChecks bytes) (on-header-tell (headerChecks bytes) tt)
+
+-- The numbers of a step.
+abbrev pub ofReader : ℕ → Bool
+ofReader n = leb n 6 || eqb n 19
 
 module _ (bytes : List ℕ) (place : ℕ) where
   -- A step is refused so.
@@ -147,14 +152,14 @@ module _ (bytes : List ℕ) (place : ℕ) where
       go fine e = cases (ltb place (countOf bytes)) (λ t. rw t none) (λ t. rw t none)
       go (refused r) e = one (step-refusal e)
 
-  -- Its number is at most 6: 7 and 9 are not judged.
-  pub step-to-six : readRefusal (stepOf bytes place .answer) .number ≤ 6
-  step-to-six = told step-said
+  -- Its number is at most 6, or 19: 7 and 9 are not judged.
+  pub step-numbers : T (ofReader (readRefusal (stepOf bytes place .answer) .number))
+  unfolding headerChecks
+  step-numbers = go (judge (stepChecks bytes place)) refl
     where
-      told : {r : Refusal} → StepSaid r → r .number ≤ 6
-      told none = omega arith
-      told (one (unaccepted u)) = omega (arith, u .high)
-      told (one (bad b)) = omega arith
+      go : (v : Verdict) → judge (stepChecks bytes place) ≡ v → T (ofReader (readRefusal (steppedBy bytes place v .answer) .number))
+      go fine e = cases (ltb place (countOf bytes)) (λ t. rw t tt) (λ t. rw t tt)
+      go (refused r) e = number-passes ofReader (stepChecks bytes place) tt e
 
   -- It is 6 with a place and a field exactly when the bytes are accepted, the reader stands at that place, the job there is out
   -- of range, and that is its first field that is.
@@ -163,7 +168,7 @@ module _ (bytes : List ℕ) (place : ℕ) where
     where
       there : {r : Refusal} → StepSaid r → r ≡ inField 6 p f → (p ≡ place) × BadHere bytes place f
       there none e = absurd (omega (arith, ap (λ (r : Refusal). r .number) e))
-      there (one (unaccepted u)) e = absurd (omega (arith, u .high, ap (λ (r : Refusal). r .number) e))
+      there (one (unaccepted u)) e = absurd (rw (ap (λ (r : Refusal). r .number) e) at (u .number))
       there (one (bad b)) e =
           (ap (λ (r : Refusal). r .place) (sym e), subst (BadHere bytes place) (ap (λ (r : Refusal). r .field) e) b)
 
@@ -224,7 +229,7 @@ module _ (bytes : List ℕ) (order : judge (orderChecks bytes) ≡ fine) where
       let here = fields-of-numbers bytes place h in
       let w = within-is (fieldsAt (numbersOf bytes) place) .1 (ok .jobs .within place (rw (numbers-count bytes) h)) in
       ap (λ (m : Moved). readNumbers (m .answer)) (step-job bytes place (header-fine bytes .1 (ok .header)) h (rw here at w))
-      ∙ six-numbers bytes place ∙ sym here
+      ∙ seven-numbers bytes place ∙ sym here
 
   -- All of them are all numbers of the order.
   pub read-all : flat (λ place. readNumbers (stepOf bytes place .answer)) (countOf bytes) ≡ numbersOf bytes

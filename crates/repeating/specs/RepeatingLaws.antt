@@ -3,12 +3,13 @@
 use Prim.Native.Nat.{ℕ, suc, _+_, _*_, _/_, _%_, _^_, _≤_, _<_}
 use mathlib.Core.Path.{_≡_, refl, sym, ap, ap₂, _∙_}
 use mathlib.Core.Bool.{Bool, true, false, not, cond, _&&_}
-use mathlib.Core.List.{List}
+use mathlib.Core.List.{List, [], _∷_}
 use native.Mathlib.Nat.{mul-le-mul, div-le-self}
 use native.Mathlib.Omega.{arith}
 use lib.Dec.{T, ltb, eqb}
 use lib.IntN.{ℤ, pos, negsuc, natAbs, _+ℤ_, _-ℤ_}
-use lib.ListN.{length, take, drop}
+use lib.ListN.{length, getD, take, drop, length-drop}
+use lib.Seq.{length-take-le, getD-take, getD-drop}
 use lib.Signed.{leZ, _≤ℤ_, nonNeg, mag}
 use mir.Syntax.{w32}
 use mir.Val.{Fits, SFits, toZ, ofZ, hbits}
@@ -20,7 +21,7 @@ use Rattle.seconds.specs.RangesLaws.{between-true, same-is}
 use Rattle.multiples.specs.Multiples.{lcm, lcmFrom, AllPositive}
 use Rattle.multiples.specs.MultiplesLaws.{lcm-above, from-positive, from-more}
 use Rattle.packed.specs.Places.{part, each, first}
-use Rattle.packed.specs.PlacesLaws.{each-end, each-more, first-on, first-here}
+use Rattle.packed.specs.PlacesLaws.{ext-each, each-end, each-more, each-cong, first-on, first-here}
 use Rattle.packed.specs.Judge.{plainly, atPlace, fine, refused, judge}
 use Rattle.packed.specs.Refusals.{weightTest}
 use Rattle.packed.specs.RefusalLaws.{all-at, weight-range}
@@ -76,6 +77,20 @@ fromBits j =
 pub numbers-kept : (j : Repeating) → RepeatingFits j → numbersIn (fromBits j) ≡ numbersIn j
 numbers-kept j f =
     rw (toZ-ofZ (f .critical), toZ-ofZ (f .weight), toZ-ofZ (f .phase), toZ-ofZ (f .long), toZ-ofZ (f .deadline), toZ-ofZ (f .period))
+
+-- Its six numbers at a place of a list, read one by one.
+pub six-read : (l : List ℤ) (at : ℕ) → at + 6 ≤ length l
+    → getD l at (pos 0) ∷ getD l (at + 1) (pos 0) ∷ getD l (at + 2) (pos 0) ∷ getD l (at + 3) (pos 0) ∷ getD l (at + 4) (pos 0)
+    ∷ getD l (at + 5) (pos 0) ∷ [] ≡ take 6 (drop at l)
+unfolding each
+six-read l at h =
+    let numbers : List ℤ = take 6 (drop at l) in
+    let here : at + 0 ≡ at = omega arith in
+    let all : length numbers ≡ 6 = length-take-le 6 (drop at l) (omega (arith, length-drop at l)) in
+    rw here at
+    (each-cong (λ k. getD l (at + k) (pos 0)) (λ k. getD numbers k (pos 0)) 0 6
+    (λ k a b. sym (getD-take 6 (drop at l) k (pos 0) b ∙ getD-drop at l k (pos 0)))
+    ∙ ext-each (pos 0) numbers 6 all)
 
 -- A number of it that is not negative, as the code casts it.
 pub count-casts : (z : ℤ) → SFits w32 z → pos 0 ≤ℤ z

@@ -4,10 +4,10 @@ use mathlib.Core.List.{List, [], _∷_}
 use Prim.Native.Nat.{ℕ}
 use Rattle.seconds.specs.Limits.{rest}
 use Rattle.seconds.specs.Twos.{bitsTo}
-use Rattle.packed.specs.Layout.{decode, numberOf}
+use Rattle.packed.specs.Layout.{decode, numberOf, recordBytes}
 use Rattle.packed.specs.Places.{part, flat, each, first}
-use Rattle.packed.specs.Packed.{headerWord, headerOf, countOf, t0Of, spareOf, recordAt, jobWord, jobFields, numbersOf}
-use Rattle.packed.specs.Packed.{jobCount, fieldsAt, jobOf, jobsOf, orderOf}
+use Rattle.packed.specs.Packed.{headerWord, headerOf, countOf, t0Of, kindOf, recordAt, jobWord, jobFields, numbersOf}
+use Rattle.packed.specs.Packed.{jobCount, fieldsAt, firstPacked, kindFor, jobOf, jobsOf, orderOf}
 use Rattle.packed.specs.Refusals.{fieldsWithin, badField, firstBad, numberAt, firstRepeat, headerChecks, jobChecks, weightChecks}
 use Rattle.text.specs.Decimal.{digitsIn, digits, figure}
 use Rattle.report.specs.Report.{refusalLine, planLine, startWord, jobLine, jobLines, planText, textOf, reportOf}
@@ -34,7 +34,7 @@ morningText =
 
 -- So it is.
 pub morning-printed : reportOf morningBytes ≡ morningText
-unfolding rest bitsTo decode numberOf part flat each first headerWord headerOf countOf t0Of spareOf recordAt jobWord jobFields
-    numbersOf jobCount fieldsAt jobOf jobsOf orderOf fieldsWithin badField firstBad numberAt firstRepeat headerChecks jobChecks
+unfolding rest bitsTo decode numberOf part flat each first headerWord headerOf countOf t0Of kindOf recordBytes recordAt jobWord jobFields
+    numbersOf jobCount fieldsAt firstPacked kindFor jobOf jobsOf orderOf fieldsWithin badField firstBad numberAt firstRepeat headerChecks jobChecks
     weightChecks digitsIn digits figure refusalLine planLine startWord jobLine jobLines planText textOf reportOf
 morning-printed = refl

@@ -37,10 +37,10 @@ abbrev Early : Refusal → Type 0
 Early r = r .place ≤ mostJobs
 
 module _ (bytes : List ℕ) where
-  -- Up to 5 there is none,
+  -- On a header there is none,
   header-early : Tells Early (headerChecks bytes)
   unfolding headerChecks
-  header-early = (λ e. zero-le, (λ e. zero-le, (λ e. zero-le, (λ e. zero-le, (λ e. zero-le, tt)))))
+  header-early = (λ e. zero-le, (λ e. zero-le, (λ e. zero-le, (λ e. zero-le, (λ e. zero-le, (λ e. zero-le, tt))))))
 
   -- and behind that the jobs are few.
   jobs-early : countOf bytes ≤ mostJobs → Tells Early (jobChecks (numbersOf bytes))

@@ -1,6 +1,6 @@
 -- The lines as the code puts them together, and the jobs' lines place by place.
-use Prim.Native.Nat.{ℕ, _+_, _*_, _<_}
-use mathlib.Core.Path.{_≡_, refl, ap}
+use Prim.Native.Nat.{ℕ, _+_, _<_}
+use mathlib.Core.Path.{_≡_, ap}
 use mathlib.Core.Bool.{true}
 use mathlib.Core.Logic.{_≢_}
 use mathlib.Core.List.{List, [], _∷_, _++_, append-assoc, append-nil}
@@ -8,7 +8,7 @@ use native.Mathlib.Numerals.{add-one}
 use native.Mathlib.Omega.{arith}
 use lib.Dec.{T}
 use lib.IntN.{ℤ, pos, natAbs}
-use lib.ListN.{length, take, drop, getD}
+use lib.ListN.{length, take, getD}
 use lib.Seq.{take-suc, length-take-le}
 use lib.Signed.{nonNeg}
 use mir.Syntax.{w32}
@@ -22,7 +22,6 @@ use Rattle.order.specs.Job.{Job, allowed}
 use Rattle.order.specs.Choice.{startOf}
 use Rattle.order.specs.Moves.{pick-holds}
 use Rattle.order.specs.Within.{JobWithin}
-use Rattle.packed.specs.Layout.{decode, jobLayout, numberOf}
 use Rattle.packed.specs.Places.{each}
 use Rattle.packed.specs.PlacesLaws.{each-more, each-end, length-each}
 use Rattle.packed.specs.declared.Refusal.{Refusal}
@@ -31,7 +30,6 @@ use Rattle.packed.specs.PackedLaws.{fields-of-numbers, numbers-count, order-job
 use Rattle.packed.specs.RefusalLaws.{Within}
 use Rattle.packed.specs.Accepted.{OrderFine}
 use Rattle.fields.specs.Fields.{fieldsOf}
-use Rattle.fields.specs.Facts.{read-at}
 use Rattle.fields.specs.declared.Job.{Job as Numbers}
 use Rattle.planner.specs.declared.Figures.{Figures}
 use Rattle.text.specs.Decimal.{newline, space, minus, digits, figure}
@@ -72,10 +70,10 @@ kept-told j x free within may kept =
 -- ---- the number of a job that was read at a place of an accepted order
 
 module _ (bytes : List ℕ) (order : OrderFine bytes) (k : ℕ) (below : k < countOf bytes) (job : Numbers)
-    (is : fieldsOf job ≡ decode jobLayout (numberOf (take 8 (drop (4 + 8 * k) bytes)))) where
+    (is : fieldsOf job ≡ jobFields bytes k) where
   -- Its numbers are those of the place,
   fields : fieldsOf job ≡ jobFields bytes k
-  fields = read-at bytes k (4 + 8 * k) job refl is
+  fields = is
 
   -- so it is from 0 to 63.
   number-in : Between (pos 0) (pos 63) (job .number)

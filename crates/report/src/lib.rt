@@ -2,7 +2,7 @@
 // a lent buffer. Assumes nothing.
 use area::AREA;
 use fields::header_at;
-use fields::job_at;
+use fields::job_in;
 use packed::Refusal;
 use planner::Figures;
 use planner::Planned;
@@ -116,7 +116,7 @@ fn put_jobs(out: &mut [u8], at: usize, bytes: &[u8], n: usize, starts: &[i32]) -
     let mut next = at;
     let mut i = 0;
     while i < n {
-        let job = job_at(bytes, 4 + 8 * i);
+        let job = job_in(bytes, i);
         let number = job.number;
         let start = starts[i];
         next = put_job(out, next, number as u32, start);

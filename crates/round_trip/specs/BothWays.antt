@@ -51,9 +51,9 @@ module _ {bytes : List ℕ} (u : Unpacking bytes) where
   abbrev pub numbersLeft : List ℤ
   numbersLeft = u .exit .1 .0 .now
 
-  -- The numbers that it wrote, six for each job.
+  -- The numbers that it wrote, seven for each job.
   abbrev pub unpacked : List ℤ
-  unpacked = take (6 * jobsTold) numbersLeft
+  unpacked = take (7 * jobsTold) numbersLeft
 
 -- A call that packs a bus-free time and some numbers; it is also lent bytes to write to.
 pub record Packing (t0 : ℤ) (numbers : List ℤ) : Type 0 where
@@ -105,3 +105,11 @@ abbrev pub PackedThenUnpacked : Type 0
 PackedThenUnpacked =
     (t0 : ℤ) (numbers : List ℤ) (p : Packing t0 numbers) → Packs p
     → (u : Unpacking (packed p)) → length numbers ≤ length (numbersLent u) → SameNumbers t0 numbers u
+
+-- ---- one form
+
+-- Two packed orders that unpacking accepts, and tells the same bus-free time and numbers of, are the same bytes, of the same kind.
+abbrev pub OneForm : Type 0
+OneForm =
+    (first second : List ℕ) → AreBytes first → AreBytes second → (u : Unpacking first) (v : Unpacking second) → Unpacks u → Unpacks v
+    → timeTold u ≡ timeTold v → unpacked u ≡ unpacked v → first ≡ second

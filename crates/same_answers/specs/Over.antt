@@ -25,7 +25,8 @@ use Rattle.extending.specs.declared.Extended.{Extended}
 use Rattle.extending.specs.Calls.{profileGiven, extendVerdict, extendedBy, outBy}
 use Rattle.ties.specs.declared.Chosen.{Chosen}
 use Rattle.ties.specs.Winning.{TieRule, byPoints}
-use Rattle.choosing.specs.Choosing.{choosingVerdict, chosenBy, partOf, placeOf}
+use Rattle.choosing.specs.Choosing.{choosingVerdict, chosenBy, partOf, placeOf, kindWon}
+use Rattle.openings.specs.declared.Answer.{Answer as Told}
 use Rattle.plan_writer.specs.Calls.{writeVerdict, writtenBy, outBy as bytesBy}
 use Rattle.checking.specs.declared.Checked.{Checked}
 use Rattle.checking.specs.Calls.{legalIn, checkedBy}
@@ -81,14 +82,22 @@ extendOver w ns bytes out work =
 abbrev pub pointOver : Way → List ℕ → ℤ → Option Point
 pointOver w bytes t = w .pointAt (orderOf bytes .t0) (orderOf bytes .jobs) t
 
-abbrev pub questionOver : Way → TieRule → List ℕ → List ℕ → ℤ → List ℤ → Chosen
-questionOver w rule first second t work =
+-- Which opening wins.
+abbrev pub chosenOver : Way → TieRule → List ℕ → List ℕ → ℤ → List ℤ → Chosen
+chosenOver w rule first second t work =
     chosenBy (choosingVerdict first second work) (byPoints rule (pointOver w first t) (pointOver w second t))
+
+-- The same with the kind of the winner's records.
+abbrev pub withKind : List ℕ → List ℕ → Chosen → Told
+withKind first second won = record { chosen = won; kind = kindWon won first second }
+
+abbrev pub questionOver : Way → TieRule → List ℕ → List ℕ → ℤ → List ℤ → Told
+questionOver w rule first second t work = withKind first second (chosenOver w rule first second t work)
 
 -- The part handed back, its bytes and its place.
 abbrev pub choiceOver : Way → TieRule → List ℕ → List ℕ → ℕ × ℕ → ℕ × ℕ → ℤ → List ℤ → List ℕ × (ℕ × ℕ)
 choiceOver w rule first second at other t work =
-    let c = questionOver w rule first second t work in
+    let c = chosenOver w rule first second t work in
     (partOf c first second, placeOf c at other)
 
 -- ---- writing the plan, and whether a plan is best

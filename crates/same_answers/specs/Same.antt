@@ -36,13 +36,15 @@ use Rattle.extending.specs.ExtendingLaws.{Accepted, accepted, accepted-order}
 use Rattle.ties.specs.declared.Chosen.{Chosen}
 use Rattle.ties.specs.Winning.{TieRule, byPoints}
 use Rattle.choosing.specs.Choosing.{choosingChecks, choosingVerdict, chosenBy, partOf, placeOf, chosenOf}
+use Rattle.openings.specs.Answer.{answerOf}
 use Rattle.plan_writer.specs.Calls.{planRoom, writeChecks, writeVerdict, writtenBy, outBy as bytesBy, writtenOf, outAfter as bytesAfter}
 use Rattle.checking.specs.Calls.{legalChecks, legalIn, checkedBy}
 use Rattle.checking.specs.CallLaws.{order-passed}
 use Rattle.best_plan.specs.Calls.{bestChecks, bestVerdict, bestIn, bestOf}
 use Rattle.best_plan.specs.Weights.{notAbove}
 use Rattle.best_plan.specs.Most.{most-told}
-use Rattle.same_answers.specs.Over.{answerWith, planAnswerOver, planOver, lostOver, halvesOver, extendOver, pointOver, questionOver, choiceOver}
+use Rattle.same_answers.specs.Over.{answerWith, planAnswerOver, planOver, lostOver, halvesOver, extendOver, pointOver}
+use Rattle.same_answers.specs.Over.{chosenOver, withKind, questionOver, choiceOver}
 use Rattle.report.specs.Report.{textOf, reportOf, textRoom, printed}
 use Rattle.same_answers.specs.Over.{writeOver, bestBy, bestOver, textBy, reportOver}
 
@@ -151,9 +153,9 @@ module _ {a b : Way} (agree : Agree a b) where
       (stages-fine (orderChecks first ++ orderChecks second) (roomChecks area (length work)) .0 e .0) in
       (order-fine first .0 (both .0), order-fine second .0 (both .1))
 
-  pub question-same : (rule : TieRule) (first second : List ℕ) (t : ℤ) (work : List ℤ)
-      → questionOver a rule first second t work ≡ questionOver b rule first second t work
-  question-same rule first second t work =
+  chosen-same : (rule : TieRule) (first second : List ℕ) (t : ℤ) (work : List ℤ)
+      → chosenOver a rule first second t work ≡ chosenOver b rule first second t work
+  chosen-same rule first second t work =
       by-verdict chosenBy (choosingVerdict first second work) (byPoints rule (pointOver a first t) (pointOver a second t))
       (byPoints rule (pointOver b first t) (pointOver b second t)) same (λ r. refl)
     where
@@ -164,10 +166,14 @@ module _ {a b : Way} (agree : Agree a b) where
           ap₂ (byPoints rule) (agree first (f .0) .pointAt (orderOf first .t0) t)
           (agree second (f .1) .pointAt (orderOf second .t0) t)
 
+  pub question-same : (rule : TieRule) (first second : List ℕ) (t : ℤ) (work : List ℤ)
+      → questionOver a rule first second t work ≡ questionOver b rule first second t work
+  question-same rule first second t work = ap (withKind first second) (chosen-same rule first second t work)
+
   pub choice-same : (rule : TieRule) (first second : List ℕ) (at other : ℕ × ℕ) (t : ℤ) (work : List ℤ)
       → choiceOver a rule first second at other t work ≡ choiceOver b rule first second at other t work
   choice-same rule first second at other t work =
-      ap (λ (c : Chosen). (partOf c first second, placeOf c at other)) (question-same rule first second t work)
+      ap (λ (c : Chosen). (partOf c first second, placeOf c at other)) (chosen-same rule first second t work)
 
   -- ---- writing the plan: the answer, and the bytes at exit
 
@@ -249,7 +255,7 @@ pub contracts-extend : (ns : List ℤ) (bytes : List ℕ) (out work : List ℤ)
 contracts-extend ns bytes out work = refl
 
 pub contracts-question : (rule : TieRule) (first second : List ℕ) (t : ℤ) (work : List ℤ)
-    → questionOver byRules rule first second t work ≡ chosenOf rule first second t work
+    → questionOver byRules rule first second t work ≡ answerOf rule first second t work
 contracts-question rule first second t work = refl
 
 pub contracts-choice : (rule : TieRule) (first second : List ℕ) (at other : ℕ × ℕ) (t : ℤ) (work : List ℤ)

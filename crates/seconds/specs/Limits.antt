@@ -22,6 +22,10 @@ latestFree = pos (100000 + rest)
 abbrev pub highestNumber : ℕ
 highestNumber = 63
 
+-- The highest pack; the lowest is 0.
+abbrev pub highestPack : ℕ
+highestPack = 255
+
 -- The longest job, in seconds.
 abbrev pub longest : ℕ
 longest = 10000

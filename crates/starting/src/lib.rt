@@ -2,7 +2,7 @@
 use clock::greater;
 use clock::rested;
 use fields::Job;
-use fields::job_at;
+use fields::job_in;
 ghost use mathlib.Core.Path.{_≡_};
 ghost use Rattle.order.specs.Choice.{numberKept};
 ghost use Rattle.fields.specs.Fields.{asJob};
@@ -48,7 +48,7 @@ pub fn write_starts(bytes: &[u8], n: usize, t0: i32, mask: u64, starts: &mut [i3
     let mut left = mask;
     let mut i = 0;
     while i < n {
-        let job = job_at(bytes, 4 + 8 * i);
+        let job = job_in(bytes, i);
         let turn = take_turn(job, left / HIGHEST, free);
         let start = turn.start;
         starts[i] = start;

@@ -6,18 +6,23 @@ use mathlib.Core.List.{List, [], _∷_, _++_, map}
 use lib.IntN.{ℤ, pos, negsuc}
 use Rattle.seconds.specs.Limits.{rest}
 use Rattle.seconds.specs.Twos.{bitsTo, toBits}
-use Rattle.packed.specs.Layout.{decode, encode, numberOf, bytesOf}
+use Rattle.packed.specs.Layout.{decode, encode, numberOf, bytesOf, recordBytes}
 use Rattle.packed.specs.Places.{part, flat, each, first}
-use Rattle.packed.specs.Packed.{headerWord, headerOf, countOf, t0Of, recordAt, jobWord, jobFields}
-use Rattle.packed.specs.Packed.{numbersOf, jobCount, fieldsAt, packedHeader, packedJob, packOrder, jobOf, jobsOf, orderOf}
+use Rattle.packed.specs.Packed.{headerWord, headerOf, countOf, t0Of, kindOf, recordAt, jobWord, jobFields, numbersOf, jobCount, fieldsAt}
+use Rattle.packed.specs.Packed.{firstPacked, kindFor, packedHeader, packedJob, packIn, packOrder, jobOf, jobsOf, orderOf}
 use Rattle.packed.specs.Judge.{plainly}
 use Rattle.ties.specs.Winning.{sooner, toFirst, winnerBy}
 use Rattle.ties.specs.declared.Chosen.{Chosen}
 use Rattle.ties.specs.declared.Chosen.the-variants.{Refused, First, Second}
 
--- An opening with the bus free at 0 and one job, ready at 0: its mark, weight, length and deadline.
+-- An opening with the bus free at 0 and one job, ready at 0, for a pack: its mark, weight, length and deadline.
+abbrev pub forPack : ℕ → ℕ → ℕ → ℕ → ℕ → List ℕ
+forPack pack mark weight long deadline =
+    packOrder (pos 0) (pos 1 ∷ pos pack ∷ pos mark ∷ pos weight ∷ pos 0 ∷ pos long ∷ pos deadline ∷ [])
+
+-- One for pack 0.
 abbrev pub opening : ℕ → ℕ → ℕ → ℕ → List ℕ
-opening mark weight long deadline = packOrder (pos 0) (pos 1 ∷ pos mark ∷ pos weight ∷ pos 0 ∷ pos long ∷ pos deadline ∷ [])
+opening = forPack 0
 
 -- One that ends at 10, one of the same weight that ends at 5, one with no feasible choice, and one with no jobs, free at 7.
 abbrev slow : List ℕ
@@ -40,7 +45,7 @@ early = packOrder (negsuc 2) []
 abbrev twoJobs : ℕ → ℕ → List ℕ
 twoJobs long further =
     packOrder (pos 0)
-    (pos 1 ∷ pos 0 ∷ pos 10 ∷ pos 0 ∷ pos long ∷ pos 100 ∷ pos 2 ∷ pos 0 ∷ pos 1 ∷ pos 0 ∷ pos further ∷ pos 100 ∷ [])
+    (pos 1 ∷ pos 0 ∷ pos 0 ∷ pos 10 ∷ pos 0 ∷ pos long ∷ pos 100 ∷ pos 2 ∷ pos 0 ∷ pos 0 ∷ pos 1 ∷ pos 0 ∷ pos further ∷ pos 100 ∷ [])
 
 abbrev soonDone : List ℕ
 soonDone = twoJobs 10 1
@@ -96,6 +101,6 @@ edges =
 
 -- Every edge is where R17 has it.
 pub edges-hold : map (λ (e : Edge). e .asked) edges ≡ map (λ (e : Edge). e .told) edges
-unfolding decode encode numberOf bytesOf bitsTo toBits part flat each first headerWord headerOf countOf t0Of
-    recordAt jobWord jobFields numbersOf jobCount fieldsAt packedHeader packedJob packOrder jobOf jobsOf orderOf rest
+unfolding decode encode numberOf bytesOf recordBytes bitsTo toBits part flat each first headerWord headerOf countOf t0Of kindOf
+    recordAt jobWord jobFields numbersOf jobCount fieldsAt firstPacked kindFor packedHeader packedJob packIn jobOf jobsOf orderOf rest
 edges-hold = refl

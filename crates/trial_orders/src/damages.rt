@@ -23,7 +23,7 @@ const EXCHANGE: u64 = 3;
 
 const EXCHANGE_BEFORE: u64 = 4;
 
-// What a damage changes of a job; its window stays.
+// What a damage changes of a job; its pack and its window stay.
 struct Half {
     number: i32,
     critical: i32,
@@ -117,7 +117,7 @@ fn past_damage(damage: Damage) -> u64 {
 // One damage to an order of halves of so many numbers, or none, drawn from a seed on. It may still be of
 // halves. Returns the seed after it.
 pub fn draw_damage(seed: u64, kind: Kind, numbers: &mut [i32], size: usize) -> u64 {
-    let damage = drawn_damage(next(seed), kind.lag, (size / 6) as u64);
+    let damage = drawn_damage(next(seed), kind.lag, (size / 7) as u64);
     let here = half_at(numbers, damage.job);
     let there = half_at(numbers, damage.place);
     put_half(numbers, damage.place, here);

@@ -1,4 +1,4 @@
-// The jobs of an order: what is drawn of each, as values, and where its six numbers are put.
+// The jobs of an order: what is drawn of each, as values, and where its seven numbers are put.
 use crate::drawn;
 use crate::drawn_from;
 use crate::in_time;
@@ -10,18 +10,20 @@ use careful::number_of;
 use careful::plus;
 use careful::put;
 
-// Where some of a job's fields stand among its six numbers.
+// Where some of a job's fields stand among its seven numbers.
 pub const NUMBER: u8 = 0;
 
-pub const CRITICAL: u8 = 1;
+const PACK: u8 = 1;
 
-pub const WEIGHT: u8 = 2;
+pub const CRITICAL: u8 = 2;
 
-const READY: u8 = 3;
+pub const WEIGHT: u8 = 3;
 
-pub const LENGTH: u8 = 4;
+const READY: u8 = 4;
 
-const DEADLINE: u8 = 5;
+pub const LENGTH: u8 = 5;
+
+const DEADLINE: u8 = 6;
 
 // How far above its partner's number an optional half's lies, and its seconds for each weight.
 const APART: i32 = 32;
@@ -47,7 +49,7 @@ struct Head {
 
 // Where a field of the job at a place stands.
 pub fn field_of(place: u8, which: u8) -> usize {
-    6 * place as usize + which as usize
+    7 * place as usize + which as usize
 }
 
 // A field of the job at a place.
@@ -155,6 +157,16 @@ pub fn draw_job(seed: u64, kind: Kind, from: i32, numbers: &[i32], place: u8) ->
     draw_times(draw_half(seed, kind, place, partner), kind, from)
 }
 
+// The pack that a seed draws. One job in eight has one, so that orders of both kinds of records are met. It
+// needs no seed of its own, since no plan reads it.
+fn drawn_pack(seed: u64) -> i32 {
+    let pack = drawn(seed, 2_048);
+    if pack > 255 {
+        return 0;
+    }
+    number_of(pack)
+}
+
 // Puts a job's times at a place.
 fn put_times(numbers: &mut [i32], place: u8, job: Job) {
     put_field(numbers, place, READY, job.ready);
@@ -165,6 +177,7 @@ fn put_times(numbers: &mut [i32], place: u8, job: Job) {
 // Puts a job at a place.
 pub fn put_job(numbers: &mut [i32], place: u8, job: Job) {
     put_field(numbers, place, NUMBER, job.number);
+    put_field(numbers, place, PACK, drawn_pack(job.seed));
     put_field(numbers, place, CRITICAL, (job.weight == 0) as i32);
     put_field(numbers, place, WEIGHT, job.weight);
     put_times(numbers, place, job);

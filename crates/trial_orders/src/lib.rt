@@ -30,7 +30,7 @@ const EARLIEST: i32 = -100_000;
 
 const LATEST: i32 = 100_000;
 
-// An order drawn: when the bus is free, how many numbers its jobs have, six each, and the seed after it.
+// An order drawn: when the bus is free, how many numbers its jobs have, seven each, and the seed after it.
 pub struct Order {
     pub t0: i32,
     pub size: usize,

@@ -7,7 +7,7 @@ use mathlib.Core.Option.{Option, none, some, Option·map, Option·some-injective
 use native.Mathlib.Nat.{pow-suc, add-zero}
 use native.Mathlib.Omega.{arith}
 use lib.IntN.{ℤ}
-use lib.ListN.{length, take, drop, getD, getElem?, length-reverse}
+use lib.ListN.{length, take, getD, getElem?, length-reverse}
 use lib.Pow.{pow-pos, pow-mono}
 use lib.Seq.{take-all}
 use Rattle.seconds.specs.Ranges.{InFree}
@@ -17,8 +17,7 @@ use Rattle.order.specs.Within.{JobWithin}
 use Rattle.profile.specs.Profile.{extend, startPoint}
 use Rattle.profile.specs.Rising.{rising-one}
 use Rattle.profile.specs.Points.{profileOf-rises}
-use Rattle.packed.specs.Layout.{decode, numberOf, jobLayout}
-use Rattle.packed.specs.Packed.{countOf, t0Of, jobsIn}
+use Rattle.packed.specs.Packed.{jobFields, countOf, t0Of, jobsIn}
 use Rattle.fields.specs.declared.Job.{Job as Numbers}
 use Rattle.fields.specs.Fields.{fieldsOf, asJob}
 use Rattle.fields.specs.Places.{place-below, back-more, jobs-count, job-there, job-fine, job-limits}
@@ -229,7 +228,7 @@ module _ {work : List ℤ} {bytes : List ℕ} {n : ℕ} {places counts : List �
 
   -- The trail, and the job that was read at the next place.
   module _ (k : ℕ) (trail : Trail) (on : Trails bytes weight by (suc k) trail) (numbers : Numbers)
-      (read : fieldsOf numbers ≡ decode jobLayout (numberOf (take 8 (drop (4 + 8 * k) bytes))))
+      (read : fieldsOf numbers ≡ jobFields bytes k)
     where
       below : k < countOf bytes
       below = omega (arith, jobs-count bytes, on .few)

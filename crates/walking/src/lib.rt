@@ -3,7 +3,7 @@
 use clock::lesser;
 use clock::rested;
 use fields::Job;
-use fields::job_at;
+use fields::job_in;
 use reading::Found;
 use reading::last_by;
 ghost use mathlib.Core.Path.{_≡_};
@@ -101,7 +101,7 @@ pub fn walk(
     let mut k = n;
     while k > 0 {
         k -= 1;
-        let job = job_at(bytes, 4 + 8 * k);
+        let job = job_in(bytes, k);
         let place = places[k];
         let count = counts[k];
         trail = step_back(work, place, count, bit_at(k), job, trail);

@@ -6,15 +6,15 @@ use mathlib.Core.Path.{_≡_, refl}
 use mathlib.Core.Bool.{true, false}
 use mathlib.Core.List.{List, [], _∷_, _++_, map}
 use lib.IntN.{ℤ, pos, negsuc}
-use lib.ListN.{length, take, replicate}
+use lib.ListN.{length, take, drop, replicate}
 use borrow.Author.Tests.{le-ltb}
 use Rattle.seconds.specs.Limits.{rest}
 use Rattle.seconds.specs.Twos.{bitsTo, toBits}
 use Rattle.order.specs.Job.{Order, oneRate}
-use Rattle.packed.specs.Layout.{decode, encode, numberOf, bytesOf}
+use Rattle.packed.specs.Layout.{decode, encode, numberOf, bytesOf, recordBytes}
 use Rattle.packed.specs.Places.{part, flat, each, first}
-use Rattle.packed.specs.Packed.{headerWord, headerOf, countOf, t0Of, spareOf, recordAt, jobWord, jobFields, numbersOf}
-use Rattle.packed.specs.Packed.{jobCount, fieldsAt, packedHeader, packedJob, packOrder, jobOf, jobsOf, orderOf}
+use Rattle.packed.specs.Packed.{headerWord, headerOf, countOf, t0Of, kindOf, recordAt, jobWord, jobFields, numbersOf}
+use Rattle.packed.specs.Packed.{jobCount, fieldsAt, packedHeader, packedJob, packIn, packOrder, firstPacked, kindFor, jobOf, jobsOf, orderOf}
 use Rattle.packed.specs.Refusals.{fieldsWithin, firstBad, numberAt, firstRepeat, headerChecks, jobChecks, weightChecks}
 use Rattle.profiles.specs.Answer.{lookupOf, lookupRefusal, foundOf, weightFound}
 use Rattle.better.specs.Answer.{joinedOf, joinRefusal, pointsWritten as pointsJoined, outAfter as joinedAfter}
@@ -24,10 +24,13 @@ use Rattle.heat.specs.Answer.{heatingOf, refusalOf as heatRefusal, lengthOf}
 
 -- ---- the orders
 
--- A job's six numbers: its number, whether it is critical, weight, ready time, length and deadline.
+-- A job's seven numbers: its number, pack, whether it is critical, weight, ready time, length and deadline.
+abbrev pub forPack : ℕ → ℕ → ℕ → ℕ → ℤ → ℕ → ℤ → List ℤ
+forPack pack number critical weight ready long deadline =
+    pos number ∷ pos pack ∷ pos critical ∷ pos weight ∷ ready ∷ pos long ∷ deadline ∷ []
+
 abbrev pub job : ℕ → ℕ → ℕ → ℤ → ℕ → ℤ → List ℤ
-job number critical weight ready long deadline =
-    pos number ∷ pos critical ∷ pos weight ∷ ready ∷ pos long ∷ deadline ∷ []
+job number critical weight ready long deadline = forPack 0 number critical weight ready long deadline
 
 -- Single jobs and pairs are numbered by their place, ready at 0, with the bus free at 0.
 abbrev pub critical : ℕ → ℕ → ℤ → List ℤ
@@ -61,10 +64,18 @@ packedMorning =
     ++ (job 3 0 20 (negsuc 199) 300 (pos 250)
     ++ (job 12 0 15 (pos 0) 200 (pos 300) ++ (job 5 1 0 (pos 100) 100 (pos 450) ++ job 9 0 15 (pos 0) 100 (pos 500)))))
 
-pub morning-packed : orderOf packedMorning ≡ morning
-unfolding bitsTo toBits decode encode numberOf bytesOf part flat each headerWord headerOf countOf t0Of recordAt jobWord
-    jobFields numbersOf jobCount fieldsAt packedHeader packedJob packOrder jobOf jobsOf orderOf
-morning-packed = refl
+-- The same for packs 3 and 255, of which kind 1 tells: the first job's and the last one's.
+abbrev morningOfPacks : List ℕ
+morningOfPacks =
+    packOrder (negsuc 599)
+    (forPack 3 7 1 0 (negsuc 599) 495 (pos 0)
+    ++ (job 3 0 20 (negsuc 199) 300 (pos 250)
+    ++ (job 12 0 15 (pos 0) 200 (pos 300) ++ (job 5 1 0 (pos 100) 100 (pos 450) ++ forPack 255 9 0 15 (pos 0) 100 (pos 500)))))
+
+pub morning-packed : (orderOf packedMorning ≡ morning) × (orderOf morningOfPacks ≡ morning)
+unfolding bitsTo toBits decode encode numberOf bytesOf part flat each first headerWord headerOf countOf t0Of kindOf recordBytes
+    recordAt jobWord jobFields numbersOf jobCount fieldsAt packedHeader packedJob packIn firstPacked kindFor jobOf jobsOf orderOf
+morning-packed = (refl, refl)
 
 -- ---- the answers as figures
 
@@ -121,7 +132,21 @@ module _ (out work : List ℤ) where
             pos 0x17 ∷ pos 0xFD ∷ pos 0xA8 ∷ pos 0x00
             ∷ pos 0x1E ∷ pos 0x03 ∷ pos 0xFD ∷ pos 0xA8 ∷ pos 0x07 ∷ pos 0xBC ∷ pos 0x00 ∷ pos 0x00 ∷ [];
       }
-      -- P1: jobs 7, 3, 5 and 9 are kept, job 12 is left out
+      -- the same with packs: the header, the first record and the last one
+      ∷ record {
+        asked = map pos (take 13 morningOfPacks ++ drop 40 morningOfPacks);
+        told =
+            pos 0x17 ∷ pos 0xFD ∷ pos 0xA8 ∷ pos 0x01
+            ∷ pos 0x1C ∷ pos 0x0E ∷ pos 0x03 ∷ pos 0xFD ∷ pos 0xA8 ∷ pos 0x07 ∷ pos 0xBC ∷ pos 0x00 ∷ pos 0x00
+            ∷ pos 0x27 ∷ pos 0xFC ∷ pos 0x3C ∷ pos 0x00 ∷ pos 0x00 ∷ pos 0x01 ∷ pos 0x90 ∷ pos 0x01 ∷ pos 0xF4 ∷ [];
+      }
+      -- P1: jobs 7, 3, 5 and 9 are kept, job 12 is left out, whatever the packs
+      ∷ record {
+        asked = planned morningOfPacks 5;
+        told =
+            pos 0 ∷ pos 0 ∷ pos 4 ∷ pos 35 ∷ pos 15 ∷ pos 455 ∷ pos 14
+            ∷ negsuc 599 ∷ negsuc 89 ∷ pos 200000 ∷ pos 225 ∷ pos 340 ∷ [];
+      }
       ∷ record {
         asked = planned packedMorning 5;
         told =
@@ -199,7 +224,7 @@ module _ (out work : List ℤ) where
   -- Every example comes out as the rules say.
   pub examples-hold : 602 ≤ length out → 14749 ≤ length work
       → map (λ (e : Example). e .asked) examples ≡ map (λ (e : Example). e .told) examples
-  unfolding rest bitsTo toBits decode encode numberOf bytesOf part flat each first headerWord headerOf countOf t0Of spareOf
-      recordAt jobWord jobFields numbersOf jobCount fieldsAt packedHeader packedJob packOrder jobOf jobsOf orderOf fieldsWithin
+  unfolding rest bitsTo toBits decode encode numberOf bytesOf part flat each first headerWord headerOf countOf t0Of kindOf recordBytes
+      recordAt jobWord jobFields numbersOf jobCount fieldsAt packedHeader packedJob packIn firstPacked kindFor jobOf jobsOf orderOf fieldsWithin
       firstBad numberAt firstRepeat headerChecks jobChecks weightChecks planChecks extendJudged extendChecks
   examples-hold room area = rw (le-ltb (length out) 602 room, le-ltb (length work) 14749 area)

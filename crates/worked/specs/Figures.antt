@@ -4,10 +4,10 @@ use Prim.Native.Nat.{ℕ, _*_}
 use mathlib.Core.Path.{_≡_, refl}
 use mathlib.Core.List.{List, [], _∷_, map}
 use lib.IntN.{ℤ, pos, negsuc}
-use Rattle.seconds.specs.Limits.{rest, earliest, latest, latestFree, highestNumber, longest, heaviest, mostWeight, mostJobs}
+use Rattle.seconds.specs.Limits.{rest, earliest, latest, latestFree, highestNumber, highestPack, longest, heaviest, mostWeight, mostJobs}
 use Rattle.seconds.specs.Limits.{mostPoints, leftOut, coldest, highestHalf, halvesApart, secondsPerWeight, mostRepeating, longestFrame}
 use Rattle.order.specs.Choice.{mask}
-use Rattle.packed.specs.Layout.{widths, headerLayout, jobLayout, headerBytes, jobBytes, jobNumbers}
+use Rattle.packed.specs.Layout.{widths, headerLayout, jobLayout, headerBytes, recordBytes, jobNumbers}
 use Rattle.packed.specs.Judge.{Check}
 use Rattle.packed.specs.Refusals.{headerChecks, listChecks, jobChecks, weightChecks, halvesChecks, unpackChecks, packChecks}
 use Rattle.frames.specs.Frames.{repeatingNumbers, givenChecks, madeChecks, frameChecks}
@@ -39,6 +39,7 @@ figures =
     is earliest (negsuc 99999)
     ∷ is latest (pos 100000)
     ∷ is (pos highestNumber) (pos 63)
+    ∷ is (pos highestPack) (pos 255)
     ∷ is (pos longest) (pos 10000)
     ∷ is (pos heaviest) (pos 50)
     -- R3: jobs of an order, and their weights together
@@ -56,13 +57,14 @@ figures =
     ∷ is (pos mostNumbers) (pos 602)
     -- R20: the coldest cell
     ∷ is coldest (negsuc 29)
-    -- R21, R22: bytes of a header and of a job, numbers of a job
+    -- R21, R22: bytes of a header and of a job of each kind, numbers of a job
     ∷ is (pos headerBytes) (pos 4)
-    ∷ is (pos jobBytes) (pos 8)
-    ∷ is (pos jobNumbers) (pos 6)
+    ∷ is (pos (recordBytes 0)) (pos 8)
+    ∷ is (pos (recordBytes 1)) (pos 9)
+    ∷ is (pos jobNumbers) (pos 7)
     -- R24, R32: the most numbers, and the most bytes, that an order has
-    ∷ is (pos (jobNumbers * mostJobs)) (pos 288)
-    ∷ is (pos longestOrder) (pos 388)
+    ∷ is (pos (jobNumbers * mostJobs)) (pos 336)
+    ∷ is (pos longestOrder) (pos 436)
     -- R29: the numbers of a row, and of the work area
     ∷ is (pos rowSize) (pos 301)
     ∷ is (pos area) (pos 14749)
@@ -87,15 +89,18 @@ figures =
 
 -- Every name stands for its figure.
 pub figures-hold : map (λ (f : Figure). f .named) figures ≡ map (λ (f : Figure). f .figure) figures
-unfolding rest
+unfolding rest recordBytes longestOrder
 figures-hold = refl
 
--- R21: the bits of each field of the header and of a job.
+-- R21: the bits of each field of the header and of a job of each kind.
 pub header-bits : widths headerLayout ≡ 6 ∷ 18 ∷ 8 ∷ []
 header-bits = refl
 
-pub job-bits : widths jobLayout ≡ 6 ∷ 1 ∷ 7 ∷ 18 ∷ 14 ∷ 18 ∷ []
+pub job-bits : widths (jobLayout 0) ≡ 6 ∷ 0 ∷ 1 ∷ 7 ∷ 18 ∷ 14 ∷ 18 ∷ []
 job-bits = refl
+
+pub packed-job-bits : widths (jobLayout 1) ≡ 6 ∷ 8 ∷ 1 ∷ 7 ∷ 18 ∷ 14 ∷ 18 ∷ []
+packed-job-bits = refl
 
 -- ---- the refusals of each call (R25), whatever it is asked
 
@@ -110,28 +115,28 @@ module _ (bytes other : List ℕ) (t0 : ℤ) (profile given out work : List ℤ)
   abbrev pub judged : List Judged
   judged =
       -- unpack, pack
-      record { checks = unpackChecks bytes room; refusals = 1 ∷ 2 ∷ 3 ∷ 4 ∷ 5 ∷ 6 ∷ 7 ∷ 9 ∷ 10 ∷ [] }
+      record { checks = unpackChecks bytes room; refusals = 1 ∷ 2 ∷ 3 ∷ 4 ∷ 5 ∷ 19 ∷ 6 ∷ 7 ∷ 9 ∷ 10 ∷ [] }
       ∷ record { checks = packChecks t0 given room; refusals = 3 ∷ 4 ∷ 5 ∷ 6 ∷ 7 ∷ 9 ∷ 10 ∷ [] }
       -- frame
       ∷ record { checks = frameChecks given room; refusals = 3 ∷ 4 ∷ 16 ∷ 17 ∷ 3 ∷ 9 ∷ 10 ∷ [] }
       -- the reader: open, step
-      ∷ record { checks = headerChecks bytes; refusals = 1 ∷ 2 ∷ 3 ∷ 4 ∷ 5 ∷ [] }
-      ∷ record { checks = stepChecks bytes place; refusals = 1 ∷ 2 ∷ 3 ∷ 4 ∷ 5 ∷ 6 ∷ [] }
+      ∷ record { checks = headerChecks bytes; refusals = 1 ∷ 2 ∷ 3 ∷ 4 ∷ 5 ∷ 19 ∷ [] }
+      ∷ record { checks = stepChecks bytes place; refusals = 1 ∷ 2 ∷ 3 ∷ 4 ∷ 5 ∷ 19 ∷ 6 ∷ [] }
       -- extend, plan and planning halves, with two rooms each
       ∷ record {
         checks = extendChecks profile bytes out work;
-        refusals = 1 ∷ 2 ∷ 3 ∷ 4 ∷ 5 ∷ 6 ∷ 7 ∷ 8 ∷ 9 ∷ 10 ∷ 10 ∷ [];
+        refusals = 1 ∷ 2 ∷ 3 ∷ 4 ∷ 5 ∷ 19 ∷ 6 ∷ 7 ∷ 8 ∷ 9 ∷ 10 ∷ 10 ∷ [];
       }
-      ∷ record { checks = planChecks bytes out work; refusals = 1 ∷ 2 ∷ 3 ∷ 4 ∷ 5 ∷ 6 ∷ 7 ∷ 9 ∷ 10 ∷ 10 ∷ [] }
-      ∷ record { checks = planHalvesChecks bytes out work; refusals = 1 ∷ 2 ∷ 3 ∷ 4 ∷ 5 ∷ 6 ∷ 7 ∷ 9 ∷ 13 ∷ 10 ∷ 10 ∷ [] }
+      ∷ record { checks = planChecks bytes out work; refusals = 1 ∷ 2 ∷ 3 ∷ 4 ∷ 5 ∷ 19 ∷ 6 ∷ 7 ∷ 9 ∷ 10 ∷ 10 ∷ [] }
+      ∷ record { checks = planHalvesChecks bytes out work; refusals = 1 ∷ 2 ∷ 3 ∷ 4 ∷ 5 ∷ 19 ∷ 6 ∷ 7 ∷ 9 ∷ 13 ∷ 10 ∷ 10 ∷ [] }
       -- writing a plan, with two rooms; legal, and best
-      ∷ record { checks = writeChecks bytes other work; refusals = 1 ∷ 2 ∷ 3 ∷ 4 ∷ 5 ∷ 6 ∷ 7 ∷ 9 ∷ 10 ∷ 10 ∷ [] }
-      ∷ record { checks = legalChecks bytes other; refusals = 1 ∷ 2 ∷ 3 ∷ 4 ∷ 5 ∷ 6 ∷ 7 ∷ 9 ∷ 14 ∷ 15 ∷ [] }
-      ∷ record { checks = bestChecks bytes other work; refusals = 1 ∷ 2 ∷ 3 ∷ 4 ∷ 5 ∷ 6 ∷ 7 ∷ 9 ∷ 14 ∷ 15 ∷ 10 ∷ [] }
+      ∷ record { checks = writeChecks bytes other work; refusals = 1 ∷ 2 ∷ 3 ∷ 4 ∷ 5 ∷ 19 ∷ 6 ∷ 7 ∷ 9 ∷ 10 ∷ 10 ∷ [] }
+      ∷ record { checks = legalChecks bytes other; refusals = 1 ∷ 2 ∷ 3 ∷ 4 ∷ 5 ∷ 19 ∷ 6 ∷ 7 ∷ 9 ∷ 14 ∷ 15 ∷ [] }
+      ∷ record { checks = bestChecks bytes other work; refusals = 1 ∷ 2 ∷ 3 ∷ 4 ∷ 5 ∷ 19 ∷ 6 ∷ 7 ∷ 9 ∷ 14 ∷ 15 ∷ 10 ∷ [] }
       -- choosing, with two orders
       ∷ record {
         checks = choosingChecks bytes other work;
-        refusals = 1 ∷ 2 ∷ 3 ∷ 4 ∷ 5 ∷ 6 ∷ 7 ∷ 9 ∷ 1 ∷ 2 ∷ 3 ∷ 4 ∷ 5 ∷ 6 ∷ 7 ∷ 9 ∷ 10 ∷ [];
+        refusals = 1 ∷ 2 ∷ 3 ∷ 4 ∷ 5 ∷ 19 ∷ 6 ∷ 7 ∷ 9 ∷ 1 ∷ 2 ∷ 3 ∷ 4 ∷ 5 ∷ 19 ∷ 6 ∷ 7 ∷ 9 ∷ 10 ∷ [];
       }
       ∷ []
 

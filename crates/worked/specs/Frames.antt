@@ -8,9 +8,9 @@ use lib.ListN.{take, replicate}
 use Rattle.seconds.specs.Limits.{rest}
 use Rattle.seconds.specs.Twos.{toBits}
 use Rattle.multiples.specs.Multiples.{gcdIn, gcd, lcm}
-use Rattle.packed.specs.Layout.{encode, bytesOf}
+use Rattle.packed.specs.Layout.{encode, bytesOf, recordBytes}
 use Rattle.packed.specs.Places.{part, flat, each, first}
-use Rattle.packed.specs.Packed.{jobCount, fieldsAt, packedHeader, packedJob, packOrder, jobOf, jobsOf}
+use Rattle.packed.specs.Packed.{jobCount, fieldsAt, packedHeader, packedJob, packIn, firstPacked, kindFor, jobOf, jobsOf}
 use Rattle.packed.specs.Refusals.{weightChecks}
 use Rattle.frames.specs.Frames.{mayRepeat, jobsGiven, givenAt, firstUnfit, frameOf, repeatsOf, sequenceOf, frameNumbers}
 use Rattle.frames.specs.Frames.{givenChecks, madeChecks}
@@ -81,6 +81,6 @@ frames =
 
 -- Every one comes out as the rules say.
 pub frames-hold : map (λ (f : Framing). f .asked) frames ≡ map (λ (f : Framing). f .told) frames
-unfolding rest toBits gcdIn gcd lcm encode bytesOf part flat each first jobCount fieldsAt packedHeader packedJob packOrder jobOf jobsOf
+unfolding rest toBits gcdIn gcd lcm encode bytesOf part flat each first jobCount fieldsAt packedHeader packedJob packIn firstPacked kindFor recordBytes jobOf jobsOf
     weightChecks mayRepeat jobsGiven givenAt firstUnfit frameOf repeatsOf sequenceOf frameNumbers givenChecks madeChecks
 frames-hold = refl

@@ -8,10 +8,10 @@ use lib.ListN.{length, replicate}
 use borrow.Author.Tests.{le-ltb, lt-ltb}
 use Rattle.seconds.specs.Limits.{rest}
 use Rattle.seconds.specs.Twos.{bitsTo, toBits}
-use Rattle.packed.specs.Layout.{decode, encode, numberOf, bytesOf}
+use Rattle.packed.specs.Layout.{decode, encode, numberOf, bytesOf, recordBytes}
 use Rattle.packed.specs.Places.{part, flat, each, first}
-use Rattle.packed.specs.Packed.{headerWord, headerOf, countOf, t0Of, spareOf, recordAt, jobWord, jobFields, numbersOf}
-use Rattle.packed.specs.Packed.{jobCount, fieldsAt, packedHeader, packedJob, packOrder, jobOf, jobsOf, orderOf}
+use Rattle.packed.specs.Packed.{headerWord, headerOf, countOf, t0Of, kindOf, recordAt, jobWord, jobFields, numbersOf}
+use Rattle.packed.specs.Packed.{jobCount, fieldsAt, packedHeader, packedJob, packIn, packOrder, firstPacked, kindFor, jobOf, jobsOf, orderOf}
 use Rattle.packed.specs.Refusals.{fieldsWithin, firstBad, numberAt, firstRepeat, firstOffending, headerChecks, jobChecks}
 use Rattle.packed.specs.Refusals.{weightChecks, halvesChecks}
 use Rattle.halves.specs.Calls.{planHalvesChecks, halvesOf, halvesStartsAfter, halvesNumbers}
@@ -102,7 +102,7 @@ module _ (work short : List ℤ) where
   -- Every one comes out as the rules say.
   pub halves-hold : 14749 ≤ length work → length short < 14749
       → map (λ (e : Example). e .asked) halves ≡ map (λ (e : Example). e .told) halves
-  unfolding rest bitsTo toBits decode encode numberOf bytesOf part flat each first headerWord headerOf countOf t0Of spareOf
-      recordAt jobWord jobFields numbersOf jobCount fieldsAt packedHeader packedJob packOrder jobOf jobsOf orderOf fieldsWithin
+  unfolding rest bitsTo toBits decode encode numberOf bytesOf part flat each first headerWord headerOf countOf t0Of kindOf recordBytes
+      recordAt jobWord jobFields numbersOf jobCount fieldsAt packedHeader packedJob packIn firstPacked kindFor jobOf jobsOf orderOf fieldsWithin
       firstBad numberAt firstRepeat firstOffending headerChecks jobChecks weightChecks halvesChecks planHalvesChecks
   halves-hold area less = rw (le-ltb (length work) 14749 area, lt-ltb (length short) 14749 less)

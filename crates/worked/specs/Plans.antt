@@ -10,10 +10,10 @@ use lib.ListN.{length, take, replicate, set}
 use borrow.Author.Tests.{le-ltb, lt-ltb}
 use Rattle.seconds.specs.Limits.{rest}
 use Rattle.seconds.specs.Twos.{bitsTo, toBits}
-use Rattle.packed.specs.Layout.{decode, encode, numberOf, bytesOf}
+use Rattle.packed.specs.Layout.{decode, encode, numberOf, bytesOf, recordBytes}
 use Rattle.packed.specs.Places.{part, flat, each, first}
-use Rattle.packed.specs.Packed.{headerWord, headerOf, countOf, t0Of, spareOf, recordAt, jobWord, jobFields, numbersOf}
-use Rattle.packed.specs.Packed.{jobCount, fieldsAt, packedHeader, packedJob, packOrder, jobOf, jobsOf, orderOf}
+use Rattle.packed.specs.Packed.{headerWord, headerOf, countOf, t0Of, kindOf, recordAt, jobWord, jobFields, numbersOf}
+use Rattle.packed.specs.Packed.{jobCount, fieldsAt, packedHeader, packedJob, packIn, packOrder, firstPacked, kindFor, jobOf, jobsOf, orderOf}
 use Rattle.packed.specs.Refusals.{fieldsWithin, firstBad, numberAt, firstRepeat, headerChecks, jobChecks, weightChecks}
 use Rattle.packed_plan.specs.Plan.{planNumber, packPlan, maskIn, countIn, planFields, startsIn, padIn, keptIn, sentChecks}
 use Rattle.packed_plan.specs.PlanLaws.{ones-raised}
@@ -174,7 +174,7 @@ module _ (work short : List ℤ) where
         lt-ltb (length short) 14749 less,
       )
       (unfold
-      ones rest bitsTo decode part flat each first headerWord headerOf countOf t0Of spareOf recordAt jobWord jobFields numbersOf
-      jobCount fieldsAt packedHeader packedJob packOrder jobOf jobsOf orderOf fieldsWithin firstBad numberAt firstRepeat headerChecks
+      ones rest bitsTo decode part flat each first headerWord headerOf countOf t0Of kindOf recordBytes recordAt jobWord jobFields numbersOf
+      jobCount fieldsAt packedHeader packedJob packIn firstPacked kindFor jobOf jobsOf orderOf fieldsWithin firstBad numberAt firstRepeat headerChecks
       jobChecks weightChecks planFields keptIn isLegal isBest bytesFor
       in refl)

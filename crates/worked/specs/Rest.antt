@@ -8,10 +8,10 @@ use lib.ListN.{length}
 use borrow.Author.Tests.{le-ltb}
 use Rattle.seconds.specs.Limits.{rest}
 use Rattle.seconds.specs.Twos.{bitsTo, toBits}
-use Rattle.packed.specs.Layout.{decode, encode, numberOf, bytesOf}
+use Rattle.packed.specs.Layout.{decode, encode, numberOf, bytesOf, recordBytes}
 use Rattle.packed.specs.Places.{part, flat, each, first}
-use Rattle.packed.specs.Packed.{headerWord, headerOf, countOf, t0Of, spareOf, recordAt, jobWord, jobFields, numbersOf}
-use Rattle.packed.specs.Packed.{jobCount, fieldsAt, packedHeader, packedJob, packOrder, jobOf, jobsOf, orderOf}
+use Rattle.packed.specs.Packed.{headerWord, headerOf, countOf, t0Of, kindOf, recordAt, jobWord, jobFields, numbersOf}
+use Rattle.packed.specs.Packed.{jobCount, fieldsAt, packedHeader, packedJob, packIn, packOrder, firstPacked, kindFor, jobOf, jobsOf, orderOf}
 use Rattle.packed.specs.Refusals.{fieldsWithin, firstBad, numberAt, firstRepeat, headerChecks, jobChecks, weightChecks}
 use Rattle.extending.specs.Calls.{extendJudged, extendChecks}
 use Rattle.planner.specs.Calls.{planChecks}
@@ -101,7 +101,7 @@ module _ (out work : List ℤ) where
   -- Every one comes out as the rules say.
   pub rests-hold : 602 ≤ length out → 14749 ≤ length work
       → map (λ (e : Example). e .asked) rests ≡ map (λ (e : Example). e .told) rests
-  unfolding rest bitsTo toBits decode encode numberOf bytesOf part flat each first headerWord headerOf countOf t0Of spareOf
-      recordAt jobWord jobFields numbersOf jobCount fieldsAt packedHeader packedJob packOrder jobOf jobsOf orderOf fieldsWithin
+  unfolding rest bitsTo toBits decode encode numberOf bytesOf part flat each first headerWord headerOf countOf t0Of kindOf recordBytes
+      recordAt jobWord jobFields numbersOf jobCount fieldsAt packedHeader packedJob packIn firstPacked kindFor jobOf jobsOf orderOf fieldsWithin
       firstBad numberAt firstRepeat headerChecks jobChecks weightChecks planChecks extendJudged extendChecks
   rests-hold room area = rw (le-ltb (length out) 602 room, le-ltb (length work) 14749 area)

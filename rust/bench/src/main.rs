@@ -8,7 +8,7 @@ mod plain;
 use leafanchor::calls::{self, PlanAnswer};
 use leafanchor::{MOST_JOBS, PLAN_BYTES, WORK_AREA};
 use std::time::Instant;
-use trials::{dense_order, full_order, packed, wide_order, Order, Random};
+use trials::{dense_order, full_order, packed, packed_as, put_packs, wide_order, Order, Random};
 
 const ORDERS: usize = 1_000;
 const ROUNDS: usize = 11;
@@ -43,7 +43,10 @@ fn main() {
         let (kept, points) = compare(&orders, &mut buffers);
         let damaged: Vec<Vec<u8>> = orders.iter().map(|order| damage(&mut random, order)).collect();
         compare(&damaged, &mut buffers);
-        println!("{ORDERS} orders of {family}: all answers equal, damaged ones too; {kept} jobs kept");
+        compare_with_packs(&mut random, drawn, &mut buffers);
+        println!(
+            "{ORDERS} orders of {family}: all answers equal, with packs and damaged too; {kept} jobs kept"
+        );
         println!("  {:.1} points a prefix in the mean", f64::from(points) / jobs as f64);
         time_both(&orders, &mut buffers);
         time_plans(&orders, &mut buffers.work);
@@ -59,6 +62,17 @@ fn damage(random: &mut Random, order: &[u8]) -> Vec<u8> {
         bytes.pop();
     }
     bytes
+}
+
+/// Compares the planners on the same orders with packs, in order and damaged, and of kind 1 with every pack 0.
+fn compare_with_packs(random: &mut Random, mut orders: Vec<Order>, buffers: &mut Buffers) {
+    let without: Vec<Vec<u8>> = orders.iter().map(|order| packed_as(order, 1)).collect();
+    orders.iter_mut().for_each(|order| put_packs(random, order));
+    let with: Vec<Vec<u8>> = orders.iter().map(packed).collect();
+    let damaged: Vec<Vec<u8>> = with.iter().chain(&without).map(|order| damage(random, order)).collect();
+    for orders in [without, with, damaged] {
+        compare(&orders, buffers);
+    }
 }
 
 /// Compares answers, starts and work areas of both planners on every order; gives the jobs kept in all plans, and

@@ -69,46 +69,56 @@ pub fn plan(bytes: &[u8], starts: &mut [i32], work: &mut [i32]) -> PlanAnswer {
 /// A refusal: its number, place and field.
 type Refused = (u32, usize, u32);
 
-/// The order in packed bytes, or the lowest refusal with its place and field.
+/// The order in packed bytes, or the first refusal that applies, with its place and field.
 fn judged(bytes: &[u8]) -> Result<Order, Refused> {
     let header: [u8; 4] = bytes.get(..4).and_then(|head| head.try_into().ok()).ok_or((1, 0, 0))?;
     let header = u32::from_be_bytes(header);
     let count = (header >> 26) as usize;
     let t0 = (header << 6) as i32 >> 14;
-    if header & 0xFF != 0 {
+    let kind = header & 0xFF;
+    if kind > 1 {
         return Err((2, 0, 0));
     }
     if count > MOST_JOBS {
         return Err((3, 0, 0));
     }
-    if bytes.len() != 4 + 8 * count {
+    if bytes.len() != 4 + (8 + kind as usize) * count {
         return Err((4, 0, 0));
     }
     if !is_time(t0) {
         return Err((5, 0, 0));
     }
-    let mut jobs = [Job::default(); MOST_JOBS];
-    judge_jobs(&bytes[4..], &mut jobs[..count])?;
+    let (records, mut jobs) = (&bytes[4..], [Job::default(); MOST_JOBS]);
+    if kind == 0 {
+        judge_jobs::<8>(records, &mut jobs[..count])?;
+    } else {
+        // The number and two bits of the pack are a byte; the next begins with the other six.
+        if records.chunks_exact(9).all(|record| record[0] & 3 == 0 && record[1] < 4) {
+            return Err((19, 0, 0));
+        }
+        judge_jobs::<9>(records, &mut jobs[..count])?;
+    }
     Ok(Order { t0, count, jobs })
 }
 
-/// Decodes the jobs' records and judges 6, 7 and 9.
-fn judge_jobs(records: &[u8], jobs: &mut [Job]) -> Result<(), Refused> {
+/// Decodes the jobs' records, of so many bytes each, and judges 6, 7 and 9. In every kind a record begins with the
+/// number, and all that a plan reads of it stands in the last 58 bits.
+fn judge_jobs<const BYTES: usize>(records: &[u8], jobs: &mut [Job]) -> Result<(), Refused> {
     let (mut seen, mut repeated, mut total) = (0_u64, None, 0);
-    for (place, (record, job)) in records.chunks_exact(8).zip(jobs).enumerate() {
-        let record = u64::from_be_bytes(record.try_into().unwrap());
+    for (place, (record, job)) in records.chunks_exact(BYTES).zip(jobs).enumerate() {
+        let last = u64::from_be_bytes(record[BYTES - 8..].try_into().unwrap());
         *job = Job {
-            critical: record >> 57 & 1 == 1,
-            weight: (record >> 50 & 0x7F) as usize,
-            ready: ((record << 14) as i64 >> 46) as i32,
-            length: (record >> 18 & 0x3FFF) as i32,
-            deadline: ((record << 46) as i64 >> 46) as i32,
+            critical: last >> 57 & 1 == 1,
+            weight: (last >> 50 & 0x7F) as usize,
+            ready: ((last << 14) as i64 >> 46) as i32,
+            length: (last >> 18 & 0x3FFF) as i32,
+            deadline: ((last << 46) as i64 >> 46) as i32,
         };
         let field = bad_field(job);
         if field != 0 {
             return Err((6, place, field));
         }
-        let bit = 1 << (record >> 58);
+        let bit = 1 << (record[0] >> 2);
         if seen & bit != 0 && repeated.is_none() {
             repeated = Some(place);
         }
@@ -126,17 +136,17 @@ fn is_time(t: i32) -> bool {
     (-LATEST..=LATEST).contains(&t)
 }
 
-/// The first field of a job that is out of range, from 3 for the weight to 6 for the deadline; 0 if none is.
+/// The first field of a job that is out of range, from 4 for the weight to 7 for the deadline; 0 if none is.
 fn bad_field(job: &Job) -> u32 {
     let weighed = if job.critical { job.weight == 0 } else { (1..=50).contains(&job.weight) };
     if !weighed {
-        3
-    } else if !is_time(job.ready) {
         4
-    } else if !(1..=10_000).contains(&job.length) {
+    } else if !is_time(job.ready) {
         5
-    } else if !is_time(job.deadline) {
+    } else if !(1..=10_000).contains(&job.length) {
         6
+    } else if !is_time(job.deadline) {
+        7
     } else {
         0
     }

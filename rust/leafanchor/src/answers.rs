@@ -84,8 +84,10 @@ answers! {
     StepAnswer(refusal, place; field) {
         /// 1 at the end of the order, else 0.
         end: u32,
-        /// The job's number; this and the next five are 0 where no job is given.
+        /// The job's number; this and the next six are 0 where no job is given.
         number: i32,
+        /// Its pack, 0 to 255.
+        pack: i32,
         /// 1 for a critical job, else 0.
         critical: i32,
         /// Its weight.
@@ -126,6 +128,8 @@ answers! {
     QuestionAnswer(refusal; field) {
         /// 1 or 2, 0 if refused.
         winner: u32,
+        /// The kind of the winner's records, 0 or 1; 0 if refused.
+        kind: u32,
     }
     /// The answer of [`choose`](crate::calls::choose) and [`choose_first`](crate::calls::choose_first).
     ChooseAnswer(refusal; field) {
@@ -135,6 +139,8 @@ answers! {
         offset: usize,
         /// How many bytes they are.
         length: usize,
+        /// Their kind, 0 or 1; 0 if refused.
+        kind: u32,
     }
 }
 
@@ -202,10 +208,11 @@ impl StepAnswer {
         Some(self.fields())
     }
 
-    /// The six fields, whether or not they are a job's.
+    /// The seven fields, whether or not they are a job's.
     pub(crate) fn fields(&self) -> Job {
         Job {
             number: self.number,
+            pack: self.pack as u8, // the library gives 0 to 255
             critical: self.critical == 1,
             weight: self.weight,
             ready: self.ready,

@@ -77,14 +77,14 @@ pub fn heat_up(byte: u8) -> HeatAnswer {
     unsafe { leafanchor_heat_up(byte) }
 }
 
-/// Unpacks an order into the front of `numbers`, six a job. Refusals 1 to 7, 9 and 10.
+/// Unpacks an order into the front of `numbers`, seven a job. Refusals 1 to 7, 9, 10 and 19.
 pub fn unpack(order: &[u8], numbers: &mut [i32]) -> UnpackAnswer {
     // SAFETY: the bytes are only read, the numbers are lent alone; both lengths are the slices' own.
     unsafe { leafanchor_unpack(order.as_ptr(), order.len(), numbers.as_mut_ptr(), numbers.len()) }
 }
 
-/// Packs a bus-free time and six numbers a job into the front of `order`: 4 bytes, and 8 a job. Refusals 3 to
-/// 7, 9 and 10.
+/// Packs a bus-free time and seven numbers a job into the front of `order`: 4 bytes, and 8 a job where every pack is
+/// 0, else 9 (R21). Refusals 3 to 7, 9 and 10.
 pub fn pack(t0: i32, numbers: &[i32], order: &mut [u8]) -> PackAnswer {
     // SAFETY: the numbers are only read, the bytes are lent alone; both lengths are the slices' own.
     unsafe { leafanchor_pack(t0, numbers.as_ptr(), numbers.len(), order.as_mut_ptr(), order.len()) }
@@ -97,13 +97,13 @@ pub fn frame(repeating: &[i32], order: &mut [u8]) -> FrameAnswer {
     unsafe { leafanchor_frame(repeating.as_ptr(), repeating.len(), order.as_mut_ptr(), order.len()) }
 }
 
-/// Whether a reader may stand over these bytes, and how many jobs it will meet. Refusals 1 to 5.
+/// Whether a reader may stand over these bytes, and how many jobs it will meet. Refusals 1 to 5 and 19.
 pub fn open(order: &[u8]) -> OpenAnswer {
     // SAFETY: the bytes are only read; the length is the slice's own.
     unsafe { leafanchor_open(order.as_ptr(), order.len()) }
 }
 
-/// One step of a reader that stands at `place`. Refusals 1 to 6.
+/// One step of a reader that stands at `place`. Refusals 1 to 6 and 19.
 pub fn step(order: &[u8], place: usize) -> StepAnswer {
     // SAFETY: the bytes are only read; the length is the slice's own. The place is any number.
     unsafe { leafanchor_step(order.as_ptr(), order.len(), place) }
@@ -132,7 +132,7 @@ pub fn better_of(p: &[i32], q: &[i32], out: &mut [i32]) -> BetterAnswer {
 
 /// Writes a profile extended by an order into the front of `out`, which has room for
 /// [`PROFILE_ROOM`](crate::PROFILE_ROOM) numbers; `work` has room for [`WORK_AREA`](crate::WORK_AREA).
-/// Refusals 1 to 10.
+/// Refusals 1 to 10 and 19.
 pub fn extend(profile: &[i32], order: &[u8], out: &mut [i32], work: &mut [i32]) -> ExtendAnswer {
     // SAFETY: profile and order are only read; out and work are each lent alone; the lengths are the slices'
     // own.
@@ -152,7 +152,7 @@ pub fn extend(profile: &[i32], order: &[u8], out: &mut [i32], work: &mut [i32]) 
 
 /// Plans an order and writes its starts into the front of `starts`, one a job,
 /// [`LEFT_OUT`](crate::LEFT_OUT) for a job left out; `work` has room for [`WORK_AREA`](crate::WORK_AREA).
-/// Refusals 1 to 7 and 9 to 11.
+/// Refusals 1 to 7, 9 to 11 and 19.
 pub fn plan(order: &[u8], starts: &mut [i32], work: &mut [i32]) -> PlanAnswer {
     // SAFETY: the order is only read; starts and work are each lent alone; the lengths are the slices' own.
     unsafe {
@@ -167,8 +167,8 @@ pub fn plan(order: &[u8], starts: &mut [i32], work: &mut [i32]) -> PlanAnswer {
     }
 }
 
-/// Plans an order of halves as [`plan`] does, and tells the optional seconds lost (R34, R35). Refusals 1 to 7,
-/// 9, then 13, whatever the buffers, then 10 and 11.
+/// Plans an order of halves as [`plan`] does, and tells the optional seconds lost (R34, R35). Refusals 1 to 7, 9 and
+/// 19, then 13, whatever the buffers, then 10 and 11.
 pub fn plan_halves(order: &[u8], starts: &mut [i32], work: &mut [i32]) -> HalvesAnswer {
     // SAFETY: as for `plan`.
     unsafe {
@@ -185,7 +185,7 @@ pub fn plan_halves(order: &[u8], starts: &mut [i32], work: &mut [i32]) -> Halves
 
 /// Writes an order's plan in packed bytes into the front of `out`, which has room for
 /// [`PLAN_BYTES`](crate::PLAN_BYTES) (R37, R40); `work` has room for [`WORK_AREA`](crate::WORK_AREA). Refusals 1
-/// to 7 and 9 to 11.
+/// to 7, 9 to 11 and 19.
 pub fn write_plan(order: &[u8], out: &mut [u8], work: &mut [i32]) -> PackAnswer {
     // SAFETY: the order is only read; out and work are each lent alone; the lengths are the slices' own.
     unsafe {
@@ -200,7 +200,7 @@ pub fn write_plan(order: &[u8], out: &mut [u8], work: &mut [i32]) -> PackAnswer 
     }
 }
 
-/// Whether a packed plan is legal for an order (R38). Refusals 1 to 7 and 9 of the order, then 14 and 15 of the
+/// Whether a packed plan is legal for an order (R38). Refusals 1 to 7, 9 and 19 of the order, then 14 and 15 of the
 /// plan.
 pub fn legal(order: &[u8], plan: &[u8]) -> VerdictAnswer {
     // SAFETY: both are only read, and may be one slice; the lengths are the slices' own.
@@ -208,7 +208,7 @@ pub fn legal(order: &[u8], plan: &[u8]) -> VerdictAnswer {
 }
 
 /// Whether a packed plan is best for an order (R39); `work` has room for [`WORK_AREA`](crate::WORK_AREA).
-/// Refusals 1 to 7 and 9 of the order, 14 and 15 of the plan, then 10.
+/// Refusals 1 to 7, 9 and 19 of the order, 14 and 15 of the plan, then 10.
 pub fn best(order: &[u8], plan: &[u8], work: &mut [i32]) -> VerdictAnswer {
     // SAFETY: order and plan are only read, and may be one slice; work is lent alone; the lengths are the
     // slices' own.
@@ -229,8 +229,9 @@ unsafe fn on_openings<A>(call: OnOpenings<A>, first: &[u8], second: &[u8], t: i3
 }
 
 /// Asks which opening is worth more at time `t`; equal weight goes to the one that reaches it sooner, and only then
-/// to the first (R17). `work` has room for [`WORK_AREA`](crate::WORK_AREA). Refusals 1 to 7 and 9 of the first, then
-/// of the second, then 10 and 11; the field of 6 is told, and no place.
+/// to the first (R17); the kind of the winner's records is told too. `work` has room for
+/// [`WORK_AREA`](crate::WORK_AREA). Refusals 1 to 7, 9 and 19 of the first, then of the second, then 10 and 11; the
+/// field of 6 is told, and no place.
 pub fn question(first: &[u8], second: &[u8], t: i32, work: &mut [i32]) -> QuestionAnswer {
     // SAFETY: this call of the library does so.
     unsafe { on_openings(leafanchor_question, first, second, t, work) }

@@ -8,7 +8,7 @@ macro_rules! fields {
         /// A field of a job that is out of range. Of several the first is told, in the order of a packed record,
         /// which is that of these names. A critical job that weighs has its weight out of range.
         ///
-        /// Packed bytes hold a number and a critical mark within their ranges: packing alone can refuse those.
+        /// Packed bytes hold a number, a pack and a critical mark within their ranges: packing alone can refuse those.
         ///
         /// ```
         /// use leafanchor::{Field, Job, Order, ORDER_BYTES};
@@ -35,7 +35,7 @@ macro_rules! fields {
         }
 
         impl Field {
-            /// The field's figure, 1 for the number to 6 for the deadline.
+            /// The field's figure, 1 for the number to 7 for the deadline.
             #[must_use]
             pub const fn figure(self) -> u32 {
                 match self {
@@ -71,11 +71,12 @@ macro_rules! fields {
 
 fields! {
     1 Number "number",
-    2 Critical "critical mark",
-    3 Weight "weight",
-    4 Ready "ready time",
-    5 Length "length",
-    6 Deadline "deadline",
+    2 Pack "pack",
+    3 Critical "critical mark",
+    4 Weight "weight",
+    5 Ready "ready time",
+    6 Length "length",
+    7 Deadline "deadline",
 }
 
 #[cfg(test)]
@@ -87,6 +88,6 @@ mod tests {
         for figure in (0..=20).chain([u32::MAX]) {
             assert_eq!(Field::of(figure).figure(), figure);
         }
-        assert_eq!((Field::of(6), Field::of(7)), (Field::Deadline, Field::Other { figure: 7 }));
+        assert_eq!((Field::of(7), Field::of(8)), (Field::Deadline, Field::Other { figure: 8 }));
     }
 }

@@ -10,7 +10,8 @@ const NOT_GIVEN: i32 = i32::MIN;
 ///
 /// A job is begun by [`Job::critical`] or [`Job::optional`] with its number, and each other field is given by its
 /// name. Nothing is guessed: packing refuses a job whose weight, ready time, length or deadline was not given, and
-/// names that field. Later versions may add fields; a job that does not give them stays as it was.
+/// names that field. The pack alone may be left out, and is then 0. Later versions may add fields; a job that does not
+/// give them stays as it was.
 ///
 /// ```
 /// use leafanchor::Job;
@@ -21,6 +22,7 @@ const NOT_GIVEN: i32 = i32::MIN;
 /// assert_eq!(top_up.to_string(), "job 3: weight 20, ready -200, length 300, deadline 250");
 /// top_up.deadline += 60;
 /// assert_eq!(top_up, top_up.deadline(310));
+/// assert_eq!(top_up.pack(31).to_string(), "job 3 for pack 31: weight 20, ready -200, length 300, deadline 310");
 /// ```
 #[non_exhaustive]
 #[derive(Clone, Copy, Debug, PartialEq, Eq, Hash)]
@@ -28,6 +30,8 @@ const NOT_GIVEN: i32 = i32::MIN;
 pub struct Job {
     /// The job's number, 0 to 63, unlike any other in its order.
     pub number: i32,
+    /// The battery pack that the job is for. No plan and no profile depends on it.
+    pub pack: u8,
     /// Whether the job stays in every plan.
     pub critical: bool,
     /// 0 for a critical job, else 1 to 50.
@@ -44,13 +48,26 @@ impl Job {
     /// A job that stays in every plan, by its number: 0 to 63, unlike any other in its order. Its ready time, length
     /// and deadline are to be given.
     pub const fn critical(number: i32) -> Self {
-        Job { number, critical: true, weight: 0, ready: NOT_GIVEN, length: NOT_GIVEN, deadline: NOT_GIVEN }
+        Job {
+            number,
+            pack: 0,
+            critical: true,
+            weight: 0,
+            ready: NOT_GIVEN,
+            length: NOT_GIVEN,
+            deadline: NOT_GIVEN,
+        }
     }
 
     /// A job that may be left out at the loss of its weight, by its number as for [`Job::critical`]. Its weight is to
     /// be given too.
     pub const fn optional(number: i32) -> Self {
         Job { critical: false, ..Job::critical(number) }
+    }
+
+    /// For this battery pack.
+    pub const fn pack(self, pack: u8) -> Self {
+        Job { pack, ..self }
     }
 
     /// With this weight: 1 to 50, or 0 for a critical job.
@@ -75,18 +92,21 @@ impl Job {
 
     /// The job unpacked. A weight that no number holds becomes a negative one, which is out of range too.
     pub(crate) fn numbers(&self) -> [i32; JOB_NUMBERS] {
-        let (critical, weight) = (i32::from(self.critical), self.weight as i32);
-        [self.number, critical, weight, self.ready, self.length, self.deadline]
+        let (pack, critical, weight) = (self.pack.into(), self.critical.into(), self.weight as i32);
+        [self.number, pack, critical, weight, self.ready, self.length, self.deadline]
     }
 }
 
 impl fmt::Display for Job {
     fn fmt(&self, f: &mut fmt::Formatter<'_>) -> fmt::Result {
-        write!(f, "job {}: ", self.number)?;
+        write!(f, "job {}", self.number)?;
+        if self.pack != 0 {
+            write!(f, " for pack {}", self.pack)?;
+        }
         if self.critical {
-            write!(f, "critical")?;
+            write!(f, ": critical")?;
         } else {
-            write!(f, "weight {}", self.weight)?;
+            write!(f, ": weight {}", self.weight)?;
         }
         write!(f, ", ready {}, length {}, deadline {}", self.ready, self.length, self.deadline)
     }

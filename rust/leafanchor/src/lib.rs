@@ -11,7 +11,7 @@
 //!
 //! A job's finish is its start plus its length. The contactor rests 15 seconds after every job: the bus is
 //! free 15 seconds after the finish, and the next job kept starts then at the earliest. A deadline binds the
-//! finish alone.
+//! finish alone. A job's pack says which battery pack it is for; plans and profiles do not read it.
 //!
 //! ```
 //! use leafanchor::{Job, Order, WorkArea, ORDER_BYTES};
@@ -50,6 +50,7 @@ mod answers;
 mod ffi;
 mod field;
 mod job;
+mod kind;
 mod openings;
 mod order;
 #[cfg(feature = "alloc")]
@@ -65,6 +66,7 @@ mod work;
 pub use answers::Point;
 pub use field::Field;
 pub use job::Job;
+pub use kind::Kind;
 pub use openings::{choose, choose_by, question, question_by, Opening, Tie, Winner};
 pub use order::Order;
 #[cfg(feature = "alloc")]
@@ -112,16 +114,16 @@ pub struct Readme;
 pub const MOST_JOBS: usize = 48;
 /// Bytes of a packed order's header.
 pub const HEADER_BYTES: usize = 4;
-/// Bytes of the longest packed order.
-pub const ORDER_BYTES: usize = HEADER_BYTES + 8 * MOST_JOBS;
+/// Bytes of the longest packed order: one with packs.
+pub const ORDER_BYTES: usize = HEADER_BYTES + Kind::WithPacks.record_bytes() * MOST_JOBS;
 /// Numbers of an unpacked job.
-pub const JOB_NUMBERS: usize = 6;
+pub const JOB_NUMBERS: usize = 7;
 /// Numbers of the longest unpacked order.
 pub const ORDER_NUMBERS: usize = JOB_NUMBERS * MOST_JOBS;
 /// Repeating jobs of one frame, at most.
 pub const MOST_REPEATING: usize = 16;
-/// Numbers of so many repeating jobs.
-pub const REPEATING_NUMBERS: usize = JOB_NUMBERS * MOST_REPEATING;
+/// Numbers of so many repeating jobs, six each.
+pub const REPEATING_NUMBERS: usize = Repeating::NUMBERS * MOST_REPEATING;
 /// Seconds of the longest frame, and of the longest period.
 pub const LONGEST_FRAME: u32 = 86_400;
 /// Bytes of the longest packed plan: 48 bits for the jobs kept, and 18 for the start of each.

@@ -1,6 +1,7 @@
 //! Choosing between two openings of a morning (R17, R18).
 
 use crate::calls;
+use crate::kind::Kind;
 use crate::order::Order;
 use crate::refusal::Refusal;
 use crate::work::WorkArea;
@@ -35,6 +36,8 @@ pub struct Winner<'a> {
     pub order: Order<'a>,
     /// Its packed jobs, without the header.
     pub records: &'a [u8],
+    /// How they are packed.
+    pub kind: Kind,
 }
 
 /// Which of two openings wins where both are worth the same weight (R17).
@@ -60,7 +63,8 @@ pub fn question(
     question_by(Tie::default(), first, second, t, work)
 }
 
-/// Which opening is worth more at time `t`, with equal weight by the tie.
+/// Which opening is worth more at time `t`, with equal weight by the tie. The openings may be of unlike
+/// [kinds](Order::kind).
 ///
 /// # Errors
 /// Refusal 11 if neither has a point by then.
@@ -133,5 +137,5 @@ pub fn choose_by<'a>(
         Opening::Second => second,
     };
     let records = &order.bytes()[answer.offset..answer.offset + answer.length];
-    Ok(Winner { opening, order, records })
+    Ok(Winner { opening, order, records, kind: Kind::of(answer.kind) })
 }

@@ -2,6 +2,7 @@
 
 use crate::calls;
 use crate::job::Job;
+use crate::kind::Kind;
 use crate::packed_plan::PackedPlan;
 use crate::plan::{HalvesPlan, Plan};
 use crate::profile::Profile;
@@ -11,12 +12,9 @@ use crate::work::WorkArea;
 use crate::{HEADER_BYTES, JOB_NUMBERS, MOST_JOBS, MOST_REPEATING, ORDER_NUMBERS, REPEATING_NUMBERS};
 use core::fmt;
 
-/// Bytes of a packed job.
-const RECORD_BYTES: usize = 8;
-
 /// A packed order that passed every check of an order, over the caller's bytes.
 ///
-/// The proved library judges the bytes once, in `try_from`, with the refusals 1 to 7 and 9, their places and the
+/// The proved library judges the bytes once, in `try_from`, with the refusals 1 to 7, 9 and 19, their places and the
 /// field of 6. No call refuses an `Order` for any of these again, save that [`Profile::extended`] adds the weight
 /// that the profile brings. With the feature `alloc` an [`OrderBuf`](crate::OrderBuf) owns its bytes.
 ///
@@ -74,7 +72,24 @@ impl<'a> TryFrom<&'a alloc::vec::Vec<u8>> for Order<'a> {
 
 impl<'a> Order<'a> {
     /// Packs a bus-free time, -100,000 to 100,000, and jobs into the front of `room`;
-    /// [`ORDER_BYTES`](crate::ORDER_BYTES) are enough for any order.
+    /// [`ORDER_BYTES`](crate::ORDER_BYTES) are enough for any order. Where a job has a pack, the records are of
+    /// [`Kind::WithPacks`].
+    ///
+    /// ```
+    /// use leafanchor::{Job, Kind, Order, WorkArea, ORDER_BYTES};
+    ///
+    /// let heat_up = Job::critical(7).ready(-600).length(495).deadline(0);
+    /// let (mut room, mut other) = ([0; ORDER_BYTES], [0; ORDER_BYTES]);
+    /// let plain = Order::pack(-600, &[heat_up], &mut room)?;
+    /// let of_pack_3 = Order::pack(-600, &[heat_up.pack(3)], &mut other)?;
+    /// assert_eq!((plain.kind(), plain.bytes().len()), (Kind::Plain, 12));
+    /// assert_eq!((of_pack_3.kind(), of_pack_3.bytes().len()), (Kind::WithPacks, 13));
+    /// assert_eq!(of_pack_3.jobs().next().map(|job| job.pack), Some(3));
+    ///
+    /// let mut work = WorkArea::new();
+    /// assert_eq!(of_pack_3.plan(&mut work), plain.plan(&mut work));
+    /// # Ok::<(), leafanchor::Refusal>(())
+    /// ```
     ///
     /// # Errors
     /// Refusals 3, 5 to 7, 9 and 10; `room` then stays as it was.
@@ -95,7 +110,7 @@ impl<'a> Order<'a> {
     ///
     /// The frame is the least common multiple of the periods, 1 without jobs. Each job is ready at its phase and every
     /// period from there, below the frame. The order has these repeats by ready time and then by the place given,
-    /// numbered 0, 1, 2 and so on; its t0 is 0. Two frames joined, the second set one frame later, keep twice what one
+    /// numbered 0, 1, 2 and so on; its t0 and every pack are 0. Two frames joined, the second set one frame later, keep twice what one
     /// keeps.
     ///
     /// ```
@@ -122,15 +137,16 @@ impl<'a> Order<'a> {
     /// 3 and 9 of the order made, then 10; `room` then stays as it was.
     pub fn frame(repeating: &[Repeating], room: &'a mut [u8]) -> Result<(Self, u32), Refusal> {
         // Room for one job more than a frame has: of too many jobs that many are enough for refusal 3.
-        let mut numbers = [0; REPEATING_NUMBERS + JOB_NUMBERS];
+        let mut numbers = [0; REPEATING_NUMBERS + Repeating::NUMBERS];
         let given = repeating.iter().take(MOST_REPEATING + 1);
-        let length = JOB_NUMBERS * given.len();
-        for (place, job) in numbers.chunks_exact_mut(JOB_NUMBERS).zip(given) {
+        let length = Repeating::NUMBERS * given.len();
+        for (place, job) in numbers.chunks_exact_mut(Repeating::NUMBERS).zip(given) {
             place.copy_from_slice(&job.numbers());
         }
         let answer = calls::frame(&numbers[..length], room).accepted()?;
         let bytes = &room[..answer.bytes];
-        Ok((Order { bytes, t0: 0, count: (bytes.len() - HEADER_BYTES) / RECORD_BYTES }, answer.frame))
+        let count = (bytes.len() - HEADER_BYTES) / Kind::Plain.record_bytes();
+        Ok((Order { bytes, t0: 0, count }, answer.frame))
     }
 
     /// The order in bytes that were checked before, with the bus-free time and the number of jobs that they hold.
@@ -149,6 +165,12 @@ impl<'a> Order<'a> {
     #[must_use]
     pub fn records(self) -> &'a [u8] {
         &self.bytes[HEADER_BYTES..]
+    }
+
+    /// The kind of the packed jobs.
+    #[must_use]
+    pub const fn kind(self) -> Kind {
+        Kind::of(self.bytes[HEADER_BYTES - 1] as u32)
     }
 
     /// The bus-free time.

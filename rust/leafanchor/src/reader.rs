@@ -5,7 +5,7 @@ use crate::job::Job;
 use crate::refusal::Refusal;
 use core::iter::FusedIterator;
 
-/// A reader over packed bytes of which only the header has been checked. It needs no memory beside them.
+/// A reader over packed bytes of which only the header and the kind have been checked. It needs no memory beside them.
 ///
 /// As an iterator it ends after the last job or the first refusal; [`Reader::step`] stays at a refused job
 /// and says so again. It does not judge repeated numbers or the sum of the weights:
@@ -33,7 +33,7 @@ impl<'a> Reader<'a> {
     /// A reader at the first job.
     ///
     /// # Errors
-    /// Refusals 1 to 5.
+    /// Refusals 1 to 5 and 19.
     pub fn open(bytes: &'a [u8]) -> Result<Self, Refusal> {
         let answer = calls::open(bytes).accepted()?;
         Ok(Reader { bytes, jobs: answer.jobs, place: 0, refused: false })

@@ -11,9 +11,9 @@ macro_rules! refusals {
         $number:literal $name:ident $({ $place:ident $(, $field:ident)? })?
         $phrase:literal $(| $told:literal $(| $named:literal)?)?,
     )*) => {
-        /// Why a call refused. Where several reasons apply, the one of the lowest number is given, but for 13,
-        /// 14 and 15, which come after 9 and before 10, and for a frame, where 16 and 17 come behind 3 and 4 of
-        /// the repeating jobs, before 3 and 9 of the order made.
+        /// Why a call refused. Where several reasons apply, the one of the lowest number is given, but for 19,
+        /// which comes after 5 and before 6, for 13, 14 and 15, which come after 9 and before 10, and for a frame,
+        /// where 16 and 17 come behind 3 and 4 of the repeating jobs, before 3 and 9 of the order made.
         ///
         /// Later versions may add reasons, and figures to the reasons that are about one job.
         ///
@@ -118,7 +118,7 @@ macro_rules! refusals {
 
 refusals! {
     1 OrderTooShort "the packed order is under 4 bytes",
-    2 SpareBits "the header's spare bits are not zero",
+    2 UnknownKind "the kind of the records is above 1",
     3 TooManyJobs "there are more than 48 jobs, or more than 16 that repeat",
     4 WrongLength "the length does not fit the number of jobs",
     5 BusFreeOutOfRange "the bus-free time is out of range",
@@ -139,6 +139,7 @@ refusals! {
         "a repeating job's field is out of range, or its deadline late"
         | "job at place {place}: out of range, or its deadline late",
     17 FrameTooLong "the frame is longer than 86,400 seconds",
+    19 EveryPackZero "the records are of kind 1 and every pack is 0",
 }
 
 #[cfg(feature = "std")]
@@ -149,7 +150,7 @@ mod tests {
     use super::{Field, Refusal};
 
     fn refused(number: u32) -> Refusal {
-        Refusal::check(number, Some(3), 5).unwrap_err()
+        Refusal::check(number, Some(3), 6).unwrap_err()
     }
 
     #[test]
@@ -164,11 +165,11 @@ mod tests {
 
     #[test]
     fn refusals_6_7_13_and_16_have_a_place_and_6_alone_a_field() {
-        for number in 1..=17 {
+        for number in (1..=17).chain([19]) {
             let place = if [6, 7, 13, 16].contains(&number) { Some(3) } else { None };
             let field = if number == 6 { Some(Field::Length) } else { None };
             assert_eq!((refused(number).place(), refused(number).field()), (place, field));
-            assert_eq!(Refusal::check(number, None, 5).unwrap_err().place(), None);
+            assert_eq!(Refusal::check(number, None, 6).unwrap_err().place(), None);
         }
     }
 }
@@ -211,8 +212,8 @@ mod phrases {
                 let words = words.replace("{place}", "40").replace("{field}", "ready time");
                 assert_eq!(Refusal::check(number, place, field).unwrap_err().to_string(), words);
             };
-            says(Some(40), 4, 1);
-            says(None, 4, 2);
+            says(Some(40), 5, 1);
+            says(None, 5, 2);
             // Of a field that has no name nothing is told, and nor is its place.
             says(Some(40), 99, if number == 6 { 0 } else { 1 });
             says(None, 99, 0);

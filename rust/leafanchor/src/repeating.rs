@@ -1,6 +1,5 @@
 //! One repeating job of a frame (R41).
 
-use crate::JOB_NUMBERS;
 use core::fmt;
 
 /// What a field holds until it is given: it is out of range, so that a job with a forgotten field is refused.
@@ -43,6 +42,9 @@ pub struct Repeating {
 }
 
 impl Repeating {
+    /// How many numbers it is.
+    pub(crate) const NUMBERS: usize = 6;
+
     /// A job whose every repeat stays in every plan. Its phase, length, deadline and period are to be given.
     pub const fn critical() -> Self {
         Repeating {
@@ -87,7 +89,7 @@ impl Repeating {
     }
 
     /// The job as its six numbers. A weight that no number holds becomes a negative one, which is out of range too.
-    pub(crate) fn numbers(&self) -> [i32; JOB_NUMBERS] {
+    pub(crate) fn numbers(&self) -> [i32; Repeating::NUMBERS] {
         let (critical, weight) = (i32::from(self.critical), self.weight as i32);
         [critical, weight, self.phase, self.length, self.deadline, self.period]
     }

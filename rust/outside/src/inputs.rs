@@ -3,11 +3,12 @@
 
 use leafanchor::calls::Point;
 use trials::{
-    halves_of, order_of, packed, profile_of, repeating_of, Job, Most, Order, Random, Repeating, Style,
+    halves_of, order_of, packed, packed_as, profile_of, put_packs, repeating_of, Job, Most, Order, Random,
+    Repeating, Style,
 };
 
 /// Numbers at and past the ends of ranges.
-const STRANGE: [i32; 18] = [
+const STRANGE: [i32; 20] = [
     i32::MIN,
     -131_072,
     -100_001,
@@ -19,6 +20,8 @@ const STRANGE: [i32; 18] = [
     51,
     63,
     64,
+    255,
+    256,
     10_000,
     10_001,
     100_000,
@@ -67,9 +70,14 @@ fn drawn(random: &mut Random, draw: Draw) -> Order {
     drawn_with(random, draw, style, n)
 }
 
+/// Half of them have packs.
 fn drawn_with(random: &mut Random, draw: Draw, style: Style, n: usize) -> Order {
     let most = most_weight(random, n);
-    draw(random, style, n, most)
+    let mut order = draw(random, style, n, most);
+    if random.once_in(2) {
+        put_packs(random, &mut order);
+    }
+    order
 }
 
 /// What the weights of `n` jobs may sum to.
@@ -82,7 +90,7 @@ fn most_weight(random: &mut Random, n: usize) -> i32 {
 }
 
 /// An order of the same jobs, all of it moved by a second or two or a part of it: at many times both keep the same
-/// weight, one of them sooner or both at once.
+/// weight, one of them sooner or both at once. Half of them have the packs of the order.
 pub fn rival(random: &mut Random, order: &Order) -> Order {
     let mut rival = order.clone();
     if random.once_in(6) {
@@ -90,7 +98,17 @@ pub fn rival(random: &mut Random, order: &Order) -> Order {
     } else {
         move_all(random.one_of(&[-2, -1, -1, 1, 1, 2]), &mut rival);
     }
+    match random.below(4) {
+        0 => clear_packs(&mut rival),
+        1 => put_packs(random, &mut rival),
+        _ => {}
+    }
     rival
+}
+
+/// Takes the packs of all jobs away.
+fn clear_packs(order: &mut Order) {
+    order.jobs.iter_mut().for_each(|job| job.pack = 0);
 }
 
 /// A time moved by so many seconds, within its range.
@@ -146,12 +164,13 @@ fn damaged_order(random: &mut Random) -> Order {
 /// Puts a strange number into one field.
 fn damage_field(random: &mut Random, job: &mut Job) {
     let strange = random.one_of(&STRANGE);
-    match random.below(6) {
+    match random.below(7) {
         0 => job.number = strange,
-        1 => job.critical = strange,
-        2 => job.weight = strange,
-        3 => job.ready = strange,
-        4 => job.length = strange,
+        1 => job.pack = strange,
+        2 => job.critical = strange,
+        3 => job.weight = strange,
+        4 => job.ready = strange,
+        5 => job.length = strange,
         _ => job.deadline = strange,
     }
 }
@@ -176,9 +195,10 @@ pub fn bytes(random: &mut Random) -> Vec<u8> {
         0..=9 => packed(&order(random)),
         10..=13 => bytes_of_damaged(random),
         14 => {
-            let length = random.one_of(&[0, 1, 2, 3, 4, 5, 12, 44, 388, 389, 2000]);
+            let length = random.one_of(&[0, 1, 2, 3, 4, 5, 12, 13, 44, 49, 388, 389, 436, 437, 2000]);
             (0..length).map(|_| random.bits() as u8).collect()
         }
+        15 => bytes_without_packs(random),
         _ => {
             let bytes = packed(&order(random));
             damaged_bytes(random, bytes)
@@ -189,6 +209,13 @@ pub fn bytes(random: &mut Random) -> Vec<u8> {
 /// Packed bytes of an order with one or two damages.
 pub fn bytes_of_damaged(random: &mut Random) -> Vec<u8> {
     packed(&damaged_order(random))
+}
+
+/// Packed bytes of kind 1 in which every pack is 0; half of the orders have other damages too.
+fn bytes_without_packs(random: &mut Random) -> Vec<u8> {
+    let mut order = if random.once_in(2) { order(random) } else { damaged_order(random) };
+    clear_packs(&mut order);
+    packed_as(&order, 1)
 }
 
 /// An order with one or two damages, each of which may make a job no half, at its place or at a later one.
@@ -239,12 +266,12 @@ fn damaged_bytes(random: &mut Random, mut bytes: Vec<u8>) -> Vec<u8> {
         match random.below(6) {
             0 => bytes.truncate(random.below(bytes.len() + 1)),
             1 => {
-                let more = random.one_of(&[1, 4, 8, 400]);
+                let more = random.one_of(&[1, 4, 8, 9, 400]);
                 bytes.extend((0..more).map(|_| random.bits() as u8));
             }
             _ if bytes.len() < 4 => {}
             2 => bytes[0] = bytes[0] & 3 | (random.one_of(&[0, 1, 5, 47, 48, 49, 50, 63]) << 2),
-            3 => bytes[3] = random.one_of(&[1, 2, 64, 128, 255]),
+            3 => bytes[3] = random.one_of(&[0, 1, 2, 3, 128, 255]),
             4 => bytes[random.below(4)] ^= 1 << random.below(8),
             _ => {
                 let at = random.below(bytes.len());
@@ -263,7 +290,7 @@ pub fn numbers(random: &mut Random) -> (i32, Vec<i32>) {
         numbers.truncate(random.below(numbers.len() + 1));
     }
     if random.once_in(12) {
-        let length = random.one_of(&[282, 287, 288, 289, 290, 294, 600]);
+        let length = random.one_of(&[329, 335, 336, 337, 338, 343, 600]);
         numbers.resize_with(length, || random.one_of(&STRANGE));
     }
     (order.t0, numbers)

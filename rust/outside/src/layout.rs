@@ -32,6 +32,7 @@ pub fn print() {
         field,
         end,
         number,
+        pack,
         critical,
         weight,
         ready,
@@ -71,6 +72,6 @@ pub fn print() {
         seconds_lost
     );
     layout!(VerdictAnswer, "verdict_answer", refusal, place, field, yes);
-    layout!(QuestionAnswer, "question_answer", refusal, field, winner);
-    layout!(ChooseAnswer, "choose_answer", refusal, field, winner, offset, length);
+    layout!(QuestionAnswer, "question_answer", refusal, field, winner, kind);
+    layout!(ChooseAnswer, "choose_answer", refusal, field, winner, offset, length, kind);
 }

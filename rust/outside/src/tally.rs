@@ -1,6 +1,7 @@
 //! Counts of what was called, what was refused and what differed.
 
 use crate::frames::Frames;
+use crate::kinds::Kinds;
 use crate::verdicts::Verdicts;
 use std::cmp::Ordering;
 use std::collections::{BTreeMap, BTreeSet};
@@ -29,8 +30,9 @@ impl Held {
 /// Some order has more points than this, 200 a prefix.
 const MANY_POINTS: u32 = 48 * 200;
 
-/// Refusals are numbered below this; 0 is none.
-const NUMBERS: usize = 18;
+/// Refusals are numbered below this; 0 is none, and no call gives 18.
+const NUMBERS: usize = 20;
+const NOT_GIVEN: usize = 18;
 
 /// Counts by refusal number.
 type Counts = [usize; NUMBERS];
@@ -61,6 +63,8 @@ pub struct Tally {
     pub ties: Ties,
     /// The fields that refusal 6 named.
     pub fields: Fields,
+    /// What the kinds of records turned on.
+    pub kinds: Kinds,
     /// What the verdicts on plans turned on.
     pub verdicts: Verdicts,
     /// What frames of repeating jobs turned on.
@@ -149,8 +153,8 @@ impl Ties {
 }
 
 /// A job has so many fields; the first so many are within their ranges in all packed bytes.
-const FIELDS: usize = 6;
-const HELD_BY_BYTES: usize = 2;
+const FIELDS: usize = 7;
+const HELD_BY_BYTES: usize = 3;
 
 /// How often each call named each field, and how often it was not the only one.
 #[derive(Default)]
@@ -231,8 +235,8 @@ impl Tally {
         }
     }
 
-    /// Prints the counts; true if nothing differed, every refusal 1 to 17 was seen over the C boundary, and so
-    /// was every edge of the rest, of halves, of ties, of verdicts and of frames and every field of refusal 6.
+    /// Prints the counts; true if nothing differed, every refusal 1 to 17 and 19 was seen over the C boundary, and so
+    /// was every edge of the rest, of halves, of ties, of verdicts, of frames and of kinds and every field of refusal 6.
     pub fn report(&self) -> bool {
         print!("{:>18}", "refusal");
         (0..NUMBERS).for_each(|number| print!("{number:>8}"));
@@ -260,7 +264,9 @@ impl Tally {
         let verdicts_met = self.verdicts.report();
         let frames_met = self.frames.report();
         let fields_named = self.fields.report();
-        let unseen: Vec<usize> = (0..NUMBERS).filter(|&number| of_calls[number] == 0).collect();
+        let kinds_met = self.kinds.report();
+        let is_unseen = |&number: &usize| of_calls[number] == 0 && number != NOT_GIVEN;
+        let unseen: Vec<usize> = (0..NUMBERS).filter(is_unseen).collect();
         if !unseen.is_empty() {
             println!("never seen: refusals {unseen:?}");
         }
@@ -274,6 +280,7 @@ impl Tally {
             && verdicts_met
             && frames_met
             && fields_named
+            && kinds_met
             && self.most_points > MANY_POINTS
             && [met, missed, late_plans, late_profiles].iter().all(|&seen| seen > 0)
     }

@@ -1,27 +1,30 @@
 //! Generated orders and profiles, the same on every machine: a fixed generator, plain orders in several
 //! styles that make ties, tight windows, critical jobs and infeasible orders frequent, orders of halves, orders
-//! with many scheduling points, repeating jobs, and a plain bit-by-bit packer of orders and plans. Beside them a way
-//! to write down the answer that a call must give.
+//! with many scheduling points, packs, repeating jobs, and a plain bit-by-bit packer of orders and plans. Beside them
+//! a way to write down the answer that a call must give.
 
 mod answer;
 mod halves;
 mod long_lists;
 mod orders;
 mod packing;
+mod packs;
 mod random;
 mod repeating;
 
 pub use halves::halves_of;
 pub use long_lists::{dense_order, wide_order};
 pub use orders::{full_order, order_of, profile_of, Style};
-pub use packing::{packed, packed_plan};
+pub use packing::{packed, packed_as, packed_plan};
+pub use packs::put_packs;
 pub use random::Random;
 pub use repeating::{repeating_of, Most};
 
-/// A job as its six fields, which may be out of range.
+/// A job as its seven fields, which may be out of range.
 #[derive(Clone, Copy, Debug, PartialEq, Eq)]
 pub struct Job {
     pub number: i32,
+    pub pack: i32,
     pub critical: i32,
     pub weight: i32,
     pub ready: i32,
@@ -31,8 +34,8 @@ pub struct Job {
 
 impl Job {
     /// The fields in the order in which they are packed and unpacked.
-    pub fn numbers(&self) -> [i32; 6] {
-        [self.number, self.critical, self.weight, self.ready, self.length, self.deadline]
+    pub fn numbers(&self) -> [i32; 7] {
+        [self.number, self.pack, self.critical, self.weight, self.ready, self.length, self.deadline]
     }
 }
 
@@ -62,8 +65,13 @@ pub struct Order {
 }
 
 impl Order {
-    /// Six numbers a job.
+    /// Seven numbers a job.
     pub fn numbers(&self) -> Vec<i32> {
         self.jobs.iter().flat_map(Job::numbers).collect()
+    }
+
+    /// The kind of its records: 1 where a job has a pack other than 0.
+    pub fn kind(&self) -> usize {
+        usize::from(self.jobs.iter().any(|job| job.pack != 0))
     }
 }

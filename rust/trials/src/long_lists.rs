@@ -31,6 +31,7 @@ pub fn dense_order(random: &mut Random) -> Order {
         keep(&mut fastest, weight as usize, takes);
         Job {
             number: place as i32,
+            pack: 0,
             critical: 0,
             weight,
             ready: -LATEST,

@@ -158,5 +158,5 @@ pub(crate) fn timed(random: &mut Random, style: Style, place: usize) -> Job {
         }
     };
     let deadline = (ready + window).clamp(-LATEST, LATEST);
-    Job { number: 0, critical: 0, weight: 0, ready, length, deadline }
+    Job { number: 0, pack: 0, critical: 0, weight: 0, ready, length, deadline }
 }

@@ -2,17 +2,22 @@
 
 use crate::Order;
 
-/// Widths of a job's fields in the order in which they are packed.
-const WIDTHS: [u32; 6] = [6, 1, 7, 18, 14, 18];
+/// Widths of a job's fields in the order in which they are packed, by the kind of the record.
+const WIDTHS: [[u32; 7]; 2] = [[6, 0, 1, 7, 18, 14, 18], [6, 8, 1, 7, 18, 14, 18]];
 
 /// The packed bytes of an order; a field too great for its width loses its high bits.
 pub fn packed(order: &Order) -> Vec<u8> {
-    let mut bits = Vec::with_capacity(32 + 64 * order.jobs.len());
+    packed_as(order, order.kind())
+}
+
+/// The same with records of a given kind, whatever packs there are.
+pub fn packed_as(order: &Order, kind: usize) -> Vec<u8> {
+    let mut bits = Vec::with_capacity(32 + 72 * order.jobs.len());
     put(&mut bits, order.jobs.len() as i32, 6);
     put(&mut bits, order.t0, 18);
-    put(&mut bits, 0, 8);
+    put(&mut bits, kind as i32, 8);
     for job in &order.jobs {
-        for (field, width) in job.numbers().into_iter().zip(WIDTHS) {
+        for (field, width) in job.numbers().into_iter().zip(WIDTHS[kind]) {
             put(&mut bits, field, width);
         }
     }

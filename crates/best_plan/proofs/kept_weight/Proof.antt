@@ -1,10 +1,11 @@
 -- `best_plan::kept_weight` meets its contract. The loop's invariant: the weight so far and that of the jobs from here on are the
 -- whole weight.
 -- Assumes nothing.
-use Prim.Native.Nat.{_+_, _*_, _-_, _≤_, _<_}
+use Prim.Native.Nat.{_-_, _≤_, _<_}
 use native.Mathlib.Omega.{arith}
-use lib.ListN.{length}
 use denote.Ref.{now}
+use Rattle.fields.specs.Asked.{RecordIn}
+use Rattle.fields.specs.Facts.{record-in}
 use Rattle.best_plan.specs.WeightLaws.{Summing, sum-starts, job-weighs, gain-small, sum-on, sum-ends}
 use Rattle.best_plan.proofs.kept_weight.Statement.{statement}
 use Rattle.best_plan.proofs.kept_weight.Tie as tie
@@ -26,17 +27,14 @@ module _ (c : tie.In-loop Inv-loop μ-loop) where
   few = let i = c .before .loop .inv in omega (arith, c .loop-test .taken, i .count, i .order .header .few)
 
   room : let s : tie.Start Inv-loop μ-loop = c .before .before .before in
-      4 + 8 * c .before .loop .place + 8 ≤ length (now (s .args .order))
-  room = let i = c .before .loop .inv in omega (arith, c .loop-test .taken, i .count, i .order .header .whole)
+      RecordIn (now (s .args .order)) (c .before .loop .place)
+  room =
+      let s : tie.Start Inv-loop μ-loop = c .before .before .before in
+      let i = c .before .loop .inv in
+      record-in (now (s .args .order)) (c .before .loop .place) (i .order .header) (omega (arith, c .loop-test .taken, i .count))
 
-mul-job-at : tie.Need-mul-job-at Inv-loop μ-loop
-mul-job-at c = omega (arith, few c)
-
-add-job-at : tie.Need-add-job-at Inv-loop μ-loop
-add-job-at c = omega (arith, few c)
-
-job-at-requires : tie.Need-job-at-requires Inv-loop μ-loop
-job-at-requires c κs = room c
+job-in-requires : tie.Need-job-in-requires Inv-loop μ-loop
+job-in-requires c κs = room c
 
 keeps-requires : tie.Need-keeps-requires Inv-loop μ-loop
 keeps-requires c κs = few (c .before)
@@ -45,7 +43,7 @@ weight-of-requires : tie.Need-weight-of-requires Inv-loop μ-loop
 weight-of-requires c κs =
     let j = c .before in
     let t = j .before in
-    job-weighs (t .before .loop .inv) (t .loop-test .taken) (j .job-at .result) (j .job-at .ensures)
+    job-weighs (t .before .loop .inv) (t .loop-test .taken) (j .job-in .result) (j .job-in .ensures)
 
 -- What the job counts is small.
 small : (c : tie.After-weight-of Inv-loop μ-loop) → c .weight-of .result ≤ 50
@@ -53,7 +51,7 @@ small c =
     let k = c .before in
     let j = k .before in
     let t = j .before in
-    gain-small (t .before .loop .inv) (t .loop-test .taken) (j .job-at .result) (j .job-at .ensures) (k .keeps .ensures)
+    gain-small (t .before .loop .inv) (t .loop-test .taken) (j .job-in .result) (j .job-in .ensures) (k .keeps .ensures)
     (c .weight-of .ensures)
 
 add-weight : tie.Need-add-weight Inv-loop μ-loop
@@ -74,7 +72,7 @@ loop-again c =
     let k = c .before in
     let j = k .before in
     let t = j .before in
-    sum-on (t .before .loop .inv) (t .loop-test .taken) (j .job-at .result) (j .job-at .ensures) (k .keeps .ensures)
+    sum-on (t .before .loop .inv) (t .loop-test .taken) (j .job-in .result) (j .job-in .ensures) (k .keeps .ensures)
     (c .weight-of .ensures)
 
 returns : tie.Need-returns Inv-loop μ-loop
@@ -83,5 +81,5 @@ returns c = sum-ends (c .before .loop .inv) (c .loop-test .left)
 pub kept-weight-spec : {M : Type 1} → statement M
 kept-weight-spec =
     tie.close
-    (tie.spec Inv-loop μ-loop loop-holds mul-job-at add-job-at job-at-requires keeps-requires weight-of-requires add-weight add-place
+    (tie.spec Inv-loop μ-loop loop-holds job-in-requires keeps-requires weight-of-requires add-weight add-place
     loop-less loop-again returns)

@@ -17,6 +17,7 @@ use Rattle.packed.specs.Packed.{jobsIn}
 use Rattle.fields.specs.Fields.{asJob}
 use Rattle.fields.specs.Places.{jobs-count, job-there, job-fine}
 use Rattle.plan_bytes.specs.Asks.{startFrom}
+use Rattle.fields.specs.Facts.{record-in}
 use Rattle.checking.specs.Turns.{turnOf}
 use Rattle.checking.specs.TurnLaws.{Judging, judging-starts, has-start, judging-stops, judging-on, judging-ends}
 use Rattle.checking.specs.declared.Turn.{Turn}
@@ -43,30 +44,20 @@ loop-holds c =
     judging-starts (jobsIn (now (s .args .order))) (s .args .n) (toZ w32 (ofZ w32 (s .args .t0))) (s .args .mask) (now (s .args .plan))
     (s .fits .mask .fits) (s .pre .none-beyond)
 
-mul-job-at : tie.Need-mul-job-at Inv-loop μ-loop
-mul-job-at c =
+job-in-requires : tie.Need-job-in-requires Inv-loop μ-loop
+job-in-requires c κs =
     let s = start (c .before) in
-    omega (arith, few s)
-
-add-job-at : tie.Need-add-job-at Inv-loop μ-loop
-add-job-at c =
-    let s = start (c .before) in
-    omega (arith, few s)
-
-job-at-requires : tie.Need-job-at-requires Inv-loop μ-loop
-job-at-requires c κs =
-    let s = start (c .before) in
-    omega (arith, s .pre .accepted .header .whole, s .pre .count)
+    record-in (now (s .args .order)) (c .before .loop .place) (s .pre .accepted .header) (omega (arith, s .pre .count))
 
 -- The job at the place has been read.
-module _ (c : tie.After-job-at Inv-loop μ-loop) where
+module _ (c : tie.After-job-in Inv-loop μ-loop) where
   abbrev entry : tie.Start Inv-loop μ-loop
   entry = c .before .before .before .before .before
 
-  there : getElem? (jobsIn (now (entry .args .order))) (c .before .before .loop .place) ≡ some (asJob (c .job-at .result))
+  there : getElem? (jobsIn (now (entry .args .order))) (c .before .before .loop .place) ≡ some (asJob (c .job-in .result))
   there =
       job-there (now (entry .args .order)) (c .before .before .loop .place)
-      (omega (arith, entry .pre .count, c .before .loop-test .taken)) (c .job-at .result) (c .job-at .ensures)
+      (omega (arith, entry .pre .count, c .before .loop-test .taken)) (c .job-in .result) (c .job-in .ensures)
 
 take-turn-requires : tie.Need-take-turn-requires Inv-loop μ-loop
 take-turn-requires c κs =
@@ -74,22 +65,22 @@ take-turn-requires c κs =
     let l = c .before .before .loop in
     record {
       within =
-          job-fine (now (s .args .order)) (l .place) (omega (arith, s .pre .count, c .before .loop-test .taken)) (c .job-at .result)
-          (c .job-at .ensures) (s .pre .accepted);
+          job-fine (now (s .args .order)) (l .place) (omega (arith, s .pre .count, c .before .loop-test .taken)) (c .job-in .result)
+          (c .job-in .ensures) (s .pre .accepted);
       few = omega (arith, l .inv .count, s .pre .many);
       there =
           has-start (jobsIn (now (s .args .order))) (s .args .n) (toZ w32 (ofZ w32 (s .args .t0))) (s .args .mask) (now (s .args .plan))
-          (l .inv) (c .before .loop-test .taken) (asJob (c .job-at .result)) (there c) (s .pre .whole) (s .pre .many);
+          (l .inv) (c .before .loop-test .taken) (asJob (c .job-in .result)) (there c) (s .pre .whole) (s .pre .many);
     }
 
 -- Its turn has been taken.
 module _ (c : tie.After-take-turn Inv-loop μ-loop) where
-  abbrev at : tie.After-job-at Inv-loop μ-loop
+  abbrev at : tie.After-job-in Inv-loop μ-loop
   at = c .before
 
   abbrev taken : Turn
   taken =
-      turnOf (asJob (at .job-at .result)) (not (eqb (at .before .before .loop .left / 2 ^ 63) 0))
+      turnOf (asJob (at .job-in .result)) (not (eqb (at .before .before .loop .left / 2 ^ 63) 0))
       (startFrom (now (entry at .args .plan)) (at .before .before .loop .k)) (at .before .before .loop .k)
       (toZ w32 (at .before .before .loop .free))
 
@@ -104,7 +95,7 @@ returns c =
     let l = d .before .before .loop in
     rw (toZ-ofZ (s .fits .t0)) at
     (judging-stops (jobsIn (now (s .args .order))) (s .args .n) (toZ w32 (ofZ w32 (s .args .t0))) (s .args .mask) (now (s .args .plan))
-    (l .inv) (d .before .loop-test .taken) (asJob (d .job-at .result)) (there d)
+    (l .inv) (d .before .loop-test .taken) (asJob (d .job-in .result)) (there d)
     (sym (ap (λ (r : Turn). r .fine) (turn-is t)) ∙ not-true (t .take-turn .result .fine) (c .if1 .taken)))
 
 mul-left : tie.Need-mul-left Inv-loop μ-loop
@@ -126,7 +117,7 @@ loop-again c =
     let l = d .before .before .loop in
     let on =
     judging-on (jobsIn (now (s .args .order))) (s .args .n) (toZ w32 (ofZ w32 (s .args .t0))) (s .args .mask) (now (s .args .plan))
-    (l .inv) (d .before .loop-test .taken) (asJob (d .job-at .result)) (there d) (few s)
+    (l .inv) (d .before .loop-test .taken) (asJob (d .job-in .result)) (there d) (few s)
     (sym (ap (λ (r : Turn). r .fine) (turn-is t)) ∙ not-false (t .take-turn .result .fine) (c .before .if1 .left)) in
     let same : Judging (jobsIn (now (s .args .order))) (s .args .n) (toZ w32 (ofZ w32 (s .args .t0))) (s .args .mask)
     (now (s .args .plan)) (t .take-turn .result .free) (l .left % 2 ^ 63 * 2) (t .take-turn .result .next) (l .place + 1) =
@@ -148,9 +139,7 @@ all-turns-spec =
     Inv-loop
     μ-loop
     loop-holds
-    mul-job-at
-    add-job-at
-    job-at-requires
+    job-in-requires
     take-turn-requires
     returns
     mul-left

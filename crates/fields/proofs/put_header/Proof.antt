@@ -33,7 +33,10 @@ mul-word-2 : tie.Need-mul-word-2
 mul-word-2 c = omega (arith, small c)
 
 add-word : tie.Need-add-word
-add-word c = omega (arith, small c, c .before .before .pre .few)
+add-word c = omega (arith, small c, c .before .before .pre .known)
+
+add-word-2 : tie.Need-add-word-2
+add-word-2 c = omega (arith, small c, c .before .before .pre .few, c .before .before .pre .known)
 
 put-word-requires : tie.Need-put-word-requires
 put-word-requires c κs =
@@ -51,9 +54,9 @@ returns c =
     let l : List ℕ = now (a .args .bytes) in
     c .before .before .put-word .ensures
     ∙ ap (λ w. bytesOf 4 w ++ drop 4 l)
-    (ap (λ b. a .args .count * 2 ^ 26 + b * 2 ^ 8) (bits after-time-bits)
-    ∙ sym (header-encode (a .args .count) (a .args .t0)))
+    (ap (λ b. a .args .count * 2 ^ 26 + (b * 2 ^ 8 + a .args .kind)) (bits (c .before .before .before .before))
+    ∙ sym (header-encode (a .args .kind) (a .args .count) (a .args .t0)))
 
 pub put-header-spec : {M : Type 1} → statement M
 put-header-spec =
-    tie.close (tie.spec mul-word time-bits-requires mul-word-2 add-word put-word-requires same-length returns)
+    tie.close (tie.spec mul-word time-bits-requires mul-word-2 add-word add-word-2 put-word-requires same-length returns)

@@ -4,14 +4,14 @@ use mathlib.Core.Path.{_≡_}
 use Prim.Native.Nat.{_+_, _*_, _-_, _≤_, _<_, _^_}
 use native.Mathlib.Omega.{arith}
 use denote.Ref.{now}
-use lib.ListN.{getD, take, drop}
-use Rattle.packed.specs.Layout.{numberOf}
+use lib.ListN.{getD}
+use Rattle.fields.specs.Asked.{WordIs}
 use Rattle.fields.specs.Words.{word-none, word-on, word-fits}
 use Rattle.fields.proofs.word_at.Statement.{statement}
 use Rattle.fields.proofs.word_at.Tie as tie
 
 abbrev Inv-loop : tie.InvT-loop
-Inv-loop bytes at count word₀ i₀ word i = (i ≤ count) × (word ≡ numberOf (take i (drop at bytes)))
+Inv-loop bytes at count word₀ i₀ word i = (i ≤ count) × WordIs bytes at i word
 
 abbrev μ-loop : tie.MeasureT-loop
 μ-loop bytes at count word₀ i₀ word i = count - i
@@ -66,7 +66,7 @@ loop-again c =
     let a = start c in (
       omega arith,
       word-on (now (a .args .bytes)) (a .args .at) (a .args .count) (c .before .before .loop .i) (a .pre)
-          (c .before .loop-test .taken) (c .before .before .loop .word) (c .before .before .loop .inv .1),
+          (c .before .loop-test .taken) (λ k. c .shared-slice-known .given k .fits) (c .before .before .loop .word) (c .before .before .loop .inv .1),
     )
 
 returns : tie.Need-returns Inv-loop μ-loop

@@ -94,7 +94,7 @@ returns-4 c =
     frames-written (a .args .numbers .now) (a .args .order .now) (a .pre) (t .totals-of .ensures) (e .if1 .left) (f .if2 .left)
     (g .if3 .left) (w .write-repeats .last .1 .1 .0)
     (w .write-repeats .ensures
-    ∙ ap (firstRecords (frameNumbers (a .args .numbers .now)) (t .totals-of .result .count)) (h .put-header .ensures))
+    ∙ ap (firstRecords 0 (frameNumbers (a .args .numbers .now)) (t .totals-of .result .count)) (h .put-header .ensures))
 
 pub make-spec : {M : Type 1} → statement M
 make-spec =

@@ -31,7 +31,7 @@ returns : tie.Need-returns
 returns c =
     let t = c .before in
     let zs = now (t .before .args .given) in
-    rw (c .plainly .ensures, list-judge (t .before .args .t0) zs, lt-ltb 288 (length zs) (t .if1 .taken))
+    rw (c .plainly .ensures, list-judge (t .before .args .t0) zs, lt-ltb 336 (length zs) (t .if1 .taken))
 
 plainly-requires-2 : tie.Need-plainly-requires-2
 plainly-requires-2 c κs = search needs
@@ -44,8 +44,8 @@ returns-2 c =
     rw (
       c .plainly2 .ensures,
       list-judge (a .args .t0) zs,
-      le-ltb 288 (length zs) (t .before .if1 .left),
-      ne-eqb (length zs % 6) 0 (t .if2 .taken),
+      le-ltb 336 (length zs) (t .before .if1 .left),
+      ne-eqb (length zs % 7) 0 (t .if2 .taken),
     )
 
 is-time-requires : tie.Need-is-time-requires
@@ -72,8 +72,8 @@ module _ (c : tie.After-is-time) where
   left =
       rw (
         list-judge t0 zs,
-        le-ltb 288 (length zs) (c .before .before .if1 .left),
-        eq-eqb (length zs % 6) 0 (c .before .if2 .left),
+        le-ltb 336 (length zs) (c .before .before .if1 .left),
+        eq-eqb (length zs % 7) 0 (c .before .if2 .left),
       )
 
 plainly-requires-3 : tie.Need-plainly-requires-3

@@ -7,7 +7,7 @@ use mir.Facts.{toZ-ofZ}
 use borrow.Author.Needs.{needs}
 use Rattle.opening_answers.specs.Numbers.{chooseNumbers}
 use Rattle.opening_answers.specs.declared.ChooseAnswer.{ChooseAnswer}
-use Rattle.ties.specs.declared.Chosen.{Chosen}
+use Rattle.openings.specs.declared.Answer.{Answer}
 use Rattle.leafanchor.proofs.leafanchor_choose.Statement.{statement}
 use Rattle.leafanchor.proofs.leafanchor_choose.Tie as tie
 
@@ -25,8 +25,8 @@ returns c =
     let asked : tie.After-question = c .before .before in
     let s : tie.Start = asked .before .before .before .before in
     let said = rw (toZ-ofZ (s .fits .t)) at (asked .question .ensures) in
-    let numbers : Chosen → ChooseAnswer =
-    λ won. chooseNumbers won (length (now (s .args .first))) (length (now (s .args .second))) in
+    let numbers : Answer → ChooseAnswer =
+    λ answer. chooseNumbers answer (length (now (s .args .first))) (length (now (s .args .second))) in
     let made : c .choose-answer .result ≡ numbers (asked .question .result) = c .choose-answer .ensures in
     (made ∙ ap numbers (said .answer), said .area)
 

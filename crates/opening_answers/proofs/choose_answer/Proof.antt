@@ -25,26 +25,29 @@ enum-told-2 c = search needs
 records-length-requires-2 : tie.Need-records-length-requires-2
 records-length-requires-2 c κs = search needs
 
+-- The numbers of an answer of the same kind.
+abbrev numbersBy : tie.Start → Chosen → ChooseAnswer
+numbersBy s won = chooseNumbers (record { chosen = won; kind = s .args .answer .kind }) (s .args .first) (s .args .second)
+
+-- The answer of a winner with so many bytes of records.
+abbrev wonBy : tie.Start → ℕ → ℕ → ChooseAnswer
+wonBy s winner n =
+    record { refusal = 0; field = 0; winner = winner; offset = 4; length = n; kind = s .args .answer .kind }
+
 returns : tie.Need-returns
-returns c =
-    let a = c .before .before .before .args in
-    sym (ap (λ (won : Chosen). chooseNumbers won (a .first) (a .second)) (c .before .chosen .given .1))
+returns c = sym (ap (numbersBy (c .before .before .before)) (c .before .chosen .given .1))
 
 returns-2 : tie.Need-returns-2
 returns-2 c =
-    let a = c .before .before .before .args in
-    let answer : ℕ → ChooseAnswer = λ n. record { refusal = 0; field = 0; winner = 1; offset = 4; length = n } in
-    let records : c .records-length .result ≡ a .first - headerBytes = c .records-length .ensures in
-    ap answer records
-    ∙ sym (ap (λ (won : Chosen). chooseNumbers won (a .first) (a .second)) (c .before .enum-told .given .1))
+    let s : tie.Start = c .before .before .before in
+    let records : c .records-length .result ≡ s .args .first - headerBytes = c .records-length .ensures in
+    ap (wonBy s 1) records ∙ sym (ap (numbersBy s) (c .before .enum-told .given .1))
 
 returns-3 : tie.Need-returns-3
 returns-3 c =
-    let a = c .before .before .before .args in
-    let answer : ℕ → ChooseAnswer = λ n. record { refusal = 0; field = 0; winner = 2; offset = 4; length = n } in
-    let records : c .records-length2 .result ≡ a .second - headerBytes = c .records-length2 .ensures in
-    ap answer records
-    ∙ sym (ap (λ (won : Chosen). chooseNumbers won (a .first) (a .second)) (c .before .enum-told2 .given .1))
+    let s : tie.Start = c .before .before .before in
+    let records : c .records-length2 .result ≡ s .args .second - headerBytes = c .records-length2 .ensures in
+    ap (wonBy s 2) records ∙ sym (ap (numbersBy s) (c .before .enum-told2 .given .1))
 
 pub choose-answer-spec : {M : Type 1} → statement M
 choose-answer-spec =

@@ -2,7 +2,9 @@
 -- Assumes nothing.
 use mathlib.Core.Path.{sym, ap}
 use borrow.Author.Needs.{needs}
+use Rattle.ties.specs.declared.Chosen.{Chosen}
 use Rattle.opening_answers.specs.Numbers.{questionNumbers}
+use Rattle.opening_answers.specs.declared.QuestionAnswer.{QuestionAnswer}
 use Rattle.opening_answers.proofs.question_answer.Statement.{statement}
 use Rattle.opening_answers.proofs.question_answer.Tie as tie
 
@@ -15,14 +17,18 @@ enum-told c = search needs
 enum-told-2 : tie.Need-enum-told-2
 enum-told-2 c = search needs
 
+-- The numbers of an answer of the same kind.
+abbrev numbersBy : tie.Start → Chosen → QuestionAnswer
+numbersBy s won = questionNumbers (record { chosen = won; kind = s .args .answer .kind })
+
 returns : tie.Need-returns
-returns c = sym (ap questionNumbers (c .before .chosen .given .1))
+returns c = sym (ap (numbersBy (c .before .before .before)) (c .before .chosen .given .1))
 
 returns-2 : tie.Need-returns-2
-returns-2 c = sym (ap questionNumbers (c .enum-told .given .1))
+returns-2 c = sym (ap (numbersBy (c .before .before)) (c .enum-told .given .1))
 
 returns-3 : tie.Need-returns-3
-returns-3 c = sym (ap questionNumbers (c .enum-told2 .given .1))
+returns-3 c = sym (ap (numbersBy (c .before .before)) (c .enum-told2 .given .1))
 
 pub question-answer-spec : {M : Type 1} → statement M
 question-answer-spec =

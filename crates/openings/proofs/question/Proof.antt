@@ -1,11 +1,11 @@
--- `openings::question` meets its contract: it is `ask` at its tie. Assumes nothing.
+-- `openings::question` meets its contract: it is `tell` at its tie. Assumes nothing.
 use mir.Facts.{toZ-ofZ}
 use borrow.Author.Needs.{needs}
 use Rattle.openings.proofs.question.Statement.{statement}
 use Rattle.openings.proofs.question.Tie as tie
 
-ask-requires : tie.Need-ask-requires
-ask-requires c κs = search needs
+tell-requires : tie.Need-tell-requires
+tell-requires c κs = search needs
 
 same-length : tie.Need-same-length
 same-length c = search needs
@@ -13,7 +13,7 @@ same-length c = search needs
 returns : tie.Need-returns
 returns c =
     let s : tie.Start = c .before .before .before .before .before in
-    rw (toZ-ofZ (s .fits .t)) at (c .before .ask .ensures)
+    rw (toZ-ofZ (s .fits .t)) at (c .before .tell .ensures)
 
 pub question-spec : {M : Type 1} → statement M
-question-spec = tie.close (tie.spec ask-requires same-length returns)
+question-spec = tie.close (tie.spec tell-requires same-length returns)

@@ -1,8 +1,8 @@
 -- `pack::pack` meets its contract: the verdict on the numbers, then the room; then the header and the jobs are written.
 -- Assumes nothing.
-use mathlib.Core.Path.{_≡_, sym, ap, _∙_}
-use mathlib.Core.List.{List, _++_}
-use Prim.Native.Nat.{ℕ, _/_}
+use mathlib.Core.Path.{_≡_, sym, ap, ap₂, _∙_}
+use mathlib.Core.List.{List, [], _++_}
+use Prim.Native.Nat.{ℕ, _+_, _*_, _/_, _≤_, _<_}
 use lib.IntN.{ℤ}
 use lib.ListN.{length, drop}
 use mir.Syntax.{w32}
@@ -10,13 +10,15 @@ use mir.Val.{toZ, ofZ}
 use mir.Facts.{toZ-ofZ}
 use borrow.Author.Needs.{needs}
 use Rattle.packed.specs.Judge.{fine, judge}
-use Rattle.packed.specs.Packed.{packedHeader}
+use Rattle.packed.specs.Packed.{kindFor, packedHeader}
+use Rattle.packed.specs.Layout.{recordBytes}
 use Rattle.packed.specs.Refusals.{numberChecks}
+use Rattle.kinds.specs.Kinds.{Whole}
 use Rattle.judge.specs.Verdicts.{verdictOf}
 use Rattle.judge.specs.Told.{told-fine}
 use Rattle.pack.specs.Writing.{firstRecords}
-use Rattle.pack.specs.AnswerLaws.{packs-refused, packs-no-room, header-room, packable, packs-written}
-use Rattle.pack.specs.declared.Packed.the-variants.{Refused}
+use Rattle.pack.specs.AnswerLaws.{whole-jobs, packs-refused, packs-no-room, header-room, packable, packs-written}
+use Rattle.pack.specs.declared.Packed.the-variants.{Refused, Bytes}
 use Rattle.pack.proofs.pack.Statement.{statement}
 use Rattle.pack.proofs.pack.Tie as tie
 
@@ -49,11 +51,24 @@ passed c =
     let a = c .before .before .before .before .args in
     told-fine (numberChecks (a .t0) (a .numbers .now)) (told (c .before .before) ∙ c .enum-told .given .1)
 
-mul-written : tie.Need-mul-written
-mul-written c = search needs
+-- The numbers are those of whole jobs.
+whole : (c : tie.After-enum-told) → Whole (c .before .before .before .before .args .numbers .now) (length (c .before .before .before .before .args .numbers .now) / 7)
+whole c =
+    let a = c .before .before .before .before .args in
+    whole-jobs (a .t0) (a .numbers .now) [] (passed c)
 
-add-written : tie.Need-add-written
-add-written c = search needs
+kind-for-requires : tie.Need-kind-for-requires
+kind-for-requires c κs = whole c
+
+packed-bytes-requires : tie.Need-packed-bytes-requires
+packed-bytes-requires c κs = whole (c .before) .few
+
+-- The kind and the bytes of the order.
+sized : (c : tie.After-packed-bytes) → c .packed-bytes .result
+    ≡ 4 + recordBytes (kindFor (c .before .before .before .before .before .before .args .numbers .now)) * (length (c .before .before .before .before .before .before .args .numbers .now) / 7)
+sized c =
+    let a = c .before .before .before .before .before .before .args in
+    c .packed-bytes .ensures ∙ ap (λ k. 4 + recordBytes k * (length (a .numbers .now) / 7)) (c .before .kind-for .ensures)
 
 plainly-requires : tie.Need-plainly-requires
 plainly-requires c κs = search needs
@@ -61,23 +76,32 @@ plainly-requires c κs = search needs
 returns : tie.Need-returns
 returns c =
     let t = c .before in
-    let a = t .before .before .before .before .before .args in
-    let packs = packs-no-room (a .t0) (a .numbers .now) (a .bytes .now) (passed (t .before)) (t .if1 .taken) in
+    let z = t .before in
+    let a = z .before .before .before .before .before .before .args in
+    let short : length (a .bytes .now) < 4 + recordBytes (kindFor (a .numbers .now)) * (length (a .numbers .now) / 7) = rw (← (sized z)) (t .if1 .taken) in
+    let packs = packs-no-room (a .t0) (a .numbers .now) (a .bytes .now) (passed (z .before .before)) short in
     (ap Refused (c .plainly .ensures) ∙ packs .0, packs .1)
+
+-- There is room.
+room : (c : tie.Else1) → let a = c .before .before .before .before .before .before .before .args in
+    4 + recordBytes (kindFor (a .numbers .now)) * (length (a .numbers .now) / 7) ≤ length (a .bytes .now)
+room c = rw (← (sized (c .before))) (c .if1 .left)
 
 put-header-requires : tie.Need-put-header-requires
 put-header-requires c κs =
-    let a = start (c .before .before) in
-    header-room (a .args .t0) (a .args .numbers .now) (a .args .bytes .now) (passed (c .before .before)) (c .before .if1 .left)
-    (toZ w32 (ofZ w32 (a .args .t0))) (toZ-ofZ (a .fits .t0))
+    let e = c .before in
+    let a = e .before .before .before .before .before .before .before in
+    rw (e .before .before .kind-for .ensures)
+    (header-room (a .args .t0) (a .args .numbers .now) (a .args .bytes .now) (passed (e .before .before .before)) (room e)
+    (toZ w32 (ofZ w32 (a .args .t0))) (toZ-ofZ (a .fits .t0)))
 
 write-jobs-requires : tie.Need-write-jobs-requires
 write-jobs-requires c κs =
-    let after-put-header : tie.After-put-header = c .before .before .before in
-    let h : tie.Else1 = c .before .before .before .before .before in
-    let a = h .before .before .before .before .before .args in
-    packable (a .t0) (a .numbers .now) (a .bytes .now) (passed (h .before)) (h .if1 .left)
-    (after-put-header .put-header .last .0) (after-put-header .put-header .kept .0)
+    let e = c .before .before .before .before .before in
+    let a = e .before .before .before .before .before .before .before .args in
+    rw (e .before .before .kind-for .ensures)
+    (packable (a .t0) (a .numbers .now) (a .bytes .now) (passed (e .before .before .before)) (room e)
+    (c .before .before .before .put-header .last .0) (c .before .before .before .put-header .kept .0))
 
 returns-2 : tie.Need-returns-2
 returns-2 c =
@@ -92,19 +116,22 @@ same-length c = search needs
 
 returns-3 : tie.Need-returns-3
 returns-3 c =
-    let w : tie.After-write-jobs = c .before .before in
-    let after-put-header : tie.After-put-header = w .before .before .before .before in
-    let h : tie.Else1 = w .before .before .before .before .before .before in
-    let a = start (h .before) in
-    let count : ℕ = length (a .args .numbers .now) / 6 in
-    let header : ℤ → List ℕ = λ t. packedHeader count t ++ drop 4 (a .args .bytes .now) in
-    packs-written (a .args .t0) (a .args .numbers .now) (a .args .bytes .now) (passed (h .before)) (h .if1 .left)
-    (w .write-jobs .last .1 .1 .0)
+    let w = c .before .before in
+    let h = w .before .before .before .before .before .before in
+    let a = h .before .before .before .before .before .before .before in
+    let zs : List ℤ = a .args .numbers .now in
+    let count : ℕ = length zs / 7 in
+    let kinded = h .before .before .kind-for in
+    let header : ℕ → ℤ → List ℕ = λ k t. packedHeader k count t ++ drop 4 (a .args .bytes .now) in
+    let packs =
+    packs-written (a .args .t0) zs (a .args .bytes .now) (passed (h .before .before .before)) (room h) (w .write-jobs .last .1 .1 .1 .0)
     (w .write-jobs .ensures
-    ∙ ap (firstRecords (a .args .numbers .now) count) (after-put-header .put-header .ensures ∙ ap header (toZ-ofZ (a .fits .t0))))
+    ∙ ap₂ (λ k bs. firstRecords k zs count bs) (kinded .ensures)
+    (w .before .before .before .before .put-header .ensures ∙ ap₂ header (kinded .ensures) (toZ-ofZ (a .fits .t0)))) in
+    (ap Bytes (sized (h .before)) ∙ packs .0, packs .1)
 
 pub pack-spec : {M : Type 1} → statement M
 pack-spec =
     tie.close
-    (tie.spec judge-numbers-requires enum-known-refusal enum-told mul-written add-written plainly-requires returns
+    (tie.spec judge-numbers-requires enum-known-refusal enum-told kind-for-requires packed-bytes-requires plainly-requires returns
     put-header-requires write-jobs-requires returns-2 same-length returns-3)

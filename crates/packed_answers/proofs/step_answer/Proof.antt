@@ -45,13 +45,13 @@ stepFrom m r = stepNumbers (record { answer = r; place = m .place })
 fits-32 : {z : ℤ} → mag z < 2 ^ hbits w32 → SFits w32 z
 fits-32 f = record { sfits = f }
 
--- A job of the same six numbers.
-six : {n n′ c c′ w w′ r r′ l l′ d d′ : ℤ} → n ≡ n′ → c ≡ c′ → w ≡ w′ → r ≡ r′ → l ≡ l′ → d ≡ d′
+-- A job of the same seven numbers.
+seven : {n n′ p p′ c c′ w w′ r r′ l l′ d d′ : ℤ} → n ≡ n′ → p ≡ p′ → c ≡ c′ → w ≡ w′ → r ≡ r′ → l ≡ l′ → d ≡ d′
     → _≡_ {A = Job}
-    (record { number = n; critical = c; weight = w; ready = r; length = l; deadline = d })
-    (record { number = n′; critical = c′; weight = w′; ready = r′; length = l′; deadline = d′ })
-six n c w r l d =
-    λ i. record { number = n i; critical = c i; weight = w i; ready = r i; length = l i; deadline = d i }
+    (record { number = n; pack = p; critical = c; weight = w; ready = r; length = l; deadline = d })
+    (record { number = n′; pack = p′; critical = c′; weight = w′; ready = r′; length = l′; deadline = d′ })
+seven n p c w r l d =
+    λ i. record { number = n i; pack = p i; critical = c i; weight = w i; ready = r i; length = l i; deadline = d i }
 
 returns : tie.Need-returns
 returns c =
@@ -75,12 +75,13 @@ returns-3 c =
     let given = c .before .before .answer2 .given in
     let told = c .struct-told .given in
     let number = toZ-ofZ (fits-32 (told .0 .1)) in
-    let critical = toZ-ofZ (fits-32 (told .1 .0 .1)) in
-    let weight = toZ-ofZ (fits-32 (told .1 .1 .0 .1)) in
-    let ready = toZ-ofZ (fits-32 (told .1 .1 .1 .0 .1)) in
-    let length = toZ-ofZ (fits-32 (told .1 .1 .1 .1 .0 .1)) in
-    let deadline = toZ-ofZ (fits-32 (told .1 .1 .1 .1 .1 .0 .1)) in
-    let again = six number critical weight ready length deadline in
+    let pack = toZ-ofZ (fits-32 (told .1 .0 .1)) in
+    let critical = toZ-ofZ (fits-32 (told .1 .1 .0 .1)) in
+    let weight = toZ-ofZ (fits-32 (told .1 .1 .1 .0 .1)) in
+    let ready = toZ-ofZ (fits-32 (told .1 .1 .1 .1 .0 .1)) in
+    let length = toZ-ofZ (fits-32 (told .1 .1 .1 .1 .1 .0 .1)) in
+    let deadline = toZ-ofZ (fits-32 (told .1 .1 .1 .1 .1 .1 .0 .1)) in
+    let again = seven number pack critical weight ready length deadline in
     ap (λ (k : Job). stepFrom m (read.Job k)) again ∙ sym (ap (stepFrom m) (given .1))
 
 pub step-answer-spec : {M : Type 1} → statement M

@@ -7,7 +7,7 @@ use denote.Ref.{now}
 use lib.IntN.{ℤ}
 use lib.ListN.{take, drop}
 use borrow.Author.Needs.{needs}
-use Rattle.packed.specs.Layout.{encode, bytesOf, jobLayout}
+use Rattle.packed.specs.Layout.{encode, bytesOf, jobLayout, recordBytes}
 use Rattle.picking.specs.PuttingLaws.{can-pick, job-given, can-make, next-fits, moves-on, job-next, job-room}
 use Rattle.picking.proofs.put_next.Statement.{statement}
 use Rattle.picking.proofs.put_next.Tie as tie
@@ -74,14 +74,15 @@ same-length-2 : tie.Need-same-length-2
 same-length-2 c = search needs
 
 returns : tie.Need-returns
+unfolding recordBytes
 returns c =
     let j : tie.After-job-of = c .before .before .before in
     let p : tie.After-count-of = j .before .before in
     let r : tie.After-repeating-at = p .before .before in
     let l : tie.After-least = r .before .before in
     let a = l .before .before .before .before in
-    let put : List ℤ → List ℕ = λ six.
-    take (4 + 8 * a .args .k) (now (a .args .order)) ++ bytesOf 8 (encode jobLayout six)
+    let put : List ℤ → List ℕ = λ seven.
+    take (4 + 8 * a .args .k) (now (a .args .order)) ++ bytesOf 8 (encode (jobLayout 0) seven)
     ++ drop (4 + 8 * a .args .k + 8) (now (a .args .order)) in (
       moves-on (a .pre) (l .least .result) (l .least .ensures) (r .repeating-at .result) (r .repeating-at .ensures)
           (p .count-of .result) (p .count-of .ensures),

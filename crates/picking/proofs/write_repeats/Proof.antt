@@ -6,7 +6,7 @@ use mathlib.Core.List.{List, _++_}
 use native.Mathlib.Omega.{arith}
 use lib.IntN.{ℤ}
 use lib.ListN.{length, take, drop}
-use Rattle.packed.specs.Layout.{encode, bytesOf, jobLayout}
+use Rattle.packed.specs.Layout.{encode, bytesOf, jobLayout, recordBytes}
 use Rattle.packed.specs.Packed.{fieldsAt}
 use Rattle.pack.specs.Writing.{firstRecords}
 use Rattle.pack.specs.WritingLaws.{none-written, written-length, one-more}
@@ -18,7 +18,7 @@ use Rattle.picking.proofs.write_repeats.Tie as tie
 
 abbrev Inv-loop : tie.InvT-loop
 Inv-loop numbers count order₀ next₀ k₀ order next k =
-    (k ≤ count) × (order ≡ firstRecords (frameNumbers numbers) k order₀) × Reached numbers next k × (length next ≡ 16)
+    (k ≤ count) × (order ≡ firstRecords 0 (frameNumbers numbers) k order₀) × Reached numbers next k × (length next ≡ 16)
 
 abbrev μ-loop : tie.MeasureT-loop
 μ-loop numbers count order₀ next₀ k₀ order next k = count - k
@@ -35,7 +35,7 @@ loop-holds : tie.Need-loop-holds Inv-loop μ-loop
 loop-holds c =
     let a = c .before .before .before .before in (
       omega arith,
-      sym (none-written (frameNumbers (a .args .numbers .now)) (a .args .order .now)),
+      sym (none-written 0 (frameNumbers (a .args .numbers .now)) (a .args .order .now)),
       c .before .set-first .ensures,
       c .before .set-first .kept .1 .0,
     )
@@ -43,10 +43,11 @@ loop-holds c =
 -- The bytes stay as many.
 kept : (l : tie.At-loop Inv-loop μ-loop)
     → length (l .loop .order) ≡ length (l .before .before .before .before .before .args .order .now)
+unfolding recordBytes
 kept l =
     let a = l .before .before .before .before .before in
     let room : 4 + 8 * l .loop .k ≤ length (a .args .order .now) = omega (arith, a .pre .room, a .pre .all) in
-    ap length (l .loop .inv .1) ∙ written-length (frameNumbers (a .args .numbers .now)) (a .args .order .now) (l .loop .k) room
+    ap length (l .loop .inv .1) ∙ written-length 0 (frameNumbers (a .args .numbers .now)) (a .args .order .now) (l .loop .k) room
 
 slice-aggregate-put-next : tie.Need-slice-aggregate-put-next Inv-loop μ-loop
 slice-aggregate-put-next c = sym (c .before .before .loop .inv .3)
@@ -69,18 +70,19 @@ loop-less : tie.Need-loop-less Inv-loop μ-loop
 loop-less c = omega arith
 
 loop-again : tie.Need-loop-again Inv-loop μ-loop
+unfolding recordBytes
 loop-again c =
     let put : tie.After-put-next Inv-loop μ-loop = c .before .before .before in
     let l : tie.At-loop Inv-loop μ-loop = put .before .before .before .before in
     let a = l .before .before .before .before .before in
     let zs = a .args .numbers .now in
     let k : ℕ = l .loop .k in
-    let six : List ℤ = numbersFor zs k (repeatAt zs k) in
-    let behind : List ℕ → List ℕ = λ bs. take (4 + 8 * k) bs ++ bytesOf 8 (encode jobLayout six) ++ drop (4 + 8 * k + 8) bs in
+    let seven : List ℤ = numbersFor zs k (repeatAt zs k) in
+    let behind : List ℕ → List ℕ = λ bs. take (4 + 8 * k) bs ++ bytesOf 8 (encode (jobLayout 0) seven) ++ drop (4 + 8 * k + 8) bs in
     let four : 4 ≤ length (a .args .order .now) = omega (arith, a .pre .room) in
-    let there : six ≡ fieldsAt (frameNumbers zs) k = sym (frame-at zs k (omega (arith, a .pre .all))) in (
+    let there : seven ≡ fieldsAt (frameNumbers zs) k = sym (frame-at zs k (omega (arith, a .pre .all))) in (
       omega arith,
-      put .put-next .ensures .1 ∙ ap behind (l .loop .inv .1) ∙ one-more (frameNumbers zs) (a .args .order .now) k six four there,
+      put .put-next .ensures .1 ∙ ap behind (l .loop .inv .1) ∙ one-more 0 (frameNumbers zs) (a .args .order .now) k seven four there,
       put .put-next .ensures .0,
       put .put-next .kept .1 .1 .0 ∙ l .loop .inv .3,
     )
@@ -93,7 +95,7 @@ returns c =
     let l : tie.At-loop Inv-loop μ-loop = c .before in
     let a = l .before .before .before .before .before .args in
     let all : l .loop .k ≡ a .count = omega arith in
-    l .loop .inv .1 ∙ ap (λ (k : ℕ). firstRecords (frameNumbers (a .numbers .now)) k (a .order .now)) all
+    l .loop .inv .1 ∙ ap (λ (k : ℕ). firstRecords 0 (frameNumbers (a .numbers .now)) k (a .order .now)) all
 
 pub write-repeats-spec : {M : Type 1} → statement M
 write-repeats-spec =

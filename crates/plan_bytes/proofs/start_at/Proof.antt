@@ -48,7 +48,7 @@ returns c =
     let fits : SFits w32 (c .time-of .result) = record { sfits = c .time-of .ok } in
     toZ-ofZ fits ∙ c .time-of .ensures
     ∙ read-is (now (a .plan)) (a .k) (p .plan-bytes .result) (w .word-at .result) (u .unit .result) (p .plan-bytes .ensures)
-    (w .word-at .ensures) (u .unit .ensures)
+    (w .word-at .ensures .is) (u .unit .ensures)
 
 pub start-at-spec : {M : Type 1} → statement M
 start-at-spec =

@@ -5,6 +5,7 @@ use lib.ListN.{length, take}
 use lib.Seq.{length-take-le}
 use borrow.Author.Needs.{needs}
 use Rattle.report.specs.Report.{reportOf, printed}
+use Rattle.report.specs.Longer.{longest-is}
 use Rattle.report.specs.Telling.{front-told}
 use Rattle.plan_order.proofs.main.Statement.{statement}
 use Rattle.plan_order.proofs.main.Tie as tie
@@ -13,7 +14,7 @@ slice-aggregate-read : tie.Need-slice-aggregate-read
 slice-aggregate-read c = search needs
 
 read-requires : tie.Need-read-requires
-read-requires c κs = search needs
+read-requires c κs = omega (arith, longest-is)
 
 slice-aggregate-report-read : tie.Need-slice-aggregate-report-read
 slice-aggregate-report-read c = search needs
@@ -22,7 +23,7 @@ slice-aggregate-report-read-2 : tie.Need-slice-aggregate-report-read-2
 slice-aggregate-report-read-2 c = search needs
 
 report-read-requires : tie.Need-report-read-requires
-report-read-requires c κs = search needs
+report-read-requires c κs = omega (arith, longest-is)
 
 slice-aggregate-write : tie.Need-slice-aggregate-write
 slice-aggregate-write c = search needs

@@ -1,6 +1,6 @@
 -- `reader::step` meets its contract: each way out is a case of the step.
 -- Assumes nothing.
-use mathlib.Core.Path.{_≡_, refl, sym, ap, _∙_}
+use mathlib.Core.Path.{_≡_, sym, ap, _∙_}
 use mathlib.Core.List.{List}
 use Prim.Native.Nat.{ℕ, _+_, _<_}
 use native.Mathlib.Omega.{arith}
@@ -14,7 +14,7 @@ use Rattle.packed.specs.Packed.{countOf, jobFields}
 use Rattle.packed.specs.Refusals.{fieldsWithin, badField}
 use Rattle.packed.specs.FieldLaws.{no-field-within}
 use Rattle.fields.specs.Fields.{fieldsOf}
-use Rattle.fields.specs.Facts.{read-at}
+use Rattle.fields.specs.Facts.{record-in}
 use Rattle.fields.specs.declared.Job.{Job}
 use Rattle.reader.specs.ReadingLaws.{made-again, step-end, step-job, step-bad, OpenFine, open-accepted, open-refused}
 use Rattle.reader.specs.declared.Read.the-variants as Read
@@ -65,14 +65,8 @@ module _ (c : tie.Else1) where
   below : place (c .before) < countOf (bytes (c .before))
   below = omega (arith, opened (c .before) .counted, c .if1 .left)
 
-mul-job-at : tie.Need-mul-job-at
-mul-job-at c = record { fits = omega (arith, below c, opened (c .before) .header .few) }
-
-add-job-at : tie.Need-add-job-at
-add-job-at c = record { fits = omega (arith, below c, opened (c .before) .header .few) }
-
-job-at-requires : tie.Need-job-at-requires
-job-at-requires c κs = omega (arith, below c, opened (c .before) .header .whole)
+job-in-requires : tie.Need-job-in-requires
+job-in-requires c κs = record-in (bytes (c .before)) (place (c .before)) (opened (c .before) .header) (below c)
 
 bad-field-requires : tie.Need-bad-field-requires
 bad-field-requires c κs = search needs
@@ -83,10 +77,10 @@ module _ (c : tie.After-bad-field) where
   there = c .before .before .before
 
   abbrev job : Job
-  job = c .before .job-at .result
+  job = c .before .job-in .result
 
   read : fieldsOf job ≡ jobFields (bytes there) (place there)
-  read = read-at (bytes there) (place there) _ job refl (c .before .job-at .ensures)
+  read = c .before .job-in .ensures
 
   named : c .bad-field .result ≡ badField (jobFields (bytes there) (place there))
   named = c .bad-field .ensures ∙ ap badField read
@@ -107,8 +101,8 @@ returns-2 c =
     ∙ sym (step-bad (bytes a) (place a) (opened a .passed) (below (read .before .before))
     (tested read ∙ ne-eqb (read .bad-field .result) 0 (t .if2 .taken)))
 
-add-t14 : tie.Need-add-t14
-add-t14 c =
+add-t16 : tie.Need-add-t16
+add-t16 c =
     let else1 : tie.Else1 = c .before .before .before in
     record { fits = omega (arith, below else1, opened (there (c .before)) .header .few) }
 
@@ -134,5 +128,5 @@ returns-4 c =
 pub step-spec : {M : Type 1} → statement M
 step-spec =
     tie.close
-    (tie.spec open-requires enum-known-number plainly-requires enum-known-count returns mul-job-at add-job-at job-at-requires
-    bad-field-requires in-field-requires returns-2 add-t14 returns-3 returns-4)
+    (tie.spec open-requires enum-known-number plainly-requires enum-known-count returns job-in-requires
+    bad-field-requires in-field-requires returns-2 add-t16 returns-3 returns-4)

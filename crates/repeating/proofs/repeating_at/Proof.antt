@@ -7,8 +7,7 @@ use denote.Ref.{now}
 use lib.IntN.{ℤ, pos}
 use lib.ListN.{getD}
 use borrow.Author.Needs.{needs}
-use Rattle.fields.specs.Numbers.{six-read}
-use Rattle.repeating.specs.RepeatingLaws.{RepeatingFits, bounds-fit, numbers-kept}
+use Rattle.repeating.specs.RepeatingLaws.{RepeatingFits, bounds-fit, numbers-kept, six-read}
 use Rattle.repeating.specs.declared.Repeating.{Repeating}
 use Rattle.repeating.proofs.repeating_at.Statement.{statement}
 use Rattle.repeating.proofs.repeating_at.Tie as tie

@@ -14,6 +14,7 @@ use Rattle.packed.specs.Packed.{countOf, jobIn}
 use Rattle.seconds.specs.Signed.{read-back}
 use Rattle.text.specs.Buffer.{Wrote}
 use Rattle.text.specs.BufferLaws.{wrote-none, wrote-more}
+use Rattle.fields.specs.Facts.{record-in}
 use Rattle.report.specs.Report.{jobLine}
 use Rattle.report.specs.Writing.{listed}
 use Rattle.report.specs.WritingLaws.{number-casts, number-is, listed-none, listed-more}
@@ -40,20 +41,10 @@ loop-holds c =
     let s = c .before .before in
     (omega arith, omega arith, rw (listed-none (s .args .bytes .now) (s .args .starts .now)) (wrote-none (omega arith)))
 
-mul-job-at : tie.Need-mul-job-at Inv-loop μ-loop
-mul-job-at c =
+job-in-requires : tie.Need-job-in-requires Inv-loop μ-loop
+job-in-requires c κs =
     let s = begun c in
-    omega (arith, few s)
-
-add-job-at : tie.Need-add-job-at Inv-loop μ-loop
-add-job-at c =
-    let s = begun c in
-    omega (arith, few s)
-
-job-at-requires : tie.Need-job-at-requires Inv-loop μ-loop
-job-at-requires c κs =
-    let s = begun c in
-    omega (arith, s .pre .order .header .whole, s .pre .count)
+    record-in (s .args .bytes .now) (c .before .loop .i) (s .pre .order .header) (omega (arith, s .pre .count))
 
 mul-start : tie.Need-mul-start Inv-loop μ-loop
 mul-start c =
@@ -66,7 +57,7 @@ shared-slice-copy-out-start c =
     omega (arith, s .pre .places)
 
 -- The number that was read at the place can be handed on, and is the job's.
-module _ (c : tie.After-job-at Inv-loop μ-loop) where
+module _ (c : tie.After-job-in Inv-loop μ-loop) where
   abbrev entry : tie.Start Inv-loop μ-loop
   entry = c .before .before .before .before .before
 
@@ -80,29 +71,29 @@ module _ (c : tie.After-job-at Inv-loop μ-loop) where
   below = omega (arith, entry .pre .count)
 
   abbrev number : ℤ
-  number = toZ w32 (ofZ w32 (c .job-at .result .number))
+  number = toZ w32 (ofZ w32 (c .job-in .result .number))
 
   casts : T (nonNeg number) × Fits w32 (natAbs number)
-  casts = number-casts bytes (entry .pre .order) place below (c .job-at .result) (c .job-at .ensures)
+  casts = number-casts bytes (entry .pre .order) place below (c .job-in .result) (c .job-in .ensures)
 
   number-there : natAbs number ≡ jobIn bytes place .number
-  number-there = number-is bytes (entry .pre .order) place below (c .job-at .result) (c .job-at .ensures)
+  number-there = number-is bytes (entry .pre .order) place below (c .job-in .result) (c .job-in .ensures)
 
 cast-put-job : tie.Need-cast-put-job Inv-loop μ-loop
 cast-put-job c =
-    let after-job-at : tie.After-job-at Inv-loop μ-loop = c .before .before .before in
-    casts after-job-at
+    let after-job-in : tie.After-job-in Inv-loop μ-loop = c .before .before .before in
+    casts after-job-in
 
 put-job-requires : tie.Need-put-job-requires Inv-loop μ-loop
 put-job-requires c κs =
-    let after-job-at : tie.After-job-at Inv-loop μ-loop = c .before .before .before in
+    let after-job-in : tie.After-job-in Inv-loop μ-loop = c .before .before .before in
     let loop : tie.At-loop Inv-loop μ-loop = c .before .before .before .before .before in
-    record { fits = omega (arith, entry after-job-at .pre .room, loop .loop .inv .2 .kept) }
+    record { fits = omega (arith, entry after-job-in .pre .room, loop .loop .inv .2 .kept) }
 
 add-i : tie.Need-add-i Inv-loop μ-loop
 add-i c =
-    let after-job-at : tie.After-job-at Inv-loop μ-loop = c .before .before .before .before .before .before in
-    omega (arith, few (entry after-job-at))
+    let after-job-in : tie.After-job-in Inv-loop μ-loop = c .before .before .before .before .before .before in
+    omega (arith, few (entry after-job-in))
 
 loop-less : tie.Need-loop-less Inv-loop μ-loop
 loop-less c = omega arith
@@ -110,7 +101,7 @@ loop-less c = omega arith
 loop-again : tie.Need-loop-again Inv-loop μ-loop
 loop-again c =
     let put : tie.After-put-job Inv-loop μ-loop = c .before .before in
-    let read : tie.After-job-at Inv-loop μ-loop = put .before .before .before .before in
+    let read : tie.After-job-in Inv-loop μ-loop = put .before .before .before .before in
     let loop = read .before .before .loop in
     let starts = entry read .args .starts .now in
     let room : place read < length starts = omega (arith, entry read .pre .places) in
@@ -135,9 +126,7 @@ put-jobs-spec =
     Inv-loop
     μ-loop
     loop-holds
-    mul-job-at
-    add-job-at
-    job-at-requires
+    job-in-requires
     mul-start
     shared-slice-copy-out-start
     cast-put-job

@@ -11,6 +11,7 @@ use mir.Facts.{toZ-ofZ}
 use Rattle.packed.specs.Packed.{jobsIn}
 use Rattle.fields.specs.Places.{jobs-count}
 use Rattle.seconds.specs.Signed.{read-back}
+use Rattle.fields.specs.Facts.{record-in}
 use Rattle.starting.specs.PicksLaws.{left-fits}
 use Rattle.starting.specs.StartsLaws.{Writing, writing-none, writing-all, CanTurn, can-turn}
 use Rattle.starting.proofs.write_starts.Statement.{statement}
@@ -45,34 +46,24 @@ loop-holds c =
     (writing-none (jobsIn (bytes s)) (s .args .n) (s .args .t0) (s .args .mask) (s .args .starts .now) (s .pre .range)
     (s .fits .mask .fits) (s .pre .may))
 
-mul-job-at : tie.Need-mul-job-at Inv-loop μ-loop
-mul-job-at c =
+job-in-requires : tie.Need-job-in-requires Inv-loop μ-loop
+job-in-requires c κs =
     let s = begun c in
-    omega (arith, few s)
-
-add-job-at : tie.Need-add-job-at Inv-loop μ-loop
-add-job-at c =
-    let s = begun c in
-    omega (arith, few s)
-
-job-at-requires : tie.Need-job-at-requires Inv-loop μ-loop
-job-at-requires c κs =
-    let s = begun c in
-    omega (arith, s .pre .order .header .whole, s .pre .count)
+    record-in (bytes s) (c .before .loop .i) (s .pre .order .header) (omega (arith, s .pre .count))
 
 -- The turn of the job at the place.
-module _ (c : tie.After-job-at Inv-loop μ-loop) where
+module _ (c : tie.After-job-in Inv-loop μ-loop) where
   abbrev entry : tie.Start Inv-loop μ-loop
   entry = c .before .before .before .before
 
   turn : CanTurn (bytes entry) (entry .args .n) (toZ w32 (ofZ w32 (entry .args .t0))) (entry .args .mask)
       (entry .args .starts .now) (c .before .before .loop .starts) (toZ w32 (c .before .before .loop .free))
-      (c .before .before .loop .left) (c .before .before .loop .i) (c .job-at .result)
+      (c .before .before .loop .left) (c .before .before .loop .i) (c .job-in .result)
   turn =
       can-turn (bytes entry) (entry .pre .order) (entry .args .n) (entry .pre .count) (toZ w32 (ofZ w32 (entry .args .t0)))
       (entry .args .mask) (entry .args .starts .now) (entry .pre .room) (c .before .before .loop .starts)
       (toZ w32 (c .before .before .loop .free)) (c .before .before .loop .left) (c .before .before .loop .i)
-      (c .before .before .loop .inv) (c .before .loop-test .taken) (c .job-at .result) (c .job-at .ensures)
+      (c .before .before .loop .inv) (c .before .loop-test .taken) (c .job-in .result) (c .job-in .ensures)
 
 take-turn-requires : tie.Need-take-turn-requires Inv-loop μ-loop
 take-turn-requires c κs = turn c .asks
@@ -92,19 +83,19 @@ mul-left c =
 
 add-i : tie.Need-add-i Inv-loop μ-loop
 add-i c =
-    let after-job-at : tie.After-job-at Inv-loop μ-loop = c .before .before .before in
-    omega (arith, few (entry after-job-at))
+    let after-job-in : tie.After-job-in Inv-loop μ-loop = c .before .before .before in
+    omega (arith, few (entry after-job-in))
 
 loop-less : tie.Need-loop-less Inv-loop μ-loop
 loop-less c = omega arith
 
 loop-again : tie.Need-loop-again Inv-loop μ-loop
 loop-again c =
-    let after-job-at : tie.After-job-at Inv-loop μ-loop = c .before .before .before in
+    let after-job-in : tie.After-job-in Inv-loop μ-loop = c .before .before .before in
     let taken = c .before .before .take-turn in
     let told = c .before .struct-told .given in
     rw (read-back (taken .result .start) (told .0 .1), read-back (taken .result .free) (told .1 .0 .1))
-    (turn after-job-at .keeps (taken .result) (taken .ensures))
+    (turn after-job-in .keeps (taken .result) (taken .ensures))
 
 same-length : tie.Need-same-length Inv-loop μ-loop
 same-length c = c .before .loop .inv .size
@@ -125,9 +116,7 @@ write-starts-spec =
     Inv-loop
     μ-loop
     loop-holds
-    mul-job-at
-    add-job-at
-    job-at-requires
+    job-in-requires
     take-turn-requires
     mul-start
     slice-set-from-start

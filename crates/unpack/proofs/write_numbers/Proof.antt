@@ -21,14 +21,8 @@ abbrev μ-loop : tie.MeasureT-loop
 loop-holds : tie.Need-loop-holds Inv-loop μ-loop
 loop-holds c = (omega arith, sym (none-written (c .before .args .bytes .now) (c .before .args .numbers .now)))
 
-mul-job-at : tie.Need-mul-job-at Inv-loop μ-loop
-mul-job-at c = omega arith
-
-add-job-at : tie.Need-add-job-at Inv-loop μ-loop
-add-job-at c = omega arith
-
-job-at-requires : tie.Need-job-at-requires Inv-loop μ-loop
-job-at-requires c κs = omega arith
+job-in-requires : tie.Need-job-in-requires Inv-loop μ-loop
+job-in-requires c κs = c .before .before .before .pre .there (c .before .loop .k) (c .loop-test .taken)
 
 mul-put-numbers : tie.Need-mul-put-numbers Inv-loop μ-loop
 mul-put-numbers c = omega arith
@@ -37,7 +31,7 @@ mul-put-numbers c = omega arith
 kept : (c : tie.At-loop Inv-loop μ-loop) → length (c .loop .numbers) ≡ length (c .before .before .args .numbers .now)
 kept c =
     let a = c .before .before in
-    let room : 6 * c .loop .k ≤ length (a .args .numbers .now) = omega (arith, a .pre .room) in
+    let room : 7 * c .loop .k ≤ length (a .args .numbers .now) = omega (arith, a .pre .room) in
     ap length (c .loop .inv .1) ∙ written-length (a .args .bytes .now) (a .args .numbers .now) (c .loop .k) room
 
 put-numbers-requires : tie.Need-put-numbers-requires Inv-loop μ-loop
@@ -56,10 +50,10 @@ loop-again c =
     let l : tie.At-loop Inv-loop μ-loop = c .before .before .before .before .before in
     let a = l .before .before .args in
     let k : ℕ = l .loop .k in
-    let j = c .before .before .before .job-at in
+    let j = c .before .before .before .job-in in
     let more : c .before .put-numbers .last .0 ≡ firstJobs (a .bytes .now) (k + 1) (a .numbers .now) =
     c .before .put-numbers .ensures
-    ∙ ap (λ (zs : List ℤ). take (6 * k) zs ++ fieldsOf (j .result) ++ drop (6 * k + 6) zs) (l .loop .inv .1)
+    ∙ ap (λ (zs : List ℤ). take (7 * k) zs ++ fieldsOf (j .result) ++ drop (7 * k + 7) zs) (l .loop .inv .1)
     ∙ one-more (a .bytes .now) (a .numbers .now) k (j .result) (j .ensures) in
     (omega arith, more)
 
@@ -76,5 +70,5 @@ returns c =
 pub write-numbers-spec : {M : Type 1} → statement M
 write-numbers-spec =
     tie.close
-    (tie.spec Inv-loop μ-loop loop-holds mul-job-at add-job-at job-at-requires mul-put-numbers put-numbers-requires add-k loop-less
+    (tie.spec Inv-loop μ-loop loop-holds job-in-requires mul-put-numbers put-numbers-requires add-k loop-less
     loop-again same-length returns)

@@ -10,6 +10,7 @@ use mir.Val.{toZ, ofZ}
 use mir.Facts.{toZ-ofZ}
 use Rattle.seconds.specs.RangesLaws.{free-fits}
 use Rattle.fields.specs.Places.{jobs-count}
+use Rattle.fields.specs.Facts.{record-in}
 use Rattle.walking.specs.declared.Trail.{Trail}
 use Rattle.walking.specs.declared.End.{End}
 use Rattle.walking.specs.Trail.{Walks}
@@ -41,7 +42,7 @@ module _ (s : tie.Start Inv-loop μ-loop) where
 abbrev start : tie.After-struct-told Inv-loop μ-loop → tie.Start Inv-loop μ-loop
 start read = read .before .before .before .before
 
-abbrev read-in : tie.After-bit-at Inv-loop μ-loop → tie.After-job-at Inv-loop μ-loop
+abbrev read-in : tie.After-bit-at Inv-loop μ-loop → tie.After-job-in Inv-loop μ-loop
 read-in c = c .before .before .before
 
 loop-holds : tie.Need-loop-holds Inv-loop μ-loop
@@ -61,16 +62,10 @@ module _ (turn : tie.In-loop Inv-loop μ-loop) where
   place-few : turn .before .loop .k - 1 < 48
   place-few = omega (arith, place-below, at-start .pre .count, at-start .pre .order .header .few)
 
-mul-job-at : tie.Need-mul-job-at Inv-loop μ-loop
-mul-job-at c = omega (arith, place-few c)
-
-add-job-at : tie.Need-add-job-at Inv-loop μ-loop
-add-job-at c = omega (arith, place-few c)
-
-job-at-requires : tie.Need-job-at-requires Inv-loop μ-loop
-job-at-requires c κs =
+job-in-requires : tie.Need-job-in-requires Inv-loop μ-loop
+job-in-requires c κs =
     let s = at-start c in
-    omega (arith, place-below c, s .pre .order .header .whole, s .pre .count)
+    record-in (s .args .bytes .now) _ (s .pre .order .header) (omega (arith, place-below c, s .pre .count))
 
 mul-place : tie.Need-mul-place Inv-loop μ-loop
 mul-place c = omega (arith, place-few (c .before))
@@ -92,7 +87,7 @@ bit-at-requires : tie.Need-bit-at-requires Inv-loop μ-loop
 bit-at-requires c κs = let turn : tie.In-loop Inv-loop μ-loop = c .before .before .before in omega (arith, place-few turn)
 
 -- The trail, with the job at its place read.
-module _ (c : tie.After-job-at Inv-loop μ-loop) where
+module _ (c : tie.After-job-in Inv-loop μ-loop) where
   abbrev turn : tie.In-loop Inv-loop μ-loop
   turn = c .before
 
@@ -111,8 +106,8 @@ module _ (c : tie.After-job-at Inv-loop μ-loop) where
       subst (λ (i : ℕ). Trails (bytes entry) (end entry .weight) (end entry .finish) i trail) e (turn .before .loop .inv)
 
   step : CanStep (entry .args .work .now) (bytes entry) (getD (entry .args .places .now) k 0)
-      (getD (entry .args .counts .now) k 0) (end entry .weight) (end entry .finish) k (c .job-at .result) trail
-  step = can-step (walks entry) k trail on (c .job-at .result) (c .job-at .ensures)
+      (getD (entry .args .counts .now) k 0) (end entry .weight) (end entry .finish) k (c .job-in .result) trail
+  step = can-step (walks entry) k trail on (c .job-in .result) (c .job-in .ensures)
 
 step-back-requires : tie.Need-step-back-requires Inv-loop μ-loop
 step-back-requires c κs = rw (c .bit-at .ensures) (step (read-in c) .asks)
@@ -139,9 +134,7 @@ walk-spec =
     μ-loop
     loop-holds
     sub-k
-    mul-job-at
-    add-job-at
-    job-at-requires
+    job-in-requires
     mul-place
     shared-slice-read-place
     mul-count

@@ -1,8 +1,8 @@
 //! What the wrapper's types say of orders and profiles that are refused, of openings, and of themselves.
 
 use leafanchor::{
-    calls, choose, choose_by, question, question_by, Field, Job, Opening, Order, OrderBuf, Point, Profile,
-    Reader, Refusal, Tie, WorkArea, MOST_JOBS, ORDER_BYTES, WORK_AREA,
+    calls, choose, choose_by, question, question_by, Field, Job, Kind, Opening, Order, OrderBuf, Point,
+    Profile, Reader, Refusal, Tie, WorkArea, MOST_JOBS, ORDER_BYTES, WORK_AREA,
 };
 
 const P1_PACKED: [u8; 44] = *include_bytes!("../../../../examples/p1.order");
@@ -68,10 +68,13 @@ fn packing_names_the_first_field_out_of_range() {
             assert_eq!(refusal.to_string(), format!("job at place 1: {name} out of range"));
         }
     }
-    // No job has a mark that is none, but numbers can.
-    let refusal = calls::pack(0, &[1, 2, 0, 0, 0, 0], &mut [0; 12]).accepted().unwrap_err();
-    assert_eq!((refusal.field(), Field::Critical.figure()), (Some(Field::Critical), 2));
-    assert_eq!(refusal.to_string(), "job at place 0: critical mark out of range");
+    // No job has a pack past 255 or a mark that is none, but numbers can.
+    let of_numbers = |numbers| calls::pack(0, numbers, &mut [0; 13]).accepted().unwrap_err();
+    let (pack, mark) = (of_numbers(&[1, 256, 2, 0, 0, 0, 0]), of_numbers(&[1, 255, 2, 0, 0, 0, 0]));
+    assert_eq!((pack.field(), Field::Pack.figure()), (Some(Field::Pack), 2));
+    assert_eq!(pack.to_string(), "job at place 0: pack out of range");
+    assert_eq!((mark.field(), Field::Critical.figure()), (Some(Field::Critical), 3));
+    assert_eq!(mark.to_string(), "job at place 0: critical mark out of range");
     // A repeat names no field.
     assert_eq!(refusal_of(&[job(1), job(1)]).field(), None);
 }
@@ -92,8 +95,13 @@ fn a_field_that_was_not_given_is_named() {
 #[test]
 fn packing_takes_48_jobs_and_no_more() {
     let mut room = [7; ORDER_BYTES];
-    assert_eq!(Order::pack(-7, &jobs(48, 1), &mut room).map(Order::count), Ok(MOST_JOBS));
-    assert_eq!(Order::try_from(&room).map(|order| (order.t0(), order.count())), Ok((-7, MOST_JOBS)));
+    let with_packs: Vec<Job> = jobs(48, 1).into_iter().map(|job| job.pack(255)).collect();
+    for (jobs, length) in [(jobs(48, 1), 388), (with_packs, ORDER_BYTES)] {
+        assert_eq!(Order::pack(-7, &jobs, &mut room).map(Order::count), Ok(MOST_JOBS));
+        let order = Order::try_from(&room[..length]).unwrap();
+        assert_eq!((order.t0(), order.count()), (-7, MOST_JOBS));
+        assert!(order.jobs().eq(jobs));
+    }
     for count in [49, 50, 64, 1000] {
         let phrase = "there are more than 48 jobs, or more than 16 that repeat";
         assert_eq!(refused(&jobs(count, 1)), (3, None, phrase.to_string()));
@@ -105,10 +113,10 @@ fn an_order_is_refused_once_and_then_only_for_want_of_a_choice() {
     assert_eq!(Order::try_from(&P1_PACKED[..3]), Err(Refusal::OrderTooShort));
     assert_eq!(Order::try_from(&P1_PACKED[..43]), Err(Refusal::WrongLength));
     let mut bytes = P1_PACKED;
-    bytes[3] = 1;
-    assert_eq!(Order::try_from(&bytes), Err(Refusal::SpareBits));
-    assert_eq!(Order::try_from(&bytes.to_vec()), Err(Refusal::SpareBits));
-    assert_eq!(OrderBuf::try_from(bytes.to_vec()), Err(Refusal::SpareBits));
+    bytes[3] = 2;
+    assert_eq!(Order::try_from(&bytes), Err(Refusal::UnknownKind));
+    assert_eq!(Order::try_from(&bytes.to_vec()), Err(Refusal::UnknownKind));
+    assert_eq!(OrderBuf::try_from(bytes.to_vec()), Err(Refusal::UnknownKind));
 
     let late = OrderBuf::pack(0, &[Job::critical(1).ready(0).length(10).deadline(9)]).unwrap();
     let (late, mut work) = (late.as_order(), WorkArea::new());
@@ -119,6 +127,41 @@ fn an_order_is_refused_once_and_then_only_for_want_of_a_choice() {
 
     let none = Order::try_from(&[0; 4]).unwrap();
     assert_eq!((none.count(), none.jobs().next(), none.plan(&mut work).unwrap().finish), (0, None, 0));
+}
+
+#[test]
+fn one_pack_makes_the_records_of_the_other_kind() {
+    let plain = OrderBuf::pack(0, &jobs(3, 1)).unwrap();
+    assert_eq!((plain.as_order().kind(), plain.as_order().records().len()), (Kind::Plain, 24));
+    let mut jobs = jobs(3, 1);
+    jobs[2].pack = 200;
+    let order = OrderBuf::pack(0, &jobs).unwrap();
+    let (order, mut work) = (order.as_order(), WorkArea::new());
+    assert_eq!((order.kind(), order.records().len()), (Kind::WithPacks, 27));
+    assert_eq!((order.count(), Kind::WithPacks.number(), order.bytes()[3]), (3, 1, 1));
+    assert!(order.jobs().eq(jobs.iter().copied()));
+    assert!(Reader::open(order.bytes()).unwrap().map(Result::unwrap).eq(jobs.iter().copied()));
+    assert_eq!(Order::try_from(order.bytes()), Ok(order));
+    assert_eq!(order.plan(&mut work), plain.as_order().plan(&mut work));
+    assert_eq!(order.profile(&mut work), plain.as_order().profile(&mut work));
+    assert_eq!(Order::pack(0, &jobs, &mut [0; 30]), Err(Refusal::BufferTooShort));
+
+    let winner = choose(plain.as_order(), order, 100, &mut work).unwrap();
+    assert_eq!((winner.opening, winner.kind), (Opening::First, Kind::Plain));
+    let winner = choose(order, plain.as_order(), 100, &mut work).unwrap();
+    assert_eq!((winner.kind, winner.records), (Kind::WithPacks, order.records()));
+}
+
+#[test]
+fn records_of_kind_1_have_a_pack() {
+    let mut bytes = OrderBuf::pack(0, &[job(1).pack(1)]).unwrap().into_bytes();
+    bytes[5] = 0; // the pack is now 0
+    for bytes in [&bytes[..], &[0, 0, 0, 1]] {
+        assert_eq!(Order::try_from(bytes), Err(Refusal::EveryPackZero));
+        assert_eq!(Reader::open(bytes).unwrap_err(), Refusal::EveryPackZero);
+        assert_eq!(calls::step(bytes, 0).accepted(), Err(Refusal::EveryPackZero));
+    }
+    assert_eq!(Order::try_from(&bytes[..12]), Err(Refusal::WrongLength));
 }
 
 #[test]

@@ -27,7 +27,7 @@ impl Asked {
         Asked { bytes, judged, ours }
     }
 
-    /// The order and the plan in these bytes, or a refusal 1 to 7, 9, 14 or 15.
+    /// The order and the plan in these bytes, or a refusal 1 to 7, 9, 14, 15 or 19.
     fn judge(&self, plan: &[u8]) -> Result<(&Order, Kept), Refused> {
         let order = self.judged.as_ref().map_err(|&refused| refused)?;
         reference::sent(plan, order.jobs.len()).map(|kept| (order, kept))

@@ -65,9 +65,9 @@ fn numbers_of(points: &[Point]) -> Vec<i32> {
     points.iter().flat_map(|&(time, weight)| [time, weight]).collect()
 }
 
-/// The jobs of an order as its length tells them. A refused one is lent as much room, so that a write would show.
+/// The jobs of an order as its length and its kind tell them. A refused one is lent as much room, so that a write would show.
 fn jobs_by_length(bytes: &[u8]) -> usize {
-    bytes.len() / 8
+    bytes.len() / if bytes.get(3) == Some(&1) { 9 } else { 8 }
 }
 
 /// Refusal `number` where a condition does not hold.

@@ -28,24 +28,31 @@ const RULES: [Rule; 2] = [
     },
 ];
 
-/// An opening that is not refused: its profile and its number of jobs.
+/// An opening that is not refused: its profile and its records.
 struct Opened {
     profile: Vec<Point>,
-    jobs: usize,
+    records: Records,
 }
 
-/// Two openings and a time; and the point of each at that time, with its number of jobs, or the refusal of the first,
-/// then of the second.
+/// How many records an opening has, and of which kind.
+#[derive(Clone, Copy, Debug)]
+pub(super) struct Records {
+    jobs: usize,
+    pub kind: usize,
+}
+
+/// Two openings and a time; and the point of each at that time, with its records, or the refusal of the first, then of
+/// the second.
 #[derive(Debug)]
 pub(super) struct Pair<'a> {
     pub first: &'a [u8],
     pub second: &'a [u8],
     pub t: i32,
-    found: Result<[(Option<Point>, usize); 2], Refused>,
+    found: Result<[(Option<Point>, Records); 2], Refused>,
 }
 
-/// The winner and its number of jobs, or a refusal.
-pub(super) type Won = Result<(u32, usize), Refused>;
+/// The winner and its records, or a refusal.
+pub(super) type Won = Result<(u32, Records), Refused>;
 
 impl Pair<'_> {
     /// The winner by a tie, with a work area that is long enough or not.
@@ -80,7 +87,7 @@ impl Trial {
         let points = both.iter().flatten().flat_map(|opened| &opened.profile);
         let times: Vec<i32> = points.map(|point| point.0).collect();
         let t = inputs::time_near(&mut self.random, &times);
-        let at = |opened: Opened| (reference::point_at(&opened.profile, t), opened.jobs);
+        let at = |opened: Opened| (reference::point_at(&opened.profile, t), opened.records);
         let found = match both {
             [Ok(one), Ok(two)] => Ok([at(one), at(two)]),
             [Err(refused), _] | [_, Err(refused)] => Err(refused),
@@ -118,9 +125,10 @@ impl Trial {
         }
     }
 
-    /// Counts two openings that are worth the same, by which of them was so sooner.
+    /// Counts two openings by their kinds, and those that are worth the same by which of them was so sooner.
     fn count_tie(&mut self, pair: &Pair<'_>) {
         if let Ok([first, second]) = pair.found {
+            self.tally.kinds.openings[first.1.kind][second.1.kind] += 1;
             self.tally.ties.count(reference::tied(first.0, second.0));
         }
     }
@@ -128,19 +136,22 @@ impl Trial {
 
 fn opened(bytes: &[u8]) -> Result<Opened, Refused> {
     let Order { t0, jobs } = reference::judged(bytes)?;
-    Ok(Opened { profile: reference::extended(&[(t0, 0)], &jobs), jobs: jobs.len() })
+    let records = Records { jobs: jobs.len(), kind: reference::header(bytes)?.kind };
+    Ok(Opened { profile: reference::extended(&[(t0, 0)], &jobs), records })
 }
 
 fn asked(won: Won) -> QuestionAnswer {
     match won {
-        Ok((winner, _)) => answer!(QuestionAnswer { winner }),
+        Ok((winner, Records { kind, .. })) => answer!(QuestionAnswer { winner, kind: kind as u32 }),
         Err(Refused { number, field, .. }) => answer!(QuestionAnswer { refusal: number, field }),
     }
 }
 
 fn chosen(won: Won) -> ChooseAnswer {
     match won {
-        Ok((winner, jobs)) => answer!(ChooseAnswer { winner, offset: 4, length: 8 * jobs }),
+        Ok((winner, Records { jobs, kind })) => {
+            answer!(ChooseAnswer { winner, offset: 4, length: (8 + kind) * jobs, kind: kind as u32 })
+        }
         Err(Refused { number, field, .. }) => answer!(ChooseAnswer { refusal: number, field }),
     }
 }

@@ -15,10 +15,11 @@ impl Trial {
     }
 
     pub(super) fn unpack_bytes(&mut self, bytes: &[u8]) {
-        let needed = 6 * jobs_by_length(bytes);
+        let needed = 7 * jobs_by_length(bytes);
         let mut lent = Lent::new(inputs::room(&mut self.random, needed), || self.junk());
         let given = calls::unpack(bytes, lent.lend());
         let judged = reference::judged(bytes);
+        self.tally.kinds.count(bytes, &judged);
         self.typed_order(bytes, &judged);
         let roomy = judged.and_then(|order| unless(lent.lend().len() >= needed, 10).map(|()| order));
         let (wanted, written) = match roomy {
@@ -41,7 +42,9 @@ impl Trial {
     }
 
     pub(super) fn pack_numbers(&mut self, t0: i32, numbers: &[i32]) {
-        let needed = 4 + 8 * (numbers.len() / 6);
+        let has_pack = |n: &[i32]| n.get(1).map_or(false, |&pack| pack != 0);
+        let record = if numbers.chunks(7).any(has_pack) { 9 } else { 8 };
+        let needed = 4 + record * (numbers.len() / 7);
         let mut lent = Lent::new(inputs::room(&mut self.random, needed), || self.junk() as u8);
         let given = calls::pack(t0, numbers, lent.lend());
         let judged = reference::judged_numbers(t0, numbers)
@@ -65,7 +68,7 @@ impl Trial {
             return;
         }
         let fields: Vec<Vec<u32>> =
-            numbers.chunks(6).map(|n| reference::bad_fields(&reference::job_of(n))).collect();
+            numbers.chunks(7).map(|n| reference::bad_fields(&reference::job_of(n))).collect();
         let (told, behind) = (&fields[wanted.place], &fields[wanted.place + 1..]);
         self.tally.fields.several += usize::from(told.len() > 1);
         let earlier = |fields: &Vec<u32>| fields.first().map_or(false, |&field| field < wanted.field);
@@ -81,7 +84,7 @@ impl Trial {
     pub(super) fn read_bytes(&mut self, bytes: &[u8]) {
         let given = calls::open(bytes);
         let wanted = match reference::header(bytes) {
-            Ok((jobs, _)) => answer!(OpenAnswer { jobs }),
+            Ok(header) => answer!(OpenAnswer { jobs: header.count }),
             Err(refused) => answer!(OpenAnswer { refusal: refused.number }),
         };
         self.tally.compare("open", (given.refusal, given, true), wanted, &bytes);
@@ -100,6 +103,7 @@ fn wanted_step(bytes: &[u8], at: usize) -> StepAnswer {
     match reference::reader_job(bytes, at) {
         Ok(Some(job)) => answer!(StepAnswer {
             number: job.number,
+            pack: job.pack,
             critical: job.critical,
             weight: job.weight as u32,
             ready: job.ready,

@@ -95,7 +95,7 @@ fn wanted_lookup(profile: &[i32], t: i32) -> LookupAnswer {
 fn wanted_extension(profile: &[i32], bytes: &[u8], rooms: bool) -> Result<Vec<Point>, Refused> {
     let judged = reference::judged(bytes);
     match judged {
-        Err(refused) if refused.number < 8 => return Err(refused),
+        Err(refused) if refused.number != 9 => return Err(refused),
         _ => unless(reference::is_valid(profile), 8)?,
     }
     let order = judged?;

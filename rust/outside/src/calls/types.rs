@@ -32,7 +32,7 @@ impl Trial {
     /// `Order::pack` and `OrderBuf::pack` judge as the reference does, and give an order of these jobs over the packed
     /// bytes.
     pub(super) fn typed_pack(&mut self, t0: i32, numbers: &[i32]) {
-        let unpacked: Option<Vec<Job>> = numbers.chunks(6).map(job_of_numbers).collect();
+        let unpacked: Option<Vec<Job>> = numbers.chunks(7).map(job_of_numbers).collect();
         let jobs = match unpacked {
             Some(jobs) => jobs,
             None => return, // No list of jobs has these numbers.
@@ -185,13 +185,14 @@ impl Trial {
         tie: Tie,
         pair: &Pair<'_>,
     ) {
-        let won = pair.winner(tie, true).map(|(winner, _)| match winner {
-            1 => (Opening::First, pair.first),
-            _ => (Opening::Second, pair.second),
+        let won = pair.winner(tie, true).map(|(winner, records)| match winner {
+            1 => (Opening::First, pair.first, records.kind as u32),
+            _ => (Opening::Second, pair.second, records.kind as u32),
         });
-        self.compare_types(names[0], asked, won.map(|(opening, _)| opening), &(tie, pair));
-        let given = chosen.map(|winner| (winner.opening, winner.order.bytes(), winner.records));
-        let wanted = won.map(|(opening, bytes)| (opening, bytes, &bytes[4..]));
+        self.compare_types(names[0], asked, won.map(|(opening, ..)| opening), &(tie, pair));
+        let given =
+            chosen.map(|winner| (winner.opening, winner.order.bytes(), winner.records, winner.kind.number()));
+        let wanted = won.map(|(opening, bytes, kind)| (opening, bytes, &bytes[4..], kind));
         self.compare_types(names[1], given, wanted, &(tie, pair));
     }
 
@@ -222,37 +223,41 @@ fn unless_refused<A>(refused: Refused, wanted: A) -> Result<A, Refused> {
     }
 }
 
-/// What an order holds, its jobs read in both directions and by place, and its text.
-fn contents(order: Order<'_>) -> (i32, Vec<Job>, String) {
+/// What an order holds, its jobs read in both directions and by place, the kind of its records, and its text.
+fn contents(order: Order<'_>) -> (i32, Vec<Job>, u32, String) {
     let jobs: Vec<Job> = order.jobs().collect();
     assert_eq!((order.count(), order.jobs().len()), (jobs.len(), jobs.len()));
     assert!(order.jobs().rev().eq(jobs.iter().rev().copied()));
     assert!((0..jobs.len() + 2).all(|place| order.job(place).as_ref() == jobs.get(place)));
-    (order.t0(), jobs, order.to_string())
+    assert_eq!(order.records().len(), order.kind().record_bytes() * jobs.len());
+    (order.t0(), jobs, order.kind().number(), order.to_string())
 }
 
-fn wanted_order(order: &trials::Order) -> (i32, Vec<Job>, String) {
-    let jobs: Vec<Job> = order.numbers().chunks(6).filter_map(job_of_numbers).collect();
+fn wanted_order(order: &trials::Order) -> (i32, Vec<Job>, u32, String) {
+    let jobs: Vec<Job> = order.numbers().chunks(7).filter_map(job_of_numbers).collect();
     let lines: Vec<String> = order.jobs.iter().map(line_of_job).collect();
-    (order.t0, jobs, [vec![format!("bus free at {}", order.t0)], lines].concat().join("\n"))
+    let text = [vec![format!("bus free at {}", order.t0)], lines].concat().join("\n");
+    (order.t0, jobs, order.kind() as u32, text)
 }
 
 /// A job's line in the text of its order.
 fn line_of_job(job: &trials::Job) -> String {
     let weighs = if job.critical == 1 { "critical".to_string() } else { format!("weight {}", job.weight) };
-    let trials::Job { number, ready, length, deadline, .. } = job;
-    format!("job {number}: {weighs}, ready {ready}, length {length}, deadline {deadline}")
+    let trials::Job { number, pack, ready, length, deadline, .. } = job;
+    let named = if *pack == 0 { format!("job {number}") } else { format!("job {number} for pack {pack}") };
+    format!("{named}: {weighs}, ready {ready}, length {length}, deadline {deadline}")
 }
 
-/// The job of six numbers, if there is one.
+/// The job of seven numbers, if there is one.
 fn job_of_numbers(n: &[i32]) -> Option<Job> {
-    let &[number, critical, weight, ready, length, deadline] = <&[i32; 6]>::try_from(n).ok()?;
+    let &[number, pack, critical, weight, ready, length, deadline] = <&[i32; 7]>::try_from(n).ok()?;
     let job = match critical {
         0 => Job::optional(number),
         1 => Job::critical(number),
         _ => return None,
     };
-    Some(job.weight(weight as u32).ready(ready).length(length).deadline(deadline))
+    let pack = u8::try_from(pack).ok()?;
+    Some(job.pack(pack).weight(weight as u32).ready(ready).length(length).deadline(deadline))
 }
 
 /// The repeating job of six numbers, if there is one.

@@ -62,7 +62,8 @@ fn repeats(repeating: &[Repeating], frame: i32) -> Vec<Job> {
     {
         let Repeating { critical, weight, length, deadline, period, .. } = repeating[place];
         let (number, ready) = (jobs.len() as i32, due[place]);
-        jobs.push(Job { number, critical, weight, ready, length, deadline: ready + deadline });
+        let deadline = ready + deadline;
+        jobs.push(Job { number, pack: 0, critical, weight, ready, length, deadline });
         due[place] += period;
     }
     jobs

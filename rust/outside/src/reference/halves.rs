@@ -22,7 +22,7 @@ pub fn offending(jobs: &[Job]) -> Vec<usize> {
     (0..jobs.len()).filter(|&place| offends(jobs, place)).collect()
 }
 
-/// The order of halves in packed bytes, or a refusal 1 to 7, 9 or 13.
+/// The order of halves in packed bytes, or a refusal 1 to 7, 9, 13 or 19.
 pub fn judged_halves(bytes: &[u8]) -> Result<Order, Refused> {
     let order = judged(bytes)?;
     match offending(&order.jobs).first() {

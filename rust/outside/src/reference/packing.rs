@@ -1,4 +1,4 @@
-//! Packed orders: reading them bit by bit, and the refusals 1 to 7 and 9.
+//! Packed orders: reading them bit by bit, and the refusals 1 to 7, 9 and 19.
 
 use super::Refused;
 use trials::{Job, Order};
@@ -28,6 +28,7 @@ pub fn bad_fields(job: &Job) -> Vec<u32> {
     let times = -100_000..=100_000;
     let fields = [
         (job.number, 0..=63),
+        (job.pack, 0..=255),
         (job.critical, 0..=1),
         (job.weight, weights),
         (job.ready, times.clone()),
@@ -45,47 +46,62 @@ fn judged_job(place: usize, job: &Job) -> Result<(), Refused> {
     }
 }
 
-/// The count and bus-free time of packed bytes, or a refusal 1 to 5.
-pub fn header(bytes: &[u8]) -> Result<(usize, i32), Refused> {
+/// What the header of packed bytes says.
+#[derive(Clone, Copy, Debug)]
+pub struct Header {
+    pub count: usize,
+    pub t0: i32,
+    pub kind: usize,
+}
+
+/// The header of packed bytes, or a refusal 1 to 5 or 19.
+pub fn header(bytes: &[u8]) -> Result<Header, Refused> {
     if bytes.len() < 4 {
         return Err(Refused::new(1));
     }
-    if bits(bytes, 24, 8) != 0 {
+    let kind = bits(bytes, 24, 8) as usize;
+    if kind > 1 {
         return Err(Refused::new(2));
     }
     let count = bits(bytes, 0, 6) as usize;
     if count > 48 {
         return Err(Refused::new(3));
     }
-    if bytes.len() != 4 + 8 * count {
+    if bytes.len() != 4 + (8 + kind) * count {
         return Err(Refused::new(4));
     }
     let t0 = signed_bits(bytes, 6, 18);
     if !is_time(t0) {
         return Err(Refused::new(5));
     }
-    Ok((count, t0))
+    if kind == 1 && (0..count).all(|place| job_at(bytes, kind, place).pack == 0) {
+        return Err(Refused::new(19));
+    }
+    Ok(Header { count, t0, kind })
 }
 
-fn job_at(bytes: &[u8], place: usize) -> Job {
-    let at = 32 + 64 * place;
+/// The job at a place; a record of kind 0 has no bits for its pack.
+fn job_at(bytes: &[u8], kind: usize, place: usize) -> Job {
+    let at = 32 + (64 + 8 * kind) * place;
+    let behind = at + 6 + 8 * kind;
     Job {
         number: bits(bytes, at, 6),
-        critical: bits(bytes, at + 6, 1),
-        weight: bits(bytes, at + 7, 7),
-        ready: signed_bits(bytes, at + 14, 18),
-        length: bits(bytes, at + 32, 14),
-        deadline: signed_bits(bytes, at + 46, 18),
+        pack: bits(bytes, at + 6, 8 * kind),
+        critical: bits(bytes, behind, 1),
+        weight: bits(bytes, behind + 1, 7),
+        ready: signed_bits(bytes, behind + 8, 18),
+        length: bits(bytes, behind + 26, 14),
+        deadline: signed_bits(bytes, behind + 40, 18),
     }
 }
 
-/// The job at a place as the reader gives it, none at the end, or a refusal 1 to 6.
+/// The job at a place as the reader gives it, none at the end, or a refusal 1 to 6 or 19.
 pub fn reader_job(bytes: &[u8], place: usize) -> Result<Option<Job>, Refused> {
-    let (count, _) = header(bytes)?;
+    let Header { count, kind, .. } = header(bytes)?;
     if place >= count {
         return Ok(None);
     }
-    let job = job_at(bytes, place);
+    let job = job_at(bytes, kind, place);
     judged_job(place, &job).map(|()| Some(job))
 }
 
@@ -102,31 +118,31 @@ fn judged_jobs(jobs: &[Job]) -> Result<(), Refused> {
     Ok(())
 }
 
-/// The order in packed bytes, or a refusal 1 to 7 or 9.
+/// The order in packed bytes, or a refusal 1 to 7, 9 or 19.
 pub fn judged(bytes: &[u8]) -> Result<Order, Refused> {
-    let (count, t0) = header(bytes)?;
-    let jobs: Vec<Job> = (0..count).map(|place| job_at(bytes, place)).collect();
+    let Header { count, t0, kind } = header(bytes)?;
+    let jobs: Vec<Job> = (0..count).map(|place| job_at(bytes, kind, place)).collect();
     judged_jobs(&jobs)?;
     Ok(Order { t0, jobs })
 }
 
-/// The job of six numbers.
+/// The job of seven numbers.
 pub fn job_of(n: &[i32]) -> Job {
-    Job { number: n[0], critical: n[1], weight: n[2], ready: n[3], length: n[4], deadline: n[5] }
+    Job { number: n[0], pack: n[1], critical: n[2], weight: n[3], ready: n[4], length: n[5], deadline: n[6] }
 }
 
-/// The order in a bus-free time and six numbers a job, or a refusal 3 to 7 or 9.
+/// The order in a bus-free time and seven numbers a job, or a refusal 3 to 7 or 9.
 pub fn judged_numbers(t0: i32, numbers: &[i32]) -> Result<Order, Refused> {
-    if numbers.len() > 288 {
+    if numbers.len() > 336 {
         return Err(Refused::new(3));
     }
-    if numbers.len() % 6 != 0 {
+    if numbers.len() % 7 != 0 {
         return Err(Refused::new(4));
     }
     if !is_time(t0) {
         return Err(Refused::new(5));
     }
-    let jobs: Vec<Job> = numbers.chunks(6).map(job_of).collect();
+    let jobs: Vec<Job> = numbers.chunks(7).map(job_of).collect();
     judged_jobs(&jobs)?;
     Ok(Order { t0, jobs })
 }

@@ -1,5 +1,5 @@
--- Of all exported calls only the one that plans halves gives 13, only the two that check plans give 14 and 15, and only framing gives 16
--- and 17: whatever it is given, every other one's refusal is at most 12, in every outcome that its contract allows.
+-- The numbers that each exported call can give, in every outcome that its contract allows, whatever it is given: at most 12, and on packed
+-- orders 19. Only the call that plans halves gives 13 too, only the two that check plans give 14 and 15, and only framing gives 16 and 17.
 use Prim.Native.Nat.{ℕ, _≤_}
 use mathlib.Core.Path.{_≡_, refl}
 use mathlib.Core.Bool.{Bool, _||_}
@@ -11,14 +11,14 @@ use denote.Ref.{now}
 use lib.Dec.{T, leb, ltb, eqb}
 use lib.IntN.{ℤ}
 use lib.ListN.{length}
+use borrow.Author.Tests.{leb-false}
 use borrow.Table.Steps.{cases}
 use Rattle.packed.specs.declared.Refusal.{Refusal}
 use Rattle.packed.specs.Judge.{Check, Verdict, fine, refused, judge}
 use Rattle.packed.specs.Packed.{countOf, orderOf}
-use Rattle.packed.specs.JudgeLaws.{number-passes}
+use Rattle.packed.specs.JudgeLaws.{everyNumber, number-passes}
 use Rattle.packed.specs.Refusals.{headerChecks, listChecks, jobChecks, weightChecks, halvesChecks, unpackChecks, packChecks}
 use Rattle.plan.specs.Plan.{Answer, planAnswer}
-use Rattle.judge.specs.Told.{upToTen, up-to-ten}
 use Rattle.heat.specs.Answer.{refusalOf as heatRefusal, heatingOf}
 use Rattle.heat.specs.declared.Heating.{Heating}
 use Rattle.heat.specs.declared.Heating.the-variants as heating
@@ -81,108 +81,119 @@ use Rattle.leafanchor.proofs.leafanchor_choose_first.Reads as choose-fi
 
 -- ---- by a verdict
 
--- Checks up to 10 give a number up to 12, where it is so past them.
-by-verdict : (cs : List Check) → T (upToTen cs) → (number : Verdict → ℕ) → number fine ≤ 12
-    → ((r : Refusal) → number (refused r) ≡ r .number) → number (judge cs) ≤ 12
-by-verdict cs low number past told = go (judge cs) refl
+-- At most 12; and on packed orders 19 too.
+abbrev low : ℕ → Bool
+low n = leb n 12
+
+abbrev ofOrders : ℕ → Bool
+ofOrders n = low n || eqb n 19
+
+-- Where every check has such a number, and what is told past them, so has the answer.
+by-verdict : (test : ℕ → Bool) (cs : List Check) → T (everyNumber test cs) → (number : Verdict → ℕ) → T (test (number fine))
+    → ((r : Refusal) → number (refused r) ≡ r .number) → T (test (number (judge cs)))
+by-verdict test cs all number past told = go (judge cs) refl
   where
-    go : (v : Verdict) → judge cs ≡ v → number v ≤ 12
+    go : (v : Verdict) → judge cs ≡ v → T (test (number v))
     go fine e = past
-    go (refused r) e = omega (arith, told r, up-to-ten cs low e)
+    go (refused r) e = rw (told r) (number-passes test cs all e)
 
 -- ---- each answer
 
-heat-low : (h : Heating) → heatRefusal h ≤ 12
-heat-low (heating.Seconds l) = omega arith
-heat-low heating.TooCold = omega arith
+heat-low : (h : Heating) → T (low (heatRefusal h))
+heat-low (heating.Seconds l) = tt
+heat-low heating.TooCold = tt
 
-lookup-low : (f : Finding) → lookupRefusal f ≤ 12
-lookup-low finding.NotValid = omega arith
-lookup-low (finding.Found w) = omega arith
-lookup-low finding.NotFound = omega arith
+lookup-low : (f : Finding) → T (low (lookupRefusal f))
+lookup-low finding.NotValid = tt
+lookup-low (finding.Found w) = tt
+lookup-low finding.NotFound = tt
 
-better-low : (j : Joined) → joinRefusal j ≤ 12
-better-low joined.NotValid = omega arith
-better-low joined.NoRoom = omega arith
-better-low (joined.Points n) = omega arith
+better-low : (j : Joined) → T (low (joinRefusal j))
+better-low joined.NotValid = tt
+better-low joined.NoRoom = tt
+better-low (joined.Points n) = tt
 
-unpack-low : (bytes : List ℕ) (room : ℕ) → unpackRefusal (unpackOf bytes room) .number ≤ 12
+unpack-low : (bytes : List ℕ) (room : ℕ) → T (ofOrders (unpackRefusal (unpackOf bytes room) .number))
 unfolding headerChecks jobChecks weightChecks
 unpack-low bytes room =
-    by-verdict (unpackChecks bytes room) tt (λ v. unpackRefusal (unpackedBy bytes v) .number) (omega arith) (λ r. refl)
+    by-verdict ofOrders (unpackChecks bytes room) tt (λ v. unpackRefusal (unpackedBy bytes v) .number) tt (λ r. refl)
 
-pack-low : (t0 : ℤ) (zs : List ℤ) (room : ℕ) → packRefusal (packOf t0 zs room) .number ≤ 12
+pack-low : (t0 : ℤ) (zs : List ℤ) (room : ℕ) → T (low (packRefusal (packOf t0 zs room) .number))
 unfolding listChecks jobChecks weightChecks
-pack-low t0 zs room = by-verdict (packChecks t0 zs room) tt (λ v. packRefusal (packedBy t0 zs v) .number) (omega arith) (λ r. refl)
+pack-low t0 zs room = by-verdict low (packChecks t0 zs room) tt (λ v. packRefusal (packedBy t0 zs v) .number) tt (λ r. refl)
 
-open-low : (bytes : List ℕ) → openRefusal (openOf bytes) ≤ 12
+open-low : (bytes : List ℕ) → T (ofOrders (openRefusal (openOf bytes)))
 unfolding headerChecks
-open-low bytes = by-verdict (headerChecks bytes) tt (λ v. openRefusal (openedBy (countOf bytes) v)) (omega arith) (λ r. refl)
+open-low bytes = by-verdict ofOrders (headerChecks bytes) tt (λ v. openRefusal (openedBy (countOf bytes) v)) tt (λ r. refl)
 
-step-low : (bytes : List ℕ) (place : ℕ) → readRefusal (stepOf bytes place .answer) .number ≤ 12
+step-low : (bytes : List ℕ) (place : ℕ) → T (ofOrders (readRefusal (stepOf bytes place .answer) .number))
 unfolding headerChecks
 step-low bytes place =
-    by-verdict (stepChecks bytes place) tt (λ v. readRefusal (steppedBy bytes place v .answer) .number)
-    (cases (ltb place (countOf bytes)) (λ e. rw e (omega arith)) (λ e. rw e (omega arith))) (λ r. refl)
+    by-verdict ofOrders (stepChecks bytes place) tt (λ v. readRefusal (steppedBy bytes place v .answer) .number)
+    (cases (ltb place (countOf bytes)) (λ e. rw e tt) (λ e. rw e tt)) (λ r. refl)
 
-extend-low : (ns : List ℤ) (bytes : List ℕ) (out work : List ℤ) → extendRefusal (extendedOf ns bytes out work) .number ≤ 12
+extend-low : (ns : List ℤ) (bytes : List ℕ) (out work : List ℤ) → T (ofOrders (extendRefusal (extendedOf ns bytes out work) .number))
 unfolding extendChecks extendJudged headerChecks jobChecks weightChecks
 extend-low ns bytes out work =
-    by-verdict (extendChecks ns bytes out work) tt (λ v. extendRefusal (extendedBy v (extension ns bytes)) .number) (omega arith)
+    by-verdict ofOrders (extendChecks ns bytes out work) tt (λ v. extendRefusal (extendedBy v (extension ns bytes)) .number) tt
     (λ r. refl)
 
-made-low : (a : Option Answer) → planNumbers (plannedBy fine a) .refusal .number ≤ 12
-made-low none = omega arith
-made-low (some a) = omega arith
+made-low : (a : Option Answer) → T (ofOrders (planNumbers (plannedBy fine a) .refusal .number))
+made-low none = tt
+made-low (some a) = tt
 
-plan-low : (bytes : List ℕ) (starts work : List ℤ) → planNumbers (plannedOf bytes starts work) .refusal .number ≤ 12
+plan-low : (bytes : List ℕ) (starts work : List ℤ) → T (ofOrders (planNumbers (plannedOf bytes starts work) .refusal .number))
 unfolding planChecks headerChecks jobChecks weightChecks
 plan-low bytes starts work =
-    by-verdict (planChecks bytes starts work) tt (λ v. planNumbers (plannedBy v (planAnswer (orderOf bytes))) .refusal .number)
+    by-verdict ofOrders (planChecks bytes starts work) tt (λ v. planNumbers (plannedBy v (planAnswer (orderOf bytes))) .refusal .number)
     (made-low (planAnswer (orderOf bytes))) (λ r. refl)
 
-written-low : (a : Option Answer) → packRefusal (writtenBy fine a) .number ≤ 12
-written-low none = omega arith
-written-low (some a) = omega arith
+written-low : (a : Option Answer) → T (ofOrders (packRefusal (writtenBy fine a) .number))
+written-low none = tt
+written-low (some a) = tt
 
-write-low : (order out : List ℕ) (work : List ℤ) → packRefusal (writtenOf order out work) .number ≤ 12
+write-low : (order out : List ℕ) (work : List ℤ) → T (ofOrders (packRefusal (writtenOf order out work) .number))
 unfolding writeChecks headerChecks jobChecks weightChecks
 write-low order out work =
-    by-verdict (writeChecks order out work) tt (λ v. packRefusal (writtenBy v (planAnswer (orderOf order))) .number)
+    by-verdict ofOrders (writeChecks order out work) tt (λ v. packRefusal (writtenBy v (planAnswer (orderOf order))) .number)
     (written-low (planAnswer (orderOf order))) (λ r. refl)
 
+-- At most 11 is at most 12.
+at-most : {n : ℕ} → n ≤ 11 → T (ofOrders n)
+at-most {n} h = cases (low n) (λ e. rw e tt) (λ e. absurd (omega (arith, leb-false n 12 e)))
+
 choose-low : (rule : TieRule) (first second : List ℕ) (t : ℤ) (work : List ℤ)
-    → refusalOf (chosenOf rule first second t work) .number ≤ 12
+    → T (ofOrders (refusalOf (chosenOf rule first second t work) .number))
 unfolding choosingChecks headerChecks jobChecks weightChecks
 choose-low rule first second t work =
-    by-verdict (choosingChecks first second work) tt (λ v. refusalOf (chosenBy v (winnerBy rule first second t)) .number)
-    (omega (arith, at-most-eleven (won-by rule (openingPoint first t) (openingPoint second t)))) (λ r. refl)
+    by-verdict ofOrders (choosingChecks first second work) tt (λ v. refusalOf (chosenBy v (winnerBy rule first second t)) .number)
+    (at-most (at-most-eleven (won-by rule (openingPoint first t) (openingPoint second t)))) (λ r. refl)
 
 -- ---- every outcome of each call
 
--- No outcome that a contract allows has a greater number.
-abbrev UpToTwelve : {A R X : Type 0} → (A → R → X → Type 0) → (R → ℕ) → Type 0
-UpToTwelve {A} {R} {X} allows number = (a : A) (r : R) (x : X) → allows a r x → number r ≤ 12
+-- No outcome that a contract allows has another number.
+abbrev Gives : {A R X : Type 0} → (ℕ → Bool) → (A → R → X → Type 0) → (R → ℕ) → Type 0
+Gives {A} {R} {X} test allows number = (a : A) (r : R) (x : X) → allows a r x → T (test (number r))
 
-pub record OthersUpToTwelve : Type 0 where
-  pub heats : (κs : Lfts 0) → UpToTwelve (heat-up.Post κs) (λ (r : HeatAnswer). r .refusal)
-  pub unpacks : (κs : Lfts 2) → UpToTwelve (unpack.Post κs) (λ (r : UnpackAnswer). r .refusal)
-  pub packs : (κs : Lfts 2) → UpToTwelve (pack.Post κs) (λ (r : PackAnswer). r .refusal)
-  pub opens : (κs : Lfts 1) → UpToTwelve (opens.Post κs) (λ (r : OpenAnswer). r .refusal)
-  pub steps : (κs : Lfts 1) → UpToTwelve (step.Post κs) (λ (r : StepAnswer). r .refusal)
-  pub looks-up : (κs : Lfts 1) → UpToTwelve (lookup.Post κs) (λ (r : LookupAnswer). r .refusal)
-  pub looks-up-records : (κs : Lfts 1) → UpToTwelve (RecordsPost κs) (λ (r : LookupAnswer). r .refusal)
-  pub joins : (κs : Lfts 3) → UpToTwelve (better-of.Post κs) (λ (r : BetterAnswer). r .refusal)
-  pub extends : (κs : Lfts 4) → UpToTwelve (extend.Post κs) (λ (r : ExtendAnswer). r .refusal)
-  pub plans : (κs : Lfts 3) → UpToTwelve (plan.Post κs) (λ (r : PlanAnswer). r .refusal)
-  pub writes-plans : (κs : Lfts 3) → UpToTwelve (write-plan.Post κs) (λ (r : PackAnswer). r .refusal)
-  pub asks : (κs : Lfts 3) → UpToTwelve (question.Post κs) (λ (r : QuestionAnswer). r .refusal)
-  pub asks-first : (κs : Lfts 3) → UpToTwelve (question-first.Post κs) (λ (r : QuestionAnswer). r .refusal)
-  pub chooses : (κs : Lfts 3) → UpToTwelve (choose.Post κs) (λ (r : ChooseAnswer). r .refusal)
-  pub chooses-first : (κs : Lfts 3) → UpToTwelve (choose-first.Post κs) (λ (r : ChooseAnswer). r .refusal)
+pub record SharedGiven : Type 0 where
+  pub heats : (κs : Lfts 0) → Gives low (heat-up.Post κs) (λ (r : HeatAnswer). r .refusal)
+  pub unpacks : (κs : Lfts 2) → Gives ofOrders (unpack.Post κs) (λ (r : UnpackAnswer). r .refusal)
+  pub packs : (κs : Lfts 2) → Gives low (pack.Post κs) (λ (r : PackAnswer). r .refusal)
+  pub opens : (κs : Lfts 1) → Gives ofOrders (opens.Post κs) (λ (r : OpenAnswer). r .refusal)
+  pub steps : (κs : Lfts 1) → Gives ofOrders (step.Post κs) (λ (r : StepAnswer). r .refusal)
+  pub looks-up : (κs : Lfts 1) → Gives low (lookup.Post κs) (λ (r : LookupAnswer). r .refusal)
+  pub looks-up-records : (κs : Lfts 1) → Gives low (RecordsPost κs) (λ (r : LookupAnswer). r .refusal)
+  pub joins : (κs : Lfts 3) → Gives low (better-of.Post κs) (λ (r : BetterAnswer). r .refusal)
+  pub extends : (κs : Lfts 4) → Gives ofOrders (extend.Post κs) (λ (r : ExtendAnswer). r .refusal)
+  pub plans : (κs : Lfts 3) → Gives ofOrders (plan.Post κs) (λ (r : PlanAnswer). r .refusal)
+  pub writes-plans : (κs : Lfts 3) → Gives ofOrders (write-plan.Post κs) (λ (r : PackAnswer). r .refusal)
+  pub asks : (κs : Lfts 3) → Gives ofOrders (question.Post κs) (λ (r : QuestionAnswer). r .refusal)
+  pub asks-first : (κs : Lfts 3) → Gives ofOrders (question-first.Post κs) (λ (r : QuestionAnswer). r .refusal)
+  pub chooses : (κs : Lfts 3) → Gives ofOrders (choose.Post κs) (λ (r : ChooseAnswer). r .refusal)
+  pub chooses-first : (κs : Lfts 3) → Gives ofOrders (choose-first.Post κs) (λ (r : ChooseAnswer). r .refusal)
 
-pub others-up-to-twelve : OthersUpToTwelve
-others-up-to-twelve =
+pub shared-given : SharedGiven
+shared-given =
     record {
       heats = λ κs a r x h. rw h (heat-low (heatingOf (a .0)));
       unpacks = λ κs a r x h. rw (h .0) (unpack-low (now (a .0)) (length (now (a .1 .0))));
@@ -204,12 +215,9 @@ others-up-to-twelve =
 
 -- ---- the four others
 
--- Above 12 they give their own one or two.
+-- Beside those they give their own one or two.
 abbrev own : ℕ → ℕ → ℕ → Bool
-own a b n = leb n 12 || (eqb n a || eqb n b)
-
-abbrev Own : {A R X : Type 0} → ℕ → ℕ → (A → R → X → Type 0) → (R → ℕ) → Type 0
-Own {A} {R} {X} a b allows number = (x : A) (r : R) (y : X) → allows x r y → T (own a b (number r))
+own a b n = ofOrders n || (eqb n a || eqb n b)
 
 halves-own : (bytes : List ℕ) (starts work : List ℤ) → T (own 13 13 (halvesNumbers (halvesOf bytes starts work) .plan .refusal .number))
 unfolding planHalvesChecks headerChecks jobChecks weightChecks halvesChecks
@@ -221,20 +229,20 @@ halves-own bytes starts work = go (judge (planHalvesChecks bytes starts work)) r
     go fine e none = tt
     go fine e (some a) = tt
 
-pub record AboveTwelve : Type 0 where
-  pub halves-13 : (κs : Lfts 3) → Own 13 13 (halves.Post κs) (λ (r : HalvesAnswer). r .refusal)
-  pub legal-14-15 : (κs : Lfts 2) → Own 14 15 (legal.Post κs) (λ (r : VerdictAnswer). r .refusal)
-  pub best-14-15 : (κs : Lfts 3) → Own 14 15 (best.Post κs) (λ (r : VerdictAnswer). r .refusal)
-  pub frame-16-17 : (κs : Lfts 2) → Own 16 17 (frame.Post κs) (λ (r : FrameAnswer). r .refusal)
+pub record OwnGiven : Type 0 where
+  pub halves-13 : (κs : Lfts 3) → Gives (own 13 13) (halves.Post κs) (λ (r : HalvesAnswer). r .refusal)
+  pub legal-14-15 : (κs : Lfts 2) → Gives (own 14 15) (legal.Post κs) (λ (r : VerdictAnswer). r .refusal)
+  pub best-14-15 : (κs : Lfts 3) → Gives (own 14 15) (best.Post κs) (λ (r : VerdictAnswer). r .refusal)
+  pub frame-16-17 : (κs : Lfts 2) → Gives (λ n. low n || (eqb n 16 || eqb n 17)) (frame.Post κs) (λ (r : FrameAnswer). r .refusal)
 
-pub above-twelve : AboveTwelve
+pub own-given : OwnGiven
 unfolding bestChecks legalChecks sentChecks headerChecks jobChecks weightChecks givenChecks madeChecks
-above-twelve =
+own-given =
     record {
       halves-13 = λ κs a r x h. rw (h .0) (halves-own (now (a .0)) (now (a .1 .0)) (now (a .1 .1 .0)));
       legal-14-15 = λ κs a r x h. rw h
           (checked-passes (legalChecks (now (a .0)) (now (a .1 .0))) (legalIn (now (a .0)) (now (a .1 .0))) (own 14 15) tt tt);
       best-14-15 = λ κs a r x h. rw (h .0)
           (checked-passes (bestChecks (now (a .0)) (now (a .1 .0)) (now (a .1 .1 .0))) (bestIn (now (a .0)) (now (a .1 .0))) (own 14 15) tt tt);
-      frame-16-17 = λ κs a r x h. rw (h .0) (frame-passes (now (a .0)) (length (now (a .1 .0))) (own 16 17) tt tt);
+      frame-16-17 = λ κs a r x h. rw (h .0) (frame-passes (now (a .0)) (length (now (a .1 .0))) (λ n. low n || (eqb n 16 || eqb n 17)) tt tt);
     }

@@ -1,6 +1,6 @@
--- Layouts and bytes behind each other: one field or some bytes read where they stand.
+-- Layouts and bytes behind each other: one field or some bytes read where they stand, and a record cut in two at a byte's edge.
 use Prim.Native.Nat.{ℕ, zero, suc, _+_, _*_, _/_, _%_, _^_, _<_}
-use mathlib.Core.Path.{_≡_, sym, ap, ap₂, _∙_}
+use mathlib.Core.Path.{_≡_, refl, sym, ap, ap₂, _∙_}
 use mathlib.Core.List.{List, [], _∷_, _++_}
 use native.Mathlib.Nat.{mod-lt, mod-eq-of-lt, add-assoc, zero-add}
 use native.Mathlib.Omega.{arith}
@@ -9,8 +9,10 @@ use lib.Pow.{pow-pos, pow-add, shr-shr, field, mod-mod-pow}
 use lib.IntN.{ℤ, pos}
 use lib.ListN.{length, replicate, getD, take, drop, length-append, take-append-drop}
 use lib.Seq.{getD-at}
-use Rattle.packed.specs.Layout.{total, Field, widthOf, widths, meaning, bitsFor, decode, encode, numberOf}
+use Rattle.packed.specs.Layout.{total, Field, widthOf, widths, meaning, bitsFor, decode, encode, numberOf, bytesOf}
 use Rattle.packed.specs.LayoutLaws.{decode-cons, length-decode, AreBytes, numberOf-lt, numberOf-cons}
+use Rattle.packed.specs.LayoutLaws.{Held, no-field, held, encode-lt, length-bytesOf, bytesOf-bytes}
+use Rattle.packed.specs.LayoutLaws.{numberOf-bytesOf, bytesOf-numberOf}
 
 -- The bits of a layout.
 abbrev pub bits : List Field → ℕ
@@ -85,3 +87,35 @@ module _ (bs : List ℕ) (h : AreBytes bs) where
 
   pub number-front : (a : ℕ) → numberOf (take a bs) ≡ numberOf bs / 2 ^ (8 * length (drop a bs))
   number-front a = rw (parts a) (sym (digits-div (numberOf (take a bs)) (behind-lt a)))
+
+-- ---- a record cut at a byte's edge
+
+-- Two lists of bytes are one.
+pub bytes-append : (xs ys : List ℕ) → AreBytes xs → AreBytes ys → AreBytes (xs ++ ys)
+bytes-append [] ys h g i = g i
+bytes-append (x ∷ xs) ys h g zero = h 0
+bytes-append (x ∷ xs) ys h g (suc i) = bytes-append xs ys (λ j. h (suc j)) g i
+
+-- Two numbers of whole bytes, the second behind the first.
+pub bytesOf-append : (f b : ℕ) {x y : ℕ} → x < 2 ^ (8 * f) → y < 2 ^ (8 * b)
+    → bytesOf (f + b) (x * 2 ^ (8 * b) + y) ≡ bytesOf f x ++ bytesOf b y
+bytesOf-append f b {x} {y} h g =
+    let xs : List ℕ = bytesOf f x in
+    let ys : List ℕ = bytesOf b y in
+    let long : length (xs ++ ys) ≡ f + b = length-append xs ys ∙ ap₂ (λ p q. p + q) (length-bytesOf f x) (length-bytesOf b y) in
+    let number : numberOf (xs ++ ys) ≡ x * 2 ^ (8 * b) + y =
+    rw (numberOf-append xs ys, numberOf-bytesOf f h, numberOf-bytesOf b g, length-bytesOf b y) in
+    sym (ap₂ bytesOf long number) ∙ bytesOf-numberOf (xs ++ ys) (bytes-append xs ys (bytesOf-bytes f h) (bytesOf-bytes b g))
+
+-- As many numbers as fields.
+pub length-held : {fs : List Field} {zs : List ℤ} → Held fs zs → length zs ≡ length fs
+length-held no-field = refl
+length-held (held h r) = ap suc (length-held r)
+
+-- Written: the bytes of the front's numbers, then those of the back's.
+pub encode-split : {fs gs : List Field} {zs ys : List ℤ} (f b : ℕ) → Held fs zs → Held gs ys → bits fs ≡ 8 * f → bits gs ≡ 8 * b
+    → bytesOf (f + b) (encode (fs ++ gs) (zs ++ ys)) ≡ bytesOf f (encode fs zs) ++ bytesOf b (encode gs ys)
+encode-split {fs} {gs} {zs} {ys} f b h g e d =
+    let high : encode fs zs < 2 ^ (8 * f) = rw (← e) (encode-lt h) in
+    let low : encode gs ys < 2 ^ (8 * b) = rw (← d) (encode-lt g) in
+    rw (encode-append fs gs zs ys (length-held h), d) (bytesOf-append f b high low)
