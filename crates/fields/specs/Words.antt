@@ -8,13 +8,14 @@ use lib.Pow.{pow-mono, shr-lt}
 use lib.IntN.{pos}
 use lib.ListN.{length, getD, take, drop, set, length-set, length-append, length-drop, take-append-drop}
 use lib.Seq.{drop-cons, append-snoc, lt-length-set, getD-set-same, drop-set-lt, take-set-le}
-use lib.Seq.{length-take-le, take-at, drop-append-add, drop-drop}
+use lib.Seq.{length-take-le, take-add, take-at, drop-append-add, drop-drop}
 use mir.Syntax.{w32}
 use mir.Val.{toZ}
 use mir.Facts.{toZ-pos}
 use Rattle.seconds.specs.Twos.{bitsTo}
 use Rattle.packed.specs.Layout.{numberOf, bytesOf, decode, jobLayout, packBits, recordBytes}
 use Rattle.packed.specs.LayoutLaws.{AreBytes, part-lt, part-on, numberOf-cons, bytesOf-snoc, length-bytesOf, job-decode}
+use Rattle.packed.specs.Appended.{numberOf-append}
 use Rattle.fields.specs.Asked.{WordIn, WordIs}
 
 -- ---- reading bytes
@@ -91,7 +92,7 @@ module _ (bytes : List ℕ) (all : AreBytes bytes) (at word : ℕ) where
   head-read (suc (suc kind)) few room w = absurd (omega arith)
 
   -- So they are a job's seven numbers.
-  pub job-read : (kind : ℕ) → kind ≤ 1 → at + (8 + kind) ≤ length bytes → WordIs bytes (at + kind) 8 word
+  job-read : (kind : ℕ) → kind ≤ 1 → at + (8 + kind) ≤ length bytes → WordIs bytes (at + kind) 8 word
       → (let m = word % 2 ^ 58 in
       toZ w32 (first / 4) ∷ toZ w32 ((first * 2 ^ 6 + word / 2 ^ 58) % 2 ^ packBits kind) ∷ toZ w32 (m / 2 ^ 57)
       ∷ toZ w32 (m % 2 ^ 57 / 2 ^ 50) ∷ bitsTo 18 (m % 2 ^ 57 % 2 ^ 50 / 2 ^ 32) ∷ toZ w32 (m % 2 ^ 57 % 2 ^ 50 % 2 ^ 32 / 2 ^ 18)
@@ -110,6 +111,52 @@ module _ (bytes : List ℕ) (all : AreBytes bytes) (at word : ℕ) where
       let long : toZ w32 (m % 2 ^ 57 % 2 ^ 50 % 2 ^ 32 / 2 ^ 18) ≡ pos (m % 2 ^ 57 % 2 ^ 50 % 2 ^ 32 / 2 ^ 18)
       = toZ-pos w32 (omega arith) in
       rw (number, pack, critical, weight, long, job-decode kind n, h .number, h .pack, h .behind)
+
+-- Eight bytes are four and four.
+eight-bytes : (bytes : List ℕ) (at front back : ℕ) → WordIs bytes at 4 front → WordIs bytes (at + 4) 4 back → at + 8 ≤ length bytes
+    → WordIs bytes at 8 (front * 2 ^ 32 + back)
+eight-bytes bytes at front back f b room =
+    let four : length (take 4 (drop (at + 4) bytes)) ≡ 4 =
+    length-take-le 4 (drop (at + 4) bytes) (omega (arith, length-drop (at + 4) bytes)) in
+    let parts : take 8 (drop at bytes) ≡ take 4 (drop at bytes) ++ take 4 (drop (at + 4) bytes) =
+    take-add 4 4 (drop at bytes) ∙ ap (λ l. take 4 (drop at bytes) ++ take 4 l) (drop-drop 4 at bytes) in
+    let whole : numberOf (take 8 (drop at bytes)) ≡ front * 2 ^ 32 + back =
+    ap numberOf parts ∙ numberOf-append (take 4 (drop at bytes)) (take 4 (drop (at + 4) bytes)) ∙ rw (four, ← (f .is), ← (b .is)) in
+    record { is = sym whole; small = omega (arith, f .small, b .small) }
+
+-- What stands above the lower four is what it is without them, at each width that a job's fields have.
+module _ (high low : ℕ) (small : low < 2 ^ 32) where
+  abbrev both : ℕ
+  both = high * 2 ^ 32 + low
+
+  above-58 : (both / 2 ^ 58 ≡ high / 2 ^ 26) × (both % 2 ^ 58 ≡ high % 2 ^ 26 * 2 ^ 32 + low)
+  above-58 = (omega arith, omega arith)
+
+  above-57 : (both / 2 ^ 57 ≡ high / 2 ^ 25) × (both % 2 ^ 57 ≡ high % 2 ^ 25 * 2 ^ 32 + low)
+  above-57 = (omega arith, omega arith)
+
+  above-50 : (both / 2 ^ 50 ≡ high / 2 ^ 18) × (both % 2 ^ 50 ≡ high % 2 ^ 18 * 2 ^ 32 + low)
+  above-50 = (omega arith, omega arith)
+
+  above-32 : (both / 2 ^ 32 ≡ high) × (both % 2 ^ 32 ≡ low)
+  above-32 = (omega arith, omega arith)
+
+-- The job from the four bytes on either side of its record's edge.
+pub job-words : (bytes : List ℕ) → AreBytes bytes → (at front back kind : ℕ) → kind ≤ 1 → at + (8 + kind) ≤ length bytes
+    → WordIs bytes (at + kind) 4 front → WordIs bytes (at + kind + 4) 4 back
+    → (let p = front % 2 ^ 26 in
+    toZ w32 (getD bytes at 0 / 4) ∷ toZ w32 ((getD bytes at 0 * 2 ^ 6 + front / 2 ^ 26) % 2 ^ packBits kind) ∷ toZ w32 (p / 2 ^ 25)
+    ∷ toZ w32 (p % 2 ^ 25 / 2 ^ 18) ∷ bitsTo 18 (p % 2 ^ 25 % 2 ^ 18) ∷ toZ w32 (back / 2 ^ 18) ∷ bitsTo 18 (back % 2 ^ 18) ∷ [])
+    ≡ decode (jobLayout kind) (numberOf (take (8 + kind) (drop at bytes)))
+job-words bytes all at front back kind few room f b =
+    let low : back < 2 ^ 32 = b .small in
+    let p : ℕ = front % 2 ^ 26 in
+    let one = above-58 front back low in
+    let two = above-57 p back low in
+    let three = above-50 (p % 2 ^ 25) back low in
+    let four = above-32 (p % 2 ^ 25 % 2 ^ 18) back low in
+    let read = job-read bytes all at (front * 2 ^ 32 + back) kind few room (eight-bytes bytes (at + kind) front back f b (omega arith)) in
+    rw (one .0, one .1, two .0, two .1, three .0, three .1, four .0, four .1) at read
 
 -- ---- writing bytes
 

@@ -35,26 +35,16 @@ pub struct Header {
     pub kind: usize,
 }
 
-// What one more of each field counts for in a record's last eight bytes, which have all but the number
-// and the pack in every kind; a deadline counts 1. Before the critical mark they have the last bits of
-// the pack, or in kind 0 the number.
-const HEAD: u64 = 0x0400_0000_0000_0000;
+// What one more of each field counts for in a record's front, which ends with the ready time, where that
+// counts 1: its last four bytes have all but the number and the pack in every kind.
+const HEAD: u64 = 0x400_0000;
 
-const CRITICAL: u64 = 0x0200_0000_0000_0000;
+const CRITICAL: u64 = 0x200_0000;
 
-const WEIGHT: u64 = 0x0004_0000_0000_0000;
+const WEIGHT: u64 = 0x4_0000;
 
-const READY: u64 = 0x1_0000_0000;
-
+// The same in its back, four bytes; a deadline counts 1.
 const LENGTH: u64 = 0x4_0000;
-
-// The same in a record's front, which ends with the ready time, where that counts 1. The back is length
-// and deadline.
-const FRONT_HEAD: u64 = 0x400_0000;
-
-const FRONT_CRITICAL: u64 = 0x200_0000;
-
-const FRONT_WEIGHT: u64 = 0x4_0000;
 
 // The same for the header's record of 32 bits; a kind counts 1.
 const COUNT: u64 = 0x400_0000;
@@ -106,29 +96,29 @@ fn pack_of(kind: usize, first: u64, behind: u64) -> u64
 }
 
 // The job at a place of an order of a kind. A record of kind 0 has eight bytes and one of kind 1 nine; the
-// first six bits are the number, and the last eight bytes are read alike in both: two readings side by side
-// are too long to be inlined, and cost planning a tenth.
+// first six bits are the number, and the four bytes on either side of its edge, behind the ready time, are
+// read alike in both: two readings side by side are too long to be inlined, and cost planning a tenth.
 pub fn job_by_kind(bytes: &[u8], kind: usize, place: usize) -> Job
     requires { ⌜ RecordBy (now bytes) kind place ⌝ }
     ensures { λ r. ⌜ fieldsOf r ≡ jobFields (now (bytes .entry)) place ⌝ }
 {
     let size = 8 + kind;
     let first = bytes[4 + size * place] as u64;
-    let word = word_at(bytes, size * place + size - 4, 8);
-    let pack = pack_of(kind, first, word / HEAD);
-    let past_head = word % HEAD;
+    let edge = size * place + size;
+    let front = word_at(bytes, edge - 4, 4);
+    let back = word_at(bytes, edge, 4);
+    let pack = pack_of(kind, first, front / HEAD);
+    let past_head = front % HEAD;
     let past_critical = past_head % CRITICAL;
-    let past_weight = past_critical % WEIGHT;
-    let past_ready = past_weight % READY;
-    let ready = time_of(past_weight / READY);
-    let deadline = time_of(past_ready % LENGTH);
+    let ready = time_of(past_critical % WEIGHT);
+    let deadline = time_of(back % LENGTH);
     Job {
         number: (first / 4) as i32,
         pack: pack as i32,
         critical: (past_head / CRITICAL) as i32,
         weight: (past_critical / WEIGHT) as i32,
         ready: ready,
-        length: (past_ready / LENGTH) as i32,
+        length: (back / LENGTH) as i32,
         deadline: deadline,
     }
 }
@@ -212,7 +202,7 @@ fn front_word(job: Job, kind: usize) -> u64
     let weight = plain_bits(job.weight);
     let ready = time_bits(job.ready);
     let head = head_word(number, pack, kind);
-    head * FRONT_HEAD + (critical * FRONT_CRITICAL + (weight * FRONT_WEIGHT + ready))
+    head * HEAD + (critical * CRITICAL + (weight * WEIGHT + ready))
 }
 
 // The back of a job's record as one number.
