@@ -8,7 +8,7 @@ use native.Mathlib.Omega.{arith}
 use lib.Dec.{ltb}
 use lib.ListN.{length, take, drop, getD, length-append, length-drop}
 use lib.Seq.{take-append-le, drop-append-le, drop-append-add, take-all, take-add}
-use lib.Seq.{take-at, drop-at, drop-drop, length-take-le, ext-getD}
+use lib.Seq.{take-at, drop-at, drop-drop, length-take-le, ext-getD, getD-take, getD-drop}
 use borrow.Author.Tests.{ltb-true, ltb-false}
 use borrow.Table.Steps.{cases}
 use Rattle.packed.specs.Places.{part, flat, eachOf, each, firstOf, first}
@@ -162,6 +162,13 @@ module _ {ℓ} {A : Type ℓ} where
   pub each-cong : (f g : ℕ → A) (at n : ℕ) → ((k : ℕ) → at ≤ k → k < n → f k ≡ g k) → each f at n ≡ each g at n
   unfolding each
   each-cong f g at n h = eachOf-cong f g at (n - at) (λ k a b. h k a (omega arith))
+
+  -- The n that stand at a place of a list, read one by one.
+  pub run-read : (d : A) (n : ℕ) (l : List A) (at : ℕ) → at + n ≤ length l → each (λ k. getD l (at + k) d) 0 n ≡ take n (drop at l)
+  run-read d n l at h =
+      let run : List A = take n (drop at l) in
+      each-cong (λ k. getD l (at + k) d) (λ k. getD run k d) 0 n (λ k a b. sym (getD-take n (drop at l) k d b ∙ getD-drop at l k d))
+      ∙ ext-each d run n (length-take-le n (drop at l) (omega (arith, length-drop at l)))
 
   eachOf-shift : (f : ℕ → A) (by at m : ℕ) → eachOf f (by + at) m ≡ eachOf (λ k. f (by + k)) at m
   eachOf-shift f by at zero = refl

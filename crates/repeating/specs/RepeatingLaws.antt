@@ -8,8 +8,7 @@ use native.Mathlib.Nat.{mul-le-mul, div-le-self}
 use native.Mathlib.Omega.{arith}
 use lib.Dec.{T, ltb, eqb}
 use lib.IntN.{ℤ, pos, negsuc, natAbs, _+ℤ_, _-ℤ_}
-use lib.ListN.{length, getD, take, drop, length-drop}
-use lib.Seq.{length-take-le, getD-take, getD-drop}
+use lib.ListN.{length, getD, take, drop}
 use lib.Signed.{leZ, _≤ℤ_, nonNeg, mag}
 use mir.Syntax.{w32}
 use mir.Val.{Fits, SFits, toZ, ofZ, hbits}
@@ -21,7 +20,7 @@ use Rattle.seconds.specs.RangesLaws.{between-true, same-is}
 use Rattle.multiples.specs.Multiples.{lcm, lcmFrom, AllPositive}
 use Rattle.multiples.specs.MultiplesLaws.{lcm-above, from-positive, from-more}
 use Rattle.packed.specs.Places.{part, each, first}
-use Rattle.packed.specs.PlacesLaws.{ext-each, each-end, each-more, each-cong, first-on, first-here}
+use Rattle.packed.specs.PlacesLaws.{run-read, each-end, each-more, first-on, first-here}
 use Rattle.packed.specs.Judge.{plainly, atPlace, fine, refused, judge}
 use Rattle.packed.specs.Refusals.{weightTest}
 use Rattle.packed.specs.RefusalLaws.{all-at, weight-range}
@@ -83,14 +82,7 @@ pub six-read : (l : List ℤ) (at : ℕ) → at + 6 ≤ length l
     → getD l at (pos 0) ∷ getD l (at + 1) (pos 0) ∷ getD l (at + 2) (pos 0) ∷ getD l (at + 3) (pos 0) ∷ getD l (at + 4) (pos 0)
     ∷ getD l (at + 5) (pos 0) ∷ [] ≡ take 6 (drop at l)
 unfolding each
-six-read l at h =
-    let numbers : List ℤ = take 6 (drop at l) in
-    let here : at + 0 ≡ at = omega arith in
-    let all : length numbers ≡ 6 = length-take-le 6 (drop at l) (omega (arith, length-drop at l)) in
-    rw here at
-    (each-cong (λ k. getD l (at + k) (pos 0)) (λ k. getD numbers k (pos 0)) 0 6
-    (λ k a b. sym (getD-take 6 (drop at l) k (pos 0) b ∙ getD-drop at l k (pos 0)))
-    ∙ ext-each (pos 0) numbers 6 all)
+six-read l at h = let here : at + 0 ≡ at = omega arith in rw here at (run-read (pos 0) 6 l at h)
 
 -- A number of it that is not negative, as the code casts it.
 pub count-casts : (z : ℤ) → SFits w32 z → pos 0 ≤ℤ z
