@@ -4,6 +4,7 @@
 //! a way to write down the answer that a call must give.
 
 mod answer;
+mod found;
 mod halves;
 mod long_lists;
 mod orders;
@@ -12,8 +13,12 @@ mod packs;
 mod random;
 mod repeating;
 
+pub use found::FOUND;
 pub use halves::halves_of;
-pub use long_lists::{dense_order, wide_order};
+pub use long_lists::{
+    dense_order, found_order, half_wide_order, varied, wide_critical_order, wide_equal_order, wide_order,
+    wide_short_order, Found,
+};
 pub use orders::{full_order, order_of, profile_of, Style};
 pub use packing::{packed, packed_as, packed_plan};
 pub use packs::put_packs;
