@@ -11,6 +11,7 @@ use lib.Dec.{T}
 use lib.IntN.{ℤ, natAbs}
 use lib.ListN.{length, getD, set, take, drop, take-append-drop, length-set}
 use lib.Seq.{take-suc, take-all, getD-set-same, getD-set-other}
+use Rattle.seconds.specs.Limits.{mostWeight, mostJobs}
 use Rattle.order.specs.Job.{Job, Point, weightOf, jobsWithin}
 use Rattle.order.specs.Choice.{outcomes}
 use Rattle.order.specs.Outcomes.{outcomes-none}
@@ -30,12 +31,19 @@ use Rattle.packed.specs.PackedLaws.{order-jobs}
 use Rattle.packed.specs.Accepted.{OrderFine, jobs-fit}
 use Rattle.fields.specs.Places.{jobs-count, weight-up-to}
 use Rattle.area.specs.Area.{area}
-use Rattle.codes.specs.Code.{listAt}
+use Rattle.codes.specs.Code.{listAt, pointsAt, endOf}
 use Rattle.codes.specs.Held.{Held}
-use Rattle.codes.specs.HeldLaws.{held-stays, held-read, list-length}
-use Rattle.reading.specs.Reading.{Stands}
-use Rattle.filling.specs.declared.Totals.{Totals}
-use Rattle.filling.specs.Lists.{Lists, pointsTo, CanFillOne, FilledOne, CanFill, CanFillLists, Filled, FilledLast, Filling}
+use Rattle.codes.specs.HeldLaws.{held-read, list-length}
+use Rattle.reading.specs.Reading.{Stands, Says}
+use Rattle.reading.specs.ReadingLaws.{held-says, says-stays}
+use Rattle.codes.specs.declared.Prefix.{Prefix}
+use Rattle.cells.specs.Cells.{reach, Cells}
+use Rattle.cells.specs.CellLaws.{reach-few}
+use Rattle.sweeping.specs.declared.Stretch.{Stretch}
+use Rattle.stepping.specs.Stepping.{Buffer}
+use Rattle.sweeping.specs.Sweep.{Holds, as-list, as-cells}
+use Rattle.sweeping.specs.SweepLaws.{by-list, spread-carried, holds-few, holds-say, holds-counted}
+use Rattle.filling.specs.Lists.{Lists, pointsTo, listOf, CanFillOne, FilledOne, CanFill, FilledAll, FilledLast, Filling}
 
 -- ---- the jobs of an order
 
@@ -139,7 +147,7 @@ room-fits k reach used r few light =
     let a : (k + 1) * (reach + 1) ≤ 49 * 301 = mul-le-mul x y in
     omega arith
 
-room-more : (k reach used : ℕ) → used ≤ (k + 1) * (reach + 1) → k < 48 → reach < 300 → used + 303 < area
+room-more : (k reach used : ℕ) → used ≤ (k + 1) * (reach + 1) → k < 48 → reach < 300 → used + 319 < area
 room-more k reach used r few light =
     let x : k + 1 ≤ 48 = omega arith in
     let y : reach + 1 ≤ 300 = omega arith in
@@ -152,261 +160,291 @@ room-more k reach used r few light =
 start-is : {P : List Point} → Rising P → extend P [] ≡ P
 start-is {P} r = ap profileOf (outcomes-none P) ∙ profileOf-rising r
 
-module _ {bytes : List ℕ} {n : ℕ} {work₀ : List ℤ} {places₀ counts₀ : List ℕ} {pushed₀ : List ℤ}
-    (can : CanFillLists bytes n work₀ places₀ counts₀ pushed₀)
-  where
-    -- The first list, with its count as it is noted.
-    abbrev count : ℕ
-    count = getD counts₀ 0 0
+module _ {bytes : List ℕ} {n count : ℕ} {work₀ : List ℤ} (all : CanFill bytes n count work₀) where
+  abbrev P : List Point
+  P = listAt work₀ 0 count
 
-    abbrev all : CanFill bytes n count work₀
-    all = can .filling
+  abbrev js : List Job
+  js = jobsIn bytes
 
-    abbrev P : List Point
-    P = listAt work₀ 0 count
+  P-rises : Rising P
+  P-rises = all .valid .rises
 
-    abbrev js : List Job
-    js = jobsIn bytes
+  few-jobs : n ≤ 48
+  few-jobs = omega (arith, all .jobs, all .order .header .few)
 
-    P-rises : Rising P
-    P-rises = all .valid .rises
+  -- The first list is the list of no job, and stands.
+  start-held : Held work₀ 0 (extend P [])
+  start-held = rw (start-is P-rises) (all .held)
 
-    few-jobs : n ≤ 48
-    few-jobs = omega (arith, all .jobs, all .order .header .few)
+  start-room : count ≤ 301
+  start-room = omega (arith, all .valid .short, list-length work₀ 0 count)
 
-    -- Nothing is filled yet but the profile to start with.
-    pub filling-start : Filling bytes count work₀ 0 0 count 0 0 places₀ counts₀ work₀ pushed₀
-    filling-start = record {
-      size = refl;
-      lists = record {
-        held = λ k h. let z : k ≡ 0 = omega arith in rw (z, can .first, start-is P-rises) (all .held);
-        counted = λ k h. let z : k ≡ 0 = omega arith in rw (z, start-is P-rises) (sym (list-length work₀ 0 count));
-        ends = λ k h. let z : k ≡ 0 = omega arith in rw (z, can .first) (omega arith);
-      };
-      held = rw (start-is P-rises) (all .held);
-      counted = rw (start-is P-rises) (sym (list-length work₀ 0 count));
-      room = omega (arith, rising-short (lastWeight P) P-rises (last-heaviest P-rises), list-length work₀ 0 count);
-      total = refl;
-      weighs = refl;
-      roomPlaces = can .roomPlaces;
-      roomCounts = can .roomCounts;
-      buffer = can .buffer;
-    }
+  start-counted : count ≡ length (extend P [])
+  start-counted = rw (start-is P-rises) (sym (list-length work₀ 0 count))
 
-    module _ {k place many points weight : ℕ} {places counts : List ℕ} {work pushed : List ℤ}
-        (f : Filling bytes count work₀ k place many points weight places counts work pushed)
-      where
-        abbrev here : List Point
-        here = extend P (take k js)
+  -- Nothing is filled yet but the profile to start with.
+  pub filling-start : {places counts : List ℕ} → getD places 0 0 ≡ 0 → getD counts 0 0 ≡ count → mostJobs < length places
+      → mostJobs < length counts
+      → Filling bytes count work₀ 0 (record { place = 0; count = count; points = count }) false 0 0 places counts work₀ []
+  filling-start first counted roomPlaces roomCounts = record {
+    size = refl;
+    lists = record {
+      stands = λ k h. let z : k ≡ 0 = omega arith in rw (z, first, counted) (held-says start-held start-counted);
+      ends = λ k h. let z : k ≡ 0 = omega arith in rw (z, first, counted) (omega arith);
+    };
+    notedPlace = first;
+    notedCount = counted;
+    holds = as-list (record {
+      rises = profileOf-rises (outcomes [] P);
+      held = start-held;
+      count = start-counted;
+      told = start-counted;
+      room = omega (arith, start-room, all .room);
+    });
+    room = omega (arith, rising-short (lastWeight P) P-rises (last-heaviest P-rises), list-length work₀ 0 count);
+    total = refl;
+    weighs = refl;
+    roomPlaces = roomPlaces;
+    roomCounts = roomCounts;
+  }
 
-        -- The last list is the profile of the first k jobs.
-        list-is : listAt work place many ≡ here
-        list-is = rw (f .counted) (held-read (f .held))
+  module _ {k : ℕ} {list : Stretch} {celled : Bool} {points weight : ℕ} {places counts : List ℕ} {work row : List ℤ}
+      (f : Filling bytes count work₀ k list celled points weight places counts work row)
+    where
+      abbrev place : ℕ
+      place = list .place
 
-        few : many ≤ suc (lastWeight P + weight)
-        few = omega (arith, f .counted, extend-short (take k js) P-rises (jobs-take k js (jobs-fit bytes (all .order))), f .weighs)
+      abbrev many : ℕ
+      many = list .count
 
-        reach-light : lastWeight P + weight ≤ 300
-        reach-light = omega (arith, f .weighs, weight-up-to js k, all .light)
+      abbrev here : List Point
+      here = extend P (take k js)
 
-        -- The next job can be stepped by,
-        module _ (below : k < n) where
-          there : k < countOf bytes
-          there = omega (arith, all .jobs)
+      -- It reaches no further than the weights so far, and is said in no more numbers than it has cells.
+      here-reach : reach here ≤ suc (lastWeight P + weight)
+      here-reach = reach-few here (suc (lastWeight P + weight)) (λ p m.
+          omega (arith, extend-light (take k js) P-rises (jobs-take k js (jobs-fit bytes (all .order))) p m, f .weighs))
 
-          abbrev job : Job
-          job = jobIn bytes k
+      few : many ≤ suc (lastWeight P + weight)
+      few = omega (arith, holds-few (f .holds), here-reach)
 
-          next-light : lastWeight P + (weight + job .weight) ≤ 300
-          next-light = omega (arith, f .weighs, weight-next bytes (all .order) k there, weight-up-to js (k + 1), all .light)
+      reach-light : lastWeight P + weight ≤ 300
+      reach-light = omega (arith, f .weighs, weight-up-to js k, all .light)
 
-          limits : JobWithin job
-          limits = job-limits bytes (all .order) k there
+      -- The next job can be stepped by,
+      module _ (below : k < n) where
+        there : k < countOf bytes
+        there = omega (arith, all .jobs)
 
-          pub next-can : CanFillOne bytes k place many work pushed
-          next-can = record {
-            order = all .order;
-            there = there;
-            held = rw list-is (f .held);
-            rises = rw list-is (profileOf-rises (outcomes (take k js) P));
-            light = rw list-is (λ p m.
-                omega (arith, extend-light (take k js) P-rises (jobs-take k js (jobs-fit bytes (all .order))) p m, f .weighs, next-light));
-            room = omega (
-              arith,
-              f .size,
-              all .room,
-              room-fits (k + 1) (lastWeight P + weight) (place + many + many)
-                  (room-critical k (lastWeight P + weight) (place + many) many (f .room) (omega (arith, few)))
-                  (omega (arith, few-jobs)) reach-light,
-            );
-            roomMore = λ free. omega (
-              arith,
-              f .size,
-              all .room,
-              room-more k (lastWeight P + weight) (place + many) (f .room) (omega (arith, few-jobs))
-                  (omega (arith, next-light, limits .weighty free)),
-            );
-            buffer = f .buffer;
-          }
+        abbrev job : Job
+        job = jobIn bytes k
 
-          -- and with its list there is one more.
-          module _ {place′ count′ w : ℕ} {work′ pushed′ : List ℤ}
-              (one : FilledOne bytes k place many work place′ count′ w work′ pushed′)
+        next-light : lastWeight P + (weight + job .weight) ≤ 300
+        next-light = omega (arith, f .weighs, weight-next bytes (all .order) k there, weight-up-to js (k + 1), all .light)
+
+        limits : JobWithin job
+        limits = job-limits bytes (all .order) k there
+
+        here-light : (p : Point) → In p here → p .weight + job .weight ≤ mostWeight
+        here-light p m =
+            omega (arith, extend-light (take k js) P-rises (jobs-take k js (jobs-fit bytes (all .order))) p m, f .weighs, next-light)
+
+        pub next-can : {pushed : List ℤ} → Buffer pushed → CanFillOne bytes k list celled work pushed row
+        next-can b = record {
+          read = record { order = all .order; there = there };
+          ps = here;
+          holds = f .holds;
+          light = here-light;
+          limits = limits;
+          room = omega (
+            arith,
+            f .size,
+            all .room,
+            room-fits (k + 1) (lastWeight P + weight) (place + many + reach here)
+                (room-critical k (lastWeight P + weight) (place + many) (reach here) (f .room) (omega (arith, here-reach)))
+                (omega (arith, few-jobs)) reach-light,
+          );
+          roomMore = λ free. omega (
+            arith,
+            f .size,
+            all .room,
+            room-more k (lastWeight P + weight) (place + many) (f .room) (omega (arith, few-jobs))
+                (omega (arith, next-light, limits .weighty free)),
+          );
+          buffer = b;
+        }
+
+        -- and with its list there is one more.
+        module _ {r : Stretch} {w : ℕ} {work′ pushed′ row′ : List ℤ} (one : FilledOne bytes k list celled work row r w work′ pushed′ row′) where
+          abbrev place′ : ℕ
+          place′ = r .place
+
+          abbrev count′ : ℕ
+          count′ = r .count
+
+          next-holds : Holds (extend P (take (k + 1) js)) (listOf r) (r .points) work′ row′ celled
+          next-holds =
+              subst (λ (qs : List Point). Holds qs (listOf r) (r .points) work′ row′ celled)
+              (list-next bytes (all .order) k there P-rises) (one .next here (f .holds) here-light)
+
+          next-weighs : weight + w ≡ weightOf (take (k + 1) js)
+          next-weighs = omega (arith, f .weighs, one .weighs, weight-next bytes (all .order) k there)
+
+          next-few : count′ ≤ lastWeight P + weight + w + 1
+          next-few =
+              omega (
+                arith,
+                holds-few next-holds,
+                reach-few (extend P (take (k + 1) js)) (lastWeight P + weight + w + 1) (λ p m.
+                    omega (arith, extend-light (take (k + 1) js) P-rises (jobs-take (k + 1) js (jobs-fit bytes (all .order))) p m, next-weighs)),
+              )
+
+          next-room : place′ + count′ ≤ (k + 1 + 1) * (lastWeight P + (weight + w) + 1)
+          next-room =
+              let same : lastWeight P + weight + w + 1 ≡ lastWeight P + (weight + w) + 1 = omega arith in
+              rw (← same) (by (job .critical) refl)
             where
-              next-is : listStep job (listAt work place many) ≡ extend P (take (k + 1) js)
-              next-is = ap (listStep job) list-is ∙ list-next bytes (all .order) k there P-rises
-
-              next-held : Held work′ place′ (extend P (take (k + 1) js))
-              next-held = rw next-is at (one .held)
-
-              next-counted : count′ ≡ length (extend P (take (k + 1) js))
-              next-counted = one .counted ∙ ap length next-is
-
-              next-weighs : weight + w ≡ weightOf (take (k + 1) js)
-              next-weighs = omega (arith, f .weighs, one .weighs, weight-next bytes (all .order) k there)
-
-              next-few : count′ ≤ lastWeight P + weight + w + 1
-              next-few =
+              by : (c : Bool) → job .critical ≡ c → place′ + count′ ≤ (k + 1 + 1) * (lastWeight P + weight + w + 1)
+              by true e =
+                  let none : w ≡ 0 = one .weighs ∙ limits .weightless e in
+                  let more : _≡_ {A = ℕ} (cond (job .critical) 0 1) 0 = rw e in
+                  let z : lastWeight P + weight + w + 1 ≡ lastWeight P + weight + 1 = omega arith in
+                  rw z (omega (
+                    arith,
+                    one .few,
+                    room-critical k (lastWeight P + weight) (place + many) count′ (f .room) (omega (arith, next-few)),
+                  ))
+              by false e =
+                  let more : _≡_ {A = ℕ} (cond (job .critical) 0 1) 1 = rw e in
                   omega (
                     arith,
-                    next-counted,
-                    extend-short (take (k + 1) js) P-rises (jobs-take (k + 1) js (jobs-fit bytes (all .order))),
-                    next-weighs,
+                    one .few,
+                    room-merged k (lastWeight P + weight) w (place + many) count′ (f .room)
+                        (omega (arith, one .weighs, limits .weighty e)) next-few,
                   )
 
-              next-room : place′ + count′ ≤ (k + 1 + 1) * (lastWeight P + (weight + w) + 1)
-              next-room =
-                  let same : lastWeight P + weight + w + 1 ≡ lastWeight P + (weight + w) + 1 = omega arith in
-                  rw (← same) (by (job .critical) refl)
-                where
-                  by : (c : Bool) → job .critical ≡ c → place′ + count′ ≤ (k + 1 + 1) * (lastWeight P + weight + w + 1)
-                  by true e =
-                      let none : w ≡ 0 = one .weighs ∙ limits .weightless e in
-                      let more : _≡_ {A = ℕ} (cond (job .critical) 0 1) 0 = rw e in
-                      let z : lastWeight P + weight + w + 1 ≡ lastWeight P + weight + 1 = omega arith in
-                      rw z (omega (
-                        arith,
-                        one .few,
-                        room-critical k (lastWeight P + weight) (place + many) count′ (f .room) (omega (arith, next-few)),
-                      ))
-                  by false e =
-                      let more : _≡_ {A = ℕ} (cond (job .critical) 0 1) 1 = rw e in
-                      omega (
-                        arith,
-                        one .few,
-                        room-merged k (lastWeight P + weight) w (place + many) count′ (f .room)
-                            (omega (arith, one .weighs, limits .weighty e)) next-few,
-                      )
+          abbrev places′ : List ℕ
+          places′ = set places (k + 1) place′
 
-              abbrev places′ : List ℕ
-              places′ = set places (k + 1) place′
+          abbrev counts′ : List ℕ
+          counts′ = set counts (k + 1) count′
 
-              abbrev counts′ : List ℕ
-              counts′ = set counts (k + 1) count′
+          new-place : (i : ℕ) → i ≡ k + 1 → getD places′ i 0 ≡ place′
+          new-place i e =
+              ap (λ (x : ℕ). getD places′ x 0) e ∙ getD-set-same places (k + 1) place′ 0 (omega (arith, f .roomPlaces, few-jobs))
 
-              new-place : (i : ℕ) → i ≡ k + 1 → getD places′ i 0 ≡ place′
-              new-place i e =
-                  ap (λ (x : ℕ). getD places′ x 0) e ∙ getD-set-same places (k + 1) place′ 0 (omega (arith, f .roomPlaces, few-jobs))
+          new-count : (i : ℕ) → i ≡ k + 1 → getD counts′ i 0 ≡ count′
+          new-count i e =
+              ap (λ (x : ℕ). getD counts′ x 0) e ∙ getD-set-same counts (k + 1) count′ 0 (omega (arith, f .roomCounts, few-jobs))
 
-              new-count : (i : ℕ) → i ≡ k + 1 → getD counts′ i 0 ≡ count′
-              new-count i e =
-                  ap (λ (x : ℕ). getD counts′ x 0) e ∙ getD-set-same counts (k + 1) count′ 0 (omega (arith, f .roomCounts, few-jobs))
+          old-place : (i : ℕ) → i ≤ k → getD places′ i 0 ≡ getD places i 0
+          old-place i h = getD-set-other places (k + 1) i place′ 0 (omega arith)
 
-              old-place : (i : ℕ) → i ≤ k → getD places′ i 0 ≡ getD places i 0
-              old-place i h = getD-set-other places (k + 1) i place′ 0 (omega arith)
+          old-count : (i : ℕ) → i ≤ k → getD counts′ i 0 ≡ getD counts i 0
+          old-count i h = getD-set-other counts (k + 1) i count′ 0 (omega arith)
 
-              old-count : (i : ℕ) → i ≤ k → getD counts′ i 0 ≡ getD counts i 0
-              old-count i h = getD-set-other counts (k + 1) i count′ 0 (omega arith)
+          lists-more : Lists P js (k + 1) places′ counts′ (place′ + count′) work′
+          lists-more = record {
+            stands = λ i h. ⊎-elim
+                (λ e. rw (new-place i e, new-count i e, e) (holds-say next-holds))
+                (λ l. old-stands i (omega arith)) (eq-or-lt-of-le h);
+            ends = λ i h. ⊎-elim
+                (λ e. rw (new-place i e, new-count i e) (omega arith))
+                (λ l. old-ends i (omega arith)) (eq-or-lt-of-le h);
+          }
+            where
+              old-ends : (i : ℕ) → i ≤ k → getD places′ i 0 + getD counts′ i 0 ≤ place′ + count′
+              old-ends i m = rw (old-place i m, old-count i m) (omega (arith, f .lists .ends i m, one .further))
 
-              lists-more : Lists P js (k + 1) places′ counts′ (place′ + count′) work′
-              lists-more = record {
-                held = λ i h. ⊎-elim (λ e. rw (new-place i e, e) next-held) (λ l. old-held i (omega arith)) (eq-or-lt-of-le h);
-                counted = λ i h. ⊎-elim
-                    (λ e. rw (new-count i e, e) next-counted)
-                    (λ l. old-counted i (omega arith)) (eq-or-lt-of-le h);
-                ends = λ i h. ⊎-elim
-                    (λ e. rw (new-place i e, new-count i e) (omega arith))
-                    (λ l. old-ends i (omega arith)) (eq-or-lt-of-le h);
+              old-stands : (i : ℕ) → i ≤ k → Says work′ (getD places′ i 0) (getD counts′ i 0) (extend P (take i js))
+              old-stands i m =
+                  rw (old-place i m, old-count i m)
+                  (says-stays (place + many) (one .stays) (f .lists .ends i m) (f .lists .stands i m))
+
+          pub filling-more : Filling bytes count work₀ (k + 1) r celled (points + r .points) (weight + w) places′ counts′ work′ row′
+          filling-more =
+              let e : k + 1 ≡ suc k = omega arith in
+              record {
+                size = one .size ∙ f .size;
+                lists = lists-more;
+                notedPlace = new-place (k + 1) refl;
+                notedCount = new-count (k + 1) refl;
+                holds = next-holds;
+                room = next-room;
+                total = rw e (ap₂ _+_ (f .total) (holds-counted next-holds ∙ ap (λ (i : ℕ). length (extend P (take i js))) e));
+                weighs = next-weighs;
+                roomPlaces = omega (arith, length-set places (k + 1) place′, f .roomPlaces);
+                roomCounts = omega (arith, length-set counts (k + 1) count′, f .roomCounts);
               }
-                where
-                  old-counted : (i : ℕ) → i ≤ k → getD counts′ i 0 ≡ length (extend P (take i js))
-                  old-counted i m = old-count i m ∙ f .lists .counted i m
 
-                  old-ends : (i : ℕ) → i ≤ k → getD places′ i 0 + getD counts′ i 0 ≤ place′ + count′
-                  old-ends i m = rw (old-place i m, old-count i m) (omega (arith, f .lists .ends i m, one .further))
+      -- A list whose cells are spread is held by them.
+      pub filling-spread : celled ≡ false → {row′ : List ℤ} → Cells row′ (pointsAt work (listOf list))
+          → Filling bytes count work₀ k list true points weight places counts work row′
+      filling-spread e c = record {
+        size = f .size;
+        lists = f .lists;
+        notedPlace = f .notedPlace;
+        notedCount = f .notedCount;
+        holds = as-cells (spread-carried (by-list e (f .holds)) c);
+        room = f .room;
+        total = f .total;
+        weighs = f .weighs;
+        roomPlaces = f .roomPlaces;
+        roomCounts = f .roomCounts;
+      }
 
-                  old-held : (i : ℕ) → i ≤ k → Held work′ (getD places′ i 0) (extend P (take i js))
-                  old-held i m =
-                      rw (old-place i m)
-                      (held-stays (place + many) (one .stays) (omega (arith, f .lists .ends i m, f .lists .counted i m))
-                      (f .lists .held i m))
+      -- After all jobs the last list is held,
+      pub filling-last : k ≡ n → Holds (extend P js) (listOf list) (list .points) work row celled
+      filling-last e =
+          let every : take k js ≡ js = ap (λ (i : ℕ). take i js) (e ∙ all .jobs) ∙ jobs-all bytes in
+          subst (λ (is : List Job). Holds (extend P is) (listOf list) (list .points) work row celled) every (f .holds)
 
-              pub filling-more : Filling bytes count work₀ (k + 1) place′ count′ (points + count′) (weight + w) places′ counts′ work′ pushed′
-              filling-more =
-                  let e : k + 1 ≡ suc k = omega arith in
-                  record {
-                    size = one .size ∙ f .size;
-                    lists = lists-more;
-                    held = next-held;
-                    counted = next-counted;
-                    room = next-room;
-                    total = rw e (ap₂ _+_ (f .total) (next-counted ∙ ap (λ (i : ℕ). length (extend P (take i js))) e));
-                    weighs = next-weighs;
-                    roomPlaces = omega (arith, length-set places (k + 1) place′, f .roomPlaces);
-                    roomCounts = omega (arith, length-set counts (k + 1) count′, f .roomCounts);
-                    buffer = one .buffer;
-                  }
-
-        -- All are filled.
-        pub filling-all : k ≡ n → Filled bytes n count work₀ (record { points = points; weight = weight }) places counts work
-        filling-all e =
-            record {
+      -- and all are filled.
+      pub filling-all : k ≡ n → FilledAll bytes n count work₀ (record { points = points; weight = weight }) celled places counts work row
+      filling-all e =
+          let every : take k js ≡ js = ap (λ (i : ℕ). take i js) (e ∙ all .jobs) ∙ jobs-all bytes in
+          let place-is : getD places n 0 ≡ place = rw e at (f .notedPlace) in
+          let count-is : getD counts n 0 ≡ many = rw e at (f .notedCount) in
+          record {
+            filled = record {
               used = place + many;
               small = room-fits k (lastWeight P + weight) (place + many) (f .room) (omega (arith, few-jobs)) reach-light;
               lists = rw e at (f .lists);
               total = rw e at (f .total);
-              weighs = f .weighs ∙ ap (λ (i : ℕ). weightOf (take i js)) (e ∙ all .jobs) ∙ ap weightOf (jobs-all bytes);
-            }
+              weighs = f .weighs ∙ ap weightOf every;
+            };
+            many = list .points;
+            last = rw (place-is, count-is) (filling-last e);
+          }
 
-        -- The sums stay small.
-        pub sums-small : (points ≤ 301 * k) × (weight ≤ 300)
-        sums-small = (rw (f .total) (total-few k), omega (arith, reach-light))
-          where
-            total-few : (i : ℕ) → pointsTo P js i ≤ 301 * i
-            total-few zero = omega arith
-            total-few (suc i) =
-                omega (
-                  arith,
-                  total-few i,
-                  extend-short (take (suc i) js) P-rises (jobs-take (suc i) js (jobs-fit bytes (all .order))),
-                  weight-up-to js (suc i),
-                  all .light,
-                )
+      -- The sums stay small.
+      pub sums-small : (points ≤ 301 * k) × (weight ≤ 300)
+      sums-small = (rw (f .total) (total-few k), omega (arith, reach-light))
+        where
+          total-few : (i : ℕ) → pointsTo P js i ≤ 301 * i
+          total-few zero = omega arith
+          total-few (suc i) =
+              omega (
+                arith,
+                total-few i,
+                extend-short (take (suc i) js) P-rises (jobs-take (suc i) js (jobs-fit bytes (all .order))),
+                weight-up-to js (suc i),
+                all .light,
+              )
 
 -- ---- what stands is read
 
-module _ {P : List Point} {js : List Job} {n : ℕ} {places counts : List ℕ} {used : ℕ} {work : List ℤ}
-    (l : Lists P js n places counts used work)
-  where
-    -- The list of each prefix is read back,
-    pub lists-read : (k : ℕ) → k ≤ n → listAt work (getD places k 0) (getD counts k 0) ≡ extend P (take k js)
-    lists-read k h = rw (l .counted k h) (held-read (l .held k h))
+-- The points of each prefix stand.
+pub lists-stand : {P : List Point} {js : List Job} {n : ℕ} {places counts : List ℕ} {used : ℕ} {work : List ℤ}
+    → Lists P js n places counts used work → used ≤ length work → (k : ℕ) → k ≤ n
+    → Stands work (getD places k 0) (getD counts k 0)
+lists-stand l room k h = record { held = l .stands k h .held; room = omega (arith, l .ends k h) }
 
-    -- and stands.
-    pub lists-stand : used ≤ length work → (k : ℕ) → k ≤ n → Stands work (getD places k 0) (getD counts k 0)
-    lists-stand room k h = record {
-      held = rw (lists-read k h) (l .held k h);
-      rises = rw (lists-read k h) (profileOf-rises (outcomes (take k js) P));
-      room = omega (arith, l .ends k h);
-    }
-
--- The last list is the profile extended by all jobs.
-pub filled-last : {bytes : List ℕ} {n count : ℕ} {work : List ℤ} {totals : Totals} {places counts : List ℕ} {work′ : List ℤ}
-    → Filled bytes n count work totals places counts work′ → n ≡ countOf bytes → area ≤ length work′
-    → FilledLast bytes count work (record { place = getD places n 0; count = getD counts n 0 }) work′
-filled-last {bytes} {n} {count} {work} f e room = record {
-  list = lists-stand (f .lists) (omega (arith, f .small)) n (omega arith);
-  is = lists-read (f .lists) n (omega arith)
-      ∙ ap (λ (i : ℕ). extend (listAt work 0 count) (take i (jobsIn bytes))) e
-      ∙ ap (extend (listAt work 0 count)) (jobs-all bytes);
-}
+-- A last list that is held somewhere is the profile extended by all jobs.
+pub last-stands : (bytes : List ℕ) (count : ℕ) (work : List ℤ) {r : Prefix} {work′ : List ℤ} → endOf r ≤ length work′
+    → Held work′ (r .place) (extend (listAt work 0 count) (jobsIn bytes)) → r .count ≡ length (extend (listAt work 0 count) (jobsIn bytes))
+    → FilledLast bytes count work r work′
+last-stands bytes count work {r} {work′} room h c =
+    let is : listAt work′ (r .place) (r .count) ≡ extend (listAt work 0 count) (jobsIn bytes) = rw c (held-read h) in
+    record { list = record { held = rw is h; room = room }; is = is }

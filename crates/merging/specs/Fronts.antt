@@ -9,24 +9,10 @@ use lib.Signed.{ltZ, _<ℤ_}
 use Rattle.seconds.specs.Limits.{mostWeight}
 use Rattle.seconds.specs.Signed.{signed, up, dn}
 use Rattle.order.specs.Job.{Point}
-use Rattle.profile.specs.Rising.{BelowAll, below-none, below-more, below-member, Rising, rising-none, rising-more}
+use Rattle.profile.specs.Rising.{BelowAll, below-member, Rising, rising-none, rising-more}
 use Rattle.profile.specs.Closure.{PointWithin}
 use Rattle.better.specs.InTurn.{firstGoes, turn-first}
 use Rattle.better.specs.Heavier.{heavier, merge}
-
--- ---- the parts of a rising list rise
-
-below-front : {p : Point} (fs bs : List Point) → BelowAll p (fs ++ bs) → BelowAll p fs
-below-front [] bs b = below-none
-below-front (x ∷ fs) bs (below-more k b) = below-more k (below-front fs bs b)
-
-pub rising-front : (fs bs : List Point) → Rising (fs ++ bs) → Rising fs
-rising-front [] bs r = rising-none
-rising-front (p ∷ fs) bs (rising-more b r) = rising-more (below-front fs bs b) (rising-front fs bs r)
-
-pub rising-back : (fs bs : List Point) → Rising (fs ++ bs) → Rising bs
-rising-back [] bs r = r
-rising-back (p ∷ fs) bs (rising-more b r) = rising-back fs bs r
 
 -- ---- the last weight
 

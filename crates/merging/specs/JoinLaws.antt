@@ -16,7 +16,7 @@ use Rattle.seconds.specs.Limits.{mostWeight}
 use Rattle.seconds.specs.Signed.{signed, up, dn}
 use Rattle.order.specs.Job.{Point}
 use Rattle.profile.specs.Profile.{betterOf}
-use Rattle.profile.specs.Rising.{Rising}
+use Rattle.profile.specs.Rising.{Rising, rising-front, rising-back}
 use Rattle.profile.specs.Closure.{PointWithin, rising-short}
 use Rattle.profile.specs.Points.{profileOf-member}
 use Rattle.profiles.specs.OnePass.{belowAll}
@@ -25,12 +25,11 @@ use Rattle.better.specs.Heavier.{merge, merge-better}
 use Rattle.codes.specs.declared.Prefix.{Prefix}
 use Rattle.codes.specs.Code.{perSecond, mostLight, code, lightness, pointOf, pastAll, at0, listAt, pointsAt, endOf}
 use Rattle.codes.specs.CodeLaws.{light-is, code-least, code-most, code-order}
-use Rattle.codes.specs.Held.{Held, held-none, held-more, After}
+use Rattle.codes.specs.Held.{Held, held-none, held-more}
 use Rattle.codes.specs.HeldLaws.{held-stays, list-length, held-within, held-append, held-copied, held-point}
-use Rattle.codes.specs.Cuts.{Cut, cut}
 use Rattle.merging.specs.Turns.{leastLight, Ended, CanMerge, merged, Merged}
 use Rattle.merging.specs.TurnPoints.{merged-are, held-codes}
-use Rattle.merging.specs.Fronts.{rising-front, rising-back, lastAfter, last-light, last-few, front-kept}
+use Rattle.merging.specs.Fronts.{lastAfter, last-light, last-few, front-kept}
 use Rattle.merging.specs.Joins.{Copied, CanWeigh, lightBefore, CanJoin, Joined}
 
 -- ---- numbers that are points'
@@ -73,13 +72,21 @@ goes-first {l} {i} (suc n) h (held-more t d k) {p} s e ps =
     let test : leZ (code p) (code (pointOf (at0 l i))) ≡ true = omega signed in
     sym (code-order s t) ∙ test
 
+-- The parts of a list stand where it stands.
+held-parts : {l : List ℤ} {i j : ℕ} (fs : List Point) {bs : List Point} → Held l i (fs ++ bs) → i + length fs ≡ j
+    → Held l i fs × Held l j bs
+held-parts {i = i} {j} [] h d = let e : i ≡ j = omega arith in (held-none, rw e at h)
+held-parts {j = j} (p ∷ fs) (held-more s e h) d =
+    let both = held-parts {j = j} fs h (omega arith) in
+    (held-more s e (both .0), both .1)
+
 -- ---- the steps of joining
 
 -- The work area with a number past all behind the list.
 abbrev marked : List ℤ → ℕ → List ℤ
 marked work used = set work used pastAll
 
-module _ {work : List ℤ} {list : Prefix} {pushed : List ℤ} {other : Prefix} (g : CanJoin work list pushed other) where
+module _ {work : List ℤ} {list : Prefix} {z : ℕ} {pushed : List ℤ} {other : Prefix} (g : CanJoin work list z pushed other) where
   -- A list has at most 301 points.
   pub join-few : list .count ≤ 301
   join-few =
@@ -90,141 +97,143 @@ module _ {work : List ℤ} {list : Prefix} {pushed : List ℤ} {other : Prefix} 
   stays : (k : ℕ) → k < endOf list → at0 (marked work (endOf list)) k ≡ at0 work k
   stays k h = getD-set-other work (endOf list) k pastAll (pos 0) (omega arith)
 
-  -- The search from the back cuts the list before the first pushed point.
-  module _ {z : ℕ} (found : After (marked work (endOf list)) (list .place) (endOf list) (at0 pushed (other .place)) z) where
-    cutting : Cut (at0 pushed (other .place)) (marked work (endOf list)) (list .place) z (pointsAt work list)
-    cutting =
-        let n = list-length work (list .place) (list .count) in
-        cut z (held-stays (endOf list) stays (omega arith) (g .held)) (g .rises) (rw n found)
+  -- The parts of the list, as long as they are and where they stand.
+  parts : length (g .cut .front) + length (g .cut .back) ≡ list .count
+  parts =
+      let sum = length-append (g .cut .front) (g .cut .back) in
+      omega (arith, ap length (g .cut .whole), list-length work (list .place) (list .count))
 
-    -- The back of the list, from the place found on, ends where the list ends.
-    abbrev pub backOf : Prefix
-    backOf = record { place = z; count = endOf list - z }
+  pub high : z ≤ endOf list
+  high = omega (arith, parts, g .cut .count)
 
-    back-ends : endOf backOf ≡ endOf list
-    back-ends = omega (arith, found .high)
+  both-held : Held (marked work (endOf list)) (list .place) (g .cut .front) × Held (marked work (endOf list)) z (g .cut .back)
+  both-held =
+      let all = held-stays {m = marked work (endOf list)} (endOf list) stays (omega (arith, list-length work (list .place) (list .count))) (g .held) in
+      held-parts (g .cut .front) (rw (g .cut .whole) at all) (g .cut .count)
 
-    module _ {copy : List ℤ} (c : Copied (list .place) (endOf list + 1) (z - list .place) (marked work (endOf list)) copy) where
-      -- The number before the place found can be weighed, once the front is copied.
-      pub can-weigh : CanWeigh copy (list .place) z
-      can-weigh = record {
-        inside = omega (arith, found .high, g .room, c .size, length-set work (endOf list) pastAll);
-        least = least;
+  -- The back of the list, from the place found on, ends where the list ends.
+  abbrev pub backOf : Prefix
+  backOf = record { place = z; count = endOf list - z }
+
+  back-ends : endOf backOf ≡ endOf list
+  back-ends = omega (arith, high)
+
+  module _ {copy : List ℤ} (c : Copied (list .place) (endOf list + 1) (z - list .place) (marked work (endOf list)) copy) where
+    -- The number before the place found can be weighed, once the front is copied.
+    pub can-weigh : CanWeigh copy (list .place) z
+    can-weigh = record {
+      inside = omega (arith, high, g .room, c .size, length-set work (endOf list) pastAll);
+      least = least;
+    }
+      where
+        least : list .place < z → pos 0 ≤ℤ at0 copy (z - 1)
+        least h =
+            let p = held-point (both-held .0) (z - 1) (omega arith) (omega (arith, g .cut .count)) in
+            let e : at0 copy (z - 1) ≡ code (p .0) = c .before (z - 1) (omega (arith, high)) ∙ p .2 in
+            rw e (code-least (p .1))
+
+    -- The front and the back are still there, and behind them a number past all.
+    front-held : Held copy (list .place) (g .cut .front)
+    front-held = held-stays (endOf list + 1) (c .before) (omega (arith, g .cut .count, high)) (both-held .0)
+
+    ends : z + length (g .cut .back) ≡ endOf list
+    ends = omega (arith, parts, g .cut .count)
+
+    back-held : Held copy z (g .cut .back)
+    back-held = held-stays (endOf list + 1) (c .before) (omega (arith, ends)) (both-held .1)
+
+    past : at0 copy (endOf backOf) ≡ pastAll
+    past =
+        ap (at0 copy) back-ends
+        ∙ c .before (endOf list) (omega arith)
+        ∙ getD-set-same work (endOf list) pastAll (pos 0) (omega (arith, g .room))
+
+    -- The front rises to a last weight,
+    abbrev last : ℤ
+    last = lastAfter belowAll (g .cut .front)
+
+    front-rises : Rising (g .cut .front)
+    front-rises = rising-front (g .cut .front) (g .cut .back) (rw (g .cut .whole) at (g .rises))
+
+    module _ {lightest : ℕ} (l : lightest ≡ lightBefore copy (list .place) z) where
+      -- which the number before the place found tells:
+      told : lightest + up last ≡ mostLight + dn last
+      told = rw l (before-told z front-held (g .cut .count))
+
+      -- the longer the front, the fewer points are still to come.
+      light : lightest + (z - list .place) ≤ perSecond
+      light =
+          let few = last-few belowAll front-rises (λ p m. omega signed) in
+          omega (arith, told, g .cut .count)
+
+      heavy : leastLight ≤ lightest
+      heavy = omega (arith, told, last-light belowAll (g .cut .front) (held-within (both-held .0)) (omega arith))
+
+      -- The rest can be merged,
+      pub can-merge : CanMerge copy backOf pushed other (endOf list + 1 + (z - list .place)) lightest
+      can-merge = record {
+        here = held-ended back-held (omega (arith, ends, back-ends)) past;
+        there = held-ended (g .heldToo) (omega (arith, list-length pushed (other .place) (other .count))) (g .past);
+        behind = omega (arith, back-ends);
+        low = heavy;
+        light = omega (arith, light);
+        room = omega (arith, light, g .room, c .size, length-set work (endOf list) pastAll);
+        roomPushed = g .inside;
       }
-        where
-          least : list .place < z → pos 0 ≤ℤ at0 copy (z - 1)
-          least h =
-              let p = held-point (cutting .held) (z - 1) (omega arith) (omega (arith, cutting .count)) in
-              let e : at0 copy (z - 1) ≡ code (p .0) = c .before (z - 1) (omega (arith, found .high)) ∙ p .2 in
-              rw e (code-least (p .1))
 
-      -- The front and the back are still there, and behind them a number past all.
-      front-held : Held copy (list .place) (cutting .front)
-      front-held = held-stays (endOf list + 1) (c .before) (omega (arith, cutting .count, found .high)) (cutting .held)
+      -- and then the better of both stands behind the part in use.
+      module _ {r : ℕ} {after : List ℤ}
+          (m : Merged copy backOf pushed other (endOf list + 1 + (z - list .place)) lightest r after) where
+        -- What is merged,
+        abbrev rest : List Point
+        rest = merge last (g .cut .back) (pointsAt pushed other)
 
-      parts : length (cutting .front) + length (cutting .back) ≡ list .count
-      parts =
-          let sum = length-append (cutting .front) (cutting .back) in
-          omega (arith, ap length (cutting .whole), list-length work (list .place) (list .count))
+        -- behind the front, is the better of both;
+        better : betterOf (pointsAt work list) (pointsAt pushed other) ≡ g .cut .front ++ rest
+        better =
+            sym (merge-better (g .rises) (g .risesToo))
+            ∙ ap (λ (ps : List Point). merge belowAll ps (pointsAt pushed other)) (g .cut .whole)
+            ∙ front-kept belowAll (g .cut .back) (pointsAt pushed other) front-rises (λ p n. omega signed)
+            (λ p n. goes-first (other .count) (g .some) (g .heldToo) (held-within (both-held .0) p n) (g .cut .early p n))
 
-      ends : z + length (cutting .back) ≡ endOf list
-      ends = omega (arith, parts, cutting .count)
+        -- it is within the limits,
+        rest-within : (p : Point) → In p rest → PointWithin p
+        rest-within p n =
+            ⊎-elim (held-within (g .held) p) (held-within (g .heldToo) p)
+            (in-either (pointsAt work list) (profileOf-member (pointsAt work list ++ pointsAt pushed other) listed))
+          where
+            listed : In p (betterOf (pointsAt work list) (pointsAt pushed other))
+            listed = rw better (Memᴰ·append-right (g .cut .front) n)
 
-      back-held : Held copy z (cutting .back)
-      back-held = held-stays (endOf list + 1) (c .before) (omega (arith, ends)) (cutting .heldBack)
+        -- and its numbers are written.
+        numbers : merged copy backOf pushed other lightest ≡ map code rest
+        numbers =
+            merged-are backOf other lightest last past (g .past) back-held (omega (arith, ends)) (g .heldToo)
+            (list-length pushed (other .place) (other .count))
+            (rising-back (g .cut .front) (g .cut .back) (rw (g .cut .whole) at (g .rises))) (g .risesToo) told
 
-      past : at0 copy (endOf backOf) ≡ pastAll
-      past =
-          ap (at0 copy) back-ends
-          ∙ c .before (endOf list) (omega arith)
-          ∙ getD-set-same work (endOf list) pastAll (pos 0) (omega (arith, g .room))
-
-      -- The front rises to a last weight,
-      abbrev last : ℤ
-      last = lastAfter belowAll (cutting .front)
-
-      front-rises : Rising (cutting .front)
-      front-rises = rising-front (cutting .front) (cutting .back) (rw (cutting .whole) at (g .rises))
-
-      module _ {lightest : ℕ} (l : lightest ≡ lightBefore copy (list .place) z) where
-        -- which the number before the place found tells:
-        told : lightest + up last ≡ mostLight + dn last
-        told = rw l (before-told z front-held (cutting .count))
-
-        -- the longer the front, the fewer points are still to come.
-        light : lightest + (z - list .place) ≤ perSecond
-        light =
-            let few = last-few belowAll front-rises (λ p m. omega signed) in
-            omega (arith, told, cutting .count)
-
-        heavy : leastLight ≤ lightest
-        heavy = omega (arith, told, last-light belowAll (cutting .front) (held-within (cutting .held)) (omega arith))
-
-        -- The rest can be merged,
-        pub can-merge : CanMerge copy backOf pushed other (endOf list + 1 + (z - list .place)) lightest
-        can-merge = record {
-          here = held-ended back-held (omega (arith, ends, back-ends)) past;
-          there = held-ended (g .heldToo) (omega (arith, list-length pushed (other .place) (other .count))) (g .past);
-          behind = omega (arith, back-ends);
-          low = heavy;
-          light = omega (arith, light);
-          room = omega (arith, light, g .room, c .size, length-set work (endOf list) pastAll);
-          roomPushed = g .inside;
+        pub joins : Joined work list pushed other (record { place = endOf list + 1; count = r - (endOf list + 1) }) after
+        joins = record {
+          size = m .size ∙ c .size ∙ length-set work (endOf list) pastAll;
+          stays = λ k h. m .before k (omega arith) ∙ c .before k (omega arith) ∙ stays k h;
+          behind = refl;
+          held = rw better (held-append (endOf list + 1 + (z - list .place)) front (omega (arith, g .cut .count)) back);
+          counted = omega (
+            arith,
+            m .count,
+            ap length numbers,
+            length-map rest code,
+            ap length better,
+            length-append (g .cut .front) rest,
+            g .cut .count,
+          );
         }
+          where
+            front : Held after (endOf list + 1) (g .cut .front)
+            front =
+                let n = g .cut .count in
+                held-copied (endOf list + 1) (both-held .0)
+                (λ k h. m .before (endOf list + 1 + k) (omega arith) ∙ c .laid k (omega arith))
 
-        -- and then the better of both stands behind the part in use.
-        module _ {r : ℕ} {after : List ℤ}
-            (m : Merged copy backOf pushed other (endOf list + 1 + (z - list .place)) lightest r after) where
-          -- What is merged,
-          abbrev rest : List Point
-          rest = merge last (cutting .back) (pointsAt pushed other)
-
-          -- behind the front, is the better of both;
-          better : betterOf (pointsAt work list) (pointsAt pushed other) ≡ cutting .front ++ rest
-          better =
-              sym (merge-better (g .rises) (g .risesToo))
-              ∙ ap (λ (ps : List Point). merge belowAll ps (pointsAt pushed other)) (cutting .whole)
-              ∙ front-kept belowAll (cutting .back) (pointsAt pushed other) front-rises (λ p n. omega signed)
-              (λ p n. goes-first (other .count) (g .some) (g .heldToo) (held-within (cutting .held) p n) (cutting .early p n))
-
-          -- it is within the limits,
-          rest-within : (p : Point) → In p rest → PointWithin p
-          rest-within p n =
-              ⊎-elim (held-within (g .held) p) (held-within (g .heldToo) p)
-              (in-either (pointsAt work list) (profileOf-member (pointsAt work list ++ pointsAt pushed other) listed))
-            where
-              listed : In p (betterOf (pointsAt work list) (pointsAt pushed other))
-              listed = rw better (Memᴰ·append-right (cutting .front) n)
-
-          -- and its numbers are written.
-          numbers : merged copy backOf pushed other lightest ≡ map code rest
-          numbers =
-              merged-are backOf other lightest last past (g .past) back-held (omega (arith, ends)) (g .heldToo)
-              (list-length pushed (other .place) (other .count))
-              (rising-back (cutting .front) (cutting .back) (rw (cutting .whole) at (g .rises))) (g .risesToo) told
-
-          pub joins : Joined work list pushed other (record { place = endOf list + 1; count = r - (endOf list + 1) }) after
-          joins = record {
-            size = m .size ∙ c .size ∙ length-set work (endOf list) pastAll;
-            stays = λ k h. m .before k (omega arith) ∙ c .before k (omega arith) ∙ stays k h;
-            behind = refl;
-            held = rw better (held-append (endOf list + 1 + (z - list .place)) front (omega (arith, cutting .count)) back);
-            counted = omega (
-              arith,
-              m .count,
-              ap length numbers,
-              length-map rest code,
-              ap length better,
-              length-append (cutting .front) rest,
-              cutting .count,
-            );
-          }
-            where
-              front : Held after (endOf list + 1) (cutting .front)
-              front =
-                  let n = cutting .count in
-                  held-copied (endOf list + 1) (cutting .held)
-                  (λ k h. m .before (endOf list + 1 + k) (omega arith) ∙ c .laid k (omega arith))
-
-              back : Held after (endOf list + 1 + (z - list .place)) rest
-              back = held-codes (endOf list + 1 + (z - list .place)) rest rest-within (rw numbers at (m .written))
+            back : Held after (endOf list + 1 + (z - list .place)) rest
+            back = held-codes (endOf list + 1 + (z - list .place)) rest rest-within (rw numbers at (m .written))

@@ -215,26 +215,41 @@ merging-start {list} {pushed} {other} {at} {lightest} {was} g = record {
 module _ {whole : List ℤ} {at lightest : ℕ} {pushed was work : List ℤ} {i j n best left : ℕ}
     (m : Merging whole at lightest pushed was work i j n best left) where
   -- The places are inside,
-  pub inside-list : i < length work
+  pub inside-list : i + 1 < length work
   inside-list = omega (arith, m .places .highI, m .can .behind, written-room (m .written) (m .can .room))
 
-  pub inside-pushed : j < length pushed
+  pub inside-pushed : j + 1 < length pushed
   inside-pushed = omega (arith, m .places .highJ, m .can .roomPushed)
 
   pub inside-merged : n < length work
   inside-merged = omega (arith, m .reached, written-room (m .written) (m .can .room))
 
   -- and the list is still read as it was.
-  list-stays : at0 work i ≡ at0 was i
-  list-stays = written-before (m .written) (m .can .room) i (omega (arith, m .places .highI, m .can .behind))
+  list-stays : (k : ℕ) → k ≤ endOf (m .list) → at0 work k ≡ at0 was k
+  list-stays k h = written-before (m .written) (m .can .room) k (omega (arith, m .can .behind))
 
   -- A turn with a and b at hand takes a point's number,
-  module _ {a b : ℤ} (is-a : a ≡ at0 work i) (is-b : b ≡ at0 pushed j) {l : ℕ} (more : left ≡ suc l) where
+  module _ {a b : ℤ} (is-a : a ≡ at0 was i) (is-b : b ≡ at0 pushed j) {l : ℕ} (more : left ≡ suc l) where
     taken : Turned was (m .list .place) (endOf (m .list)) pushed (m .other .place) (endOf (m .other)) i j l (cond (leZ a b) a b)
         (i + cond (leZ a b) 1 0) (j + cond (leZ a b) 0 1)
-    taken =
-        let a-was : a ≡ at0 was i = is-a ∙ list-stays in
-        rw (a-was, is-b) (turned (m .can .here) (m .can .there) (rw more at (m .places)))
+    taken = rw (is-a, is-b) (turned (m .can .here) (m .can .there) (rw more at (m .places)))
+
+    -- after which the one behind it is at hand,
+    pub next-here : (c a′ : ℤ) (i′ : ℕ) → c ≡ at0 work (i + 1) → a′ ≡ cond (leZ a b) c a → i′ ≡ i + cond (leZ a b) 1 0
+        → a′ ≡ at0 was i′
+    next-here c a′ i′ is-c a-is i-is = rw (a-is, i-is) (go (leZ a b) (taken .places .highI))
+      where
+        go : (f : Bool) → i + cond f 1 0 ≤ endOf (m .list) → cond f c a ≡ at0 was (i + cond f 1 0)
+        go true h = is-c ∙ list-stays (i + 1) h
+        go false h = let same : i + 0 ≡ i = omega arith in rw same is-a
+
+    pub next-there : (d b′ : ℤ) (j′ : ℕ) → d ≡ at0 pushed (j + 1) → b′ ≡ cond (leZ a b) b d → j′ ≡ j + cond (leZ a b) 0 1
+        → b′ ≡ at0 pushed j′
+    next-there d b′ j′ is-d b-is j-is = rw (b-is, j-is) (go (leZ a b))
+      where
+        go : (f : Bool) → cond f b d ≡ at0 pushed (j + cond f 0 1)
+        go true = let same : j + 0 ≡ j = omega arith in rw same is-b
+        go false = is-d
 
     pub merging-least : pos 0 ≤ℤ cond (leZ a b) a b
     merging-least = taken .least

@@ -45,7 +45,7 @@ pub record CanMerge (work : List ℤ) (list : Prefix) (pushed : List ℤ) (other
   pub low : leastLight ≤ lightest
   pub light : lightest ≤ perSecond
   pub room : at + lightest < length work + leastLight
-  pub roomPushed : endOf other < length pushed
+  pub roomPushed : endOf other + 1 < length pushed
 
 -- The list merged.
 abbrev pub merged : List ℤ → Prefix → List ℤ → Prefix → ℕ → List ℤ

@@ -12,8 +12,8 @@ use Rattle.seconds.specs.Limits.{latestFree, mostWeight, mostPoints, mostJobs}
 use Rattle.seconds.specs.RangesLaws.{time-free}
 use Rattle.order.specs.Job.{Job, Point, weightOf}
 use Rattle.order.specs.Choice.{numberKept}
-use Rattle.profile.specs.Profile.{lookup, lastPoint, lastWeight, startPoint, extend, profileAfter, pointsUpTo, pointTotal}
-use Rattle.profile.specs.Closure.{ValidProfile, valid-holds, valid-start, prefix-short}
+use Rattle.profile.specs.Profile.{lookup, lastWeight, startPoint, extend, profileAfter, pointsUpTo, pointTotal}
+use Rattle.profile.specs.Closure.{ValidProfile, valid-holds, valid-extend, valid-start, prefix-short}
 use Rattle.plan.specs.Plan.{Ended, plan, Answer, answerOf, planAnswer}
 use Rattle.plan.specs.PlanProfile.{plan-end-last}
 use Rattle.plan.specs.Figures.{Figures as Fitting, plan-figures}
@@ -25,15 +25,14 @@ use Rattle.fields.specs.declared.Header.{Header}
 use Rattle.fields.specs.Places.{jobs-count, weight-up-to}
 use Rattle.codes.specs.Code.{listAt}
 use Rattle.codes.specs.Held.{Held}
-use Rattle.codes.specs.HeldLaws.{held-read, held-within}
-use Rattle.stepping.specs.Stepping.{Buffer}
+use Rattle.codes.specs.HeldLaws.{held-read}
 use Rattle.reading.specs.declared.Found.the-variants.{Nothing, At}
 use Rattle.reading.specs.Reading.{Stands, found}
 use Rattle.reading.specs.ReadingLaws.{found-nothing, found-at, last-by-latest}
 use Rattle.filling.specs.declared.Totals.{Totals}
 use Rattle.filling.specs.Begin.{CanStart}
 use Rattle.filling.specs.Lists.{Lists, pointsTo, CanFill, CanFillLists, Filled}
-use Rattle.filling.specs.ListsLaws.{jobs-all, jobs-single, lists-read, lists-stand}
+use Rattle.filling.specs.ListsLaws.{jobs-all, jobs-single, lists-stand}
 use Rattle.walking.specs.declared.End.{End}
 use Rattle.walking.specs.Trail.{Walks, walkMask}
 use Rattle.starting.specs.Picks.{picksOf, WritesStarts, startsWritten}
@@ -147,8 +146,8 @@ module _ {bytes : List ℕ} {header : Header} {old work : List ℤ} {places coun
     first-valid = valid-holds first (valid-start (t0Of bytes) (time-free (planning .order .header .timely)))
 
     -- and the lists of all jobs filled behind it.
-    pub can-fill : {pushed : List ℤ} → Buffer pushed → CanFillLists bytes n begun places counts pushed
-    can-fill buffer =
+    pub can-fill : CanFillLists bytes n begun places counts
+    can-fill =
         let one : CanFill bytes n 1 begun =
         record {
           order = planning .order;
@@ -165,7 +164,6 @@ module _ {bytes : List ℕ} {header : Header} {old work : List ℤ} {places coun
           first = f .firstPlace;
           roomPlaces = f .roomPlaces;
           roomCounts = f .roomCounts;
-          buffer = buffer;
         }
 
     module _ {totals : Totals} {places′ counts′ : List ℕ} {filled : List ℤ} (kept : length filled ≡ length begun)
@@ -180,26 +178,28 @@ module _ {bytes : List ℕ} {header : Header} {old work : List ℤ} {places coun
         room : lists .used ≤ length filled
         room = omega (arith, lists .small, kept, sized, planning .room)
 
-        -- The last list stands,
+        -- The last list is said,
         pub last-stands : Stands filled (getD places′ n 0) (getD counts′ n 0)
         last-stands = lists-stand stand room n (omega arith)
 
         -- and is the order's profile.
-        last-is : listAt filled (getD places′ n 0) (getD counts′ n 0) ≡ profileAfter (t0Of bytes) (jobsIn bytes)
-        last-is =
-            lists-read stand n (omega arith)
-            ∙ ap (λ (k : ℕ). extend first (take k (jobsIn bytes))) (planning .read .count)
-            ∙ ap (extend first) (jobs-all bytes)
+        last-is : extend first (take n (jobsIn bytes)) ≡ profileAfter (t0Of bytes) (jobsIn bytes)
+        last-is = ap (extend first) (ap (λ (k : ℕ). take k (jobsIn bytes)) (planning .read .count) ∙ jobs-all bytes)
 
-        early : (p : Point) → In p (listAt filled (getD places′ n 0) (getD counts′ n 0)) → p .time ≤ℤ latestFree
-        early p m = held-within (last-stands .held) p m .time .high
+        early : (p : Point) → In p (profileAfter (t0Of bytes) (jobsIn bytes)) → p .time ≤ℤ latestFree
+        early p m =
+            let order = planning .order in
+            let t = time-free (order .header .timely) in
+            valid-holds (profileAfter (t0Of bytes) (jobsIn bytes))
+            (valid-extend first (jobsIn bytes) (valid-start (t0Of bytes) t) (jobs-fit bytes order) (omega (arith, order .light))) .within p m
+            .time .high
 
         -- Its last point is the plan's end, if there is one.
         end-found : lookup (listAt filled (getD places′ n 0) (getD counts′ n 0)) latestFree
             ≡ Option·map (λ (e : Ended). e .end) (plan (t0Of bytes) (jobsIn bytes))
         end-found =
-            last-by-latest (listAt filled (getD places′ n 0) (getD counts′ n 0)) early
-            ∙ ap lastPoint last-is ∙ sym (plan-end-last (t0Of bytes) (jobsIn bytes))
+            stand .stands n (omega arith) .says latestFree ∙ ap (λ (ps : List Point). lookup ps latestFree) last-is
+            ∙ last-by-latest (profileAfter (t0Of bytes) (jobsIn bytes)) early ∙ sym (plan-end-last (t0Of bytes) (jobsIn bytes))
 
         -- With none there is no feasible choice,
         pub nothing-made : Nothing ≡ found (lookup (listAt filled (getD places′ n 0) (getD counts′ n 0)) latestFree)

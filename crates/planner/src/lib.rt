@@ -4,7 +4,6 @@ use area::clear;
 use fields::Header;
 use fields::header_at;
 use filling::Totals;
-use filling::buffer;
 use filling::fill_lists;
 use filling::notes;
 use filling::start_at;
@@ -81,9 +80,8 @@ fn plan_by_lists(
     ensures { λ r. ⌜ MadeIn (now (bytes .entry)) (now (starts .entry)) r (now (starts .exit)) ⌝ }
 {
     let n = header.count;
-    let mut pushed = buffer();
     start_at(work, header.t0);
-    let totals = fill_lists(work, bytes, n, places, counts, &mut pushed);
+    let totals = fill_lists(work, bytes, n, places, counts);
     let place = places[n];
     let count = counts[n];
     match last_by(work, place, count, LATEST) {

@@ -1,9 +1,12 @@
 -- A rising list pushed rises, and has the moves of the job from every point of the list.
+use Prim.Native.Nat.{suc, _≤_}
 use mathlib.Core.Path.{_≡_, refl, sym, ap, _∙_}
 use mathlib.Core.Bool.{Bool, true, false, cond}
 use mathlib.Core.List.{List, [], _∷_, List·Memᴰ as In, List·Memᴰ·head as head, List·Memᴰ·tail as tail}
 use mathlib.Core.List.{List·Memᴰ·not-nil as not-nil}
+use native.Mathlib.Omega.{arith}
 use lib.IntN.{ℤ, pos, _+ℤ_}
+use lib.ListN.{length}
 use lib.Signed.{leZ, _≤ℤ_, _<ℤ_}
 use Rattle.seconds.specs.Limits.{rest}
 use Rattle.seconds.specs.Signed.{signed, max-is, add-is}
@@ -35,6 +38,16 @@ waiting-rises r p (below-more {q = q} {qs = qs} b bs) (rising-more c s) =
     go true e i = i
     go false e i = let w : Below (waited r p) q = waits-below r (omega signed) b in
         rising-more (below-more w (below-further w c)) (rising-more c s)
+
+-- They are no more than the list's.
+pub waiting-few : (r : ℤ) (p : Point) (ps : List Point) → length (waiting r p ps) ≤ suc (length ps)
+waiting-few r p [] = omega arith
+waiting-few r p (q ∷ qs) = go (leZ (q .time) r) (waiting-few r q qs)
+  where
+    go : (t : Bool) → length (waiting r q qs) ≤ suc (length qs)
+        → length (cond t (waiting r q qs) (waited r p ∷ q ∷ qs)) ≤ suc (suc (length qs))
+    go true i = omega (arith, i)
+    go false i = omega arith
 
 -- Each of them is a point of the list that waited.
 pub record Waited (r : ℤ) (ps : List Point) (x : Point) : Type 0 where
@@ -101,6 +114,14 @@ upTo-rises t (rising-more {p = p} {ps = ps} b s) = go (leZ (p .time) t) (upTo-ri
     go true i = rising-more (upTo-below t b) i
     go false i = rising-none
 
+pub upTo-few : (t : ℤ) (ps : List Point) → length (upToTime t ps) ≤ length ps
+upTo-few t [] = omega arith
+upTo-few t (p ∷ ps) = go (leZ (p .time) t) (upTo-few t ps)
+  where
+    go : (c : Bool) → length (upToTime t ps) ≤ length ps → length (cond c (p ∷ upToTime t ps) []) ≤ suc (length ps)
+    go true i = omega (arith, i)
+    go false i = omega arith
+
 pub upTo-from : (t : ℤ) (ps : List Point) (x : Point) → In x (upToTime t ps) → In x ps × (x .time ≤ℤ t)
 upTo-from t [] x m = absurd (not-nil m)
 upTo-from t (p ∷ ps) x m = go (leZ (p .time) t) refl (upTo-from t ps x) m
@@ -142,6 +163,10 @@ later-all-below r (below-more b bs) = below-more (later-below r b) (later-all-be
 pub later-rises : (r : Rate) {ps : List Point} → Rising ps → Rising (allLater r ps)
 later-rises r rising-none = rising-none
 later-rises r (rising-more b s) = rising-more (later-all-below r b) (later-rises r s)
+
+pub later-length : (r : Rate) (ps : List Point) → length (allLater r ps) ≡ length ps
+later-length r [] = refl
+later-length r (p ∷ ps) = ap suc (later-length r ps)
 
 pub later-from : (r : Rate) (ps : List Point) (x : Point) → In x (allLater r ps)
     → (p : Point) × In p ps × (x ≡ laterBy r p)

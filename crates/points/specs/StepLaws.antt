@@ -27,8 +27,8 @@ use Rattle.profiles.specs.OnePass.{belowAll}
 use Rattle.better.specs.Heavier.{merge, merge-better}
 use Rattle.points.specs.Steps.{waited, waiting, upToTime, laterBy, lastStartBy, pushedBy}
 use Rattle.points.specs.Steps.{leaving, lastOf, tooLate, stepBy}
-use Rattle.points.specs.Pushing.{waiting-rises, waiting-from, waiting-gives, upTo-rises, upTo-from, upTo-has}
-use Rattle.points.specs.Pushing.{later-rises, later-from, later-in}
+use Rattle.points.specs.Pushing.{waiting-rises, waiting-few, waiting-from, waiting-gives, upTo-rises, upTo-few, upTo-from, upTo-has}
+use Rattle.points.specs.Pushing.{later-rises, later-length, later-from, later-in}
 
 -- ---- the list pushed by one rate of a job
 
@@ -36,6 +36,17 @@ module _ (j : Job) (r : Rate) where
   pub push-rises : {P : List Point} → Rising P → Rising (pushedBy j r P)
   push-rises rising-none = rising-none
   push-rises (rising-more {p = p} b s) = later-rises r (upTo-rises (lastStartBy j r) (waiting-rises (j .ready) p b s))
+
+  -- It has no more points than the list.
+  pub push-few : (P : List Point) → length (pushedBy j r P) ≤ length P
+  push-few [] = omega arith
+  push-few (p ∷ ps) =
+      omega (
+        arith,
+        later-length r (upToTime (lastStartBy j r) (waiting (j .ready) p ps)),
+        upTo-few (lastStartBy j r) (waiting (j .ready) p ps),
+        waiting-few (j .ready) p ps,
+      )
 
   later-covers : {p q : Point} → Covers p q → Covers (laterBy r p) (laterBy r q)
   later-covers {p} {q} c =
@@ -232,7 +243,7 @@ module _ (j : Job) (r : Rate) (only : j .rates ≡ r ∷ []) where
           profileOf-only rises (same-append (same-refl (leaving j (p ∷ ps))) (record { to = ⊑-by to; back = ⊑-by back }))
 
   -- The three cases are the better of leaving and pushing,
-  step-better : {P : List Point} → Rising P → (j .critical ≡ false → 1 ≤ r .gain)
+  pub step-better : {P : List Point} → Rising P → (j .critical ≡ false → 1 ≤ r .gain)
       → stepBy j r P ≡ betterOf (leaving j P) (pushedBy j r P)
   step-better rising-none weighty = go (j .critical)
     where

@@ -1,7 +1,7 @@
 -- Rising lists of points: each point is earlier and lighter than every later one. As a family of facts, and as the test
 -- that decides it.
 use Prim.Native.Nat.{_<_}
-use mathlib.Core.List.{List, [], _∷_, List·Memᴰ, List·Memᴰ·head, List·Memᴰ·tail}
+use mathlib.Core.List.{List, [], _∷_, _++_, List·Memᴰ, List·Memᴰ·head, List·Memᴰ·tail}
 use lib.Dec.{T, ltb}
 use lib.Ieee.Fits.{and-i, and-l, and-r}
 use lib.Signed.{ltZ, _<ℤ_}
@@ -41,6 +41,20 @@ below-member (below-more h b) (List·Memᴰ·tail m) = below-member b m
 -- One point rises.
 pub rising-one : (p : Point) → Rising (p ∷ [])
 rising-one p = rising-more below-none rising-none
+
+-- ---- the parts of a rising list rise
+
+below-front : {p : Point} (fs bs : List Point) → BelowAll p (fs ++ bs) → BelowAll p fs
+below-front [] bs b = below-none
+below-front (x ∷ fs) bs (below-more k b) = below-more k (below-front fs bs b)
+
+pub rising-front : (fs bs : List Point) → Rising (fs ++ bs) → Rising fs
+rising-front [] bs r = rising-none
+rising-front (p ∷ fs) bs (rising-more b r) = rising-more (below-front fs bs b) (rising-front fs bs r)
+
+pub rising-back : (fs bs : List Point) → Rising (fs ++ bs) → Rising bs
+rising-back [] bs r = r
+rising-back (p ∷ fs) bs (rising-more b r) = rising-back fs bs r
 
 -- ---- the test
 

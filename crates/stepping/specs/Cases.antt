@@ -2,7 +2,7 @@
 use Prim.Native.Nat.{ℕ, zero, suc, _+_, _-_, _≤_, _<_}
 use mathlib.Core.Path.{_≡_, refl, sym, ap, _∙_, subst}
 use mathlib.Core.Bool.{Bool, true, false, cond}
-use mathlib.Core.List.{List, [], _∷_, _++_, List·Memᴰ as In, List·Memᴰ·head as head, List·Memᴰ·tail as tail}
+use mathlib.Core.List.{List, [], _∷_, _++_, List·Memᴰ as In, List·Memᴰ·head as head, List·Memᴰ·tail as tail, Memᴰ·append-left}
 use native.Mathlib.Omega.{arith}
 use lib.IntN.{ℤ, pos, _+ℤ_}
 use lib.ListN.{length, set, length-set, length-append}
@@ -13,26 +13,29 @@ use Rattle.seconds.specs.Ranges.{InTime, InFree}
 use Rattle.seconds.specs.Signed.{signed, maxZ, max-is, add-is, sub-is}
 use Rattle.order.specs.Job.{Job, oneRate, Point}
 use Rattle.profile.specs.Profile.{betterOf}
-use Rattle.profile.specs.Rising.{Rising}
+use Rattle.profile.specs.Rising.{Rising, rising-front}
 use Rattle.profile.specs.Closure.{PointWithin, rising-short}
 use Rattle.profiles.specs.OnePass.{belowAll}
 use Rattle.better.specs.Heavier.{merge, merge-better}
 use Rattle.points.specs.Steps.{waited, waiting, whenReady, upToTime, laterBy, allLater, pushedBy, leaving, lastOf, tooLate, listStep}
-use Rattle.points.specs.StepLaws.{push-rises}
+use Rattle.points.specs.StepLaws.{push-rises, push-few}
 use Rattle.points.specs.Clipping.{clip-first}
 use Rattle.codes.specs.declared.Prefix.{Prefix}
 use Rattle.codes.specs.Code.{code, pointOf, limitOf, at0, listAt, pointsAt, endOf}
 use Rattle.codes.specs.CodeLaws.{point-back}
-use Rattle.codes.specs.Held.{Held, held-none, held-more, After}
+use Rattle.codes.specs.Held.{Held, held-none, held-more}
 use Rattle.codes.specs.HeldLaws.{held-stays, held-read, held-within, held-append, held-copied, list-length, held-point}
 use Rattle.codes.specs.Cuts.{Cut, cut, cut-early, cut-late}
-use Rattle.merging.specs.Fronts.{rising-front}
 use Rattle.merging.specs.Joins.{CanLay, Laid, CanJoin, Joined}
 use Rattle.pushing.specs.declared.Rate.{Rate}
 use Rattle.pushing.specs.Pushes.{Coded, RateFits, jobRate, deltaOf, waitedAs, pushedAt, CanPush, Pushed}
 use Rattle.pushing.specs.Numbers.{held-coded, waited-code}
+use Rattle.pushing.specs.PushLaws.{later-length}
 use Rattle.stepping.specs.declared.Terms.{Terms}
-use Rattle.stepping.specs.Stepping.{jobOf, stepped, lastStart, Buffer, CanStep, Stepped, leftOut, CanAdd, withOne, Added, CanPushBy, PushedBy, CanMerge}
+use Rattle.stepping.specs.declared.Moved.{Moved}
+use Rattle.stepping.specs.Stepping.{jobOf, stepped, lastStart, Buffer, CanStep, Stepped, leftOut, CanAdd, withOne, Added}
+use Rattle.stepping.specs.Stepping.{CanSeek, Startable, CanPushBy, pushedAs, PushedBy, CanMerge}
+use Rattle.stepping.specs.Before.{Finds, finds, cut-before}
 
 -- The job's own number does not count.
 pub any-number : (n : ℕ) (job : Terms) (rate : Rate) (ps : List Point)
@@ -43,6 +46,10 @@ any-number n job rate (p ∷ ps) = refl
 -- The front of a list, up to an end.
 abbrev pub frontOf : Prefix → ℕ → Prefix
 frontOf list end = record { place = list .place; count = end - list .place }
+
+-- A pushed list, and the list cut behind the point that the first of it comes from.
+abbrev pub movedTo : Prefix → ℕ → Moved
+movedTo other end = record { place = other .place; count = other .count; cut = end + 1 - other .count }
 
 -- ---- the tests of the cases, over numbers
 
@@ -65,7 +72,7 @@ upTo-front t (p ∷ fs) bs e l =
     rw test (ap (λ (x : List Point). p ∷ x) (upTo-front t fs bs (λ q m. e q (tail m)) l))
 
 -- A point waited and moved on stays within the limits where the job starts by its last start.
-moved-within : (job : Terms) {rate : Rate} → InTime (job .ready) → InTime (job .deadline) → RateFits rate
+pub moved-within : (job : Terms) {rate : Rate} → InTime (job .ready) → InTime (job .deadline) → RateFits rate
     → job .ready ≤ℤ lastStart job rate → {p : Point} → PointWithin p → p .time ≤ℤ lastStart job rate
     → p .weight + rate .gain ≤ mostWeight → PointWithin (laterBy (jobRate rate) (waited (job .ready) p))
 moved-within job {rate} s e f h {p} w l light = record {
@@ -227,14 +234,14 @@ module _ {job : Terms} {rate : Rate} {place m : ℕ} {work pushed : List ℤ}
 
       -- ---- the list pushed by the job
 
-      last-free : InFree (lastStart job rate)
+      pub last-free : InFree (lastStart job rate)
       last-free =
           let s = g .starts in
           let e = g .ends in
           let h = in-time .0 in
           omega (signed, sub-is (job .deadline) (pos (rate .takes)))
 
-      module _ {end : ℕ} (found : After work place (place + suc m) (limitOf (lastStart job rate)) end) where
+      module _ {end : ℕ} (found : Startable job rate here work end) where
         cuts : Cut (limitOf (lastStart job rate)) work place end list
         cuts =
             let e : place + suc m ≡ place + length list = omega (arith, list-length work place (suc m)) in
@@ -258,11 +265,10 @@ module _ {job : Terms} {rate : Rate} {place m : ℕ} {work pushed : List ℤ}
             ∙ ap (allLater (jobRate rate)) (sym (clip-first (job .ready) (lastStart job rate) (in-time .0) (g .rises)))
 
         front-in : (p : Point) → In p (cuts .front) → In p list
-        front-in p n = subst (λ (ps : List Point). In p ps) (sym (cuts .whole)) (in-left (cuts .front) n)
-          where
-            in-left : (fs : List Point) → In p fs → In p (fs ++ cuts .back)
-            in-left fs (head e) = head e
-            in-left fs (tail k) = tail (in-left _ k)
+        front-in p n = subst (In p) (sym (cuts .whole)) (Memᴰ·append-left (cuts .back) n)
+
+        front-moves : (p : Point) → In p (cuts .front) → PointWithin (laterBy (jobRate rate) (waited (job .ready) p))
+        front-moves p n = moves-within p (front-in p n) (cut-early last-free cuts p n)
 
         few-points : suc m ≤ 301
         few-points = omega (
@@ -279,8 +285,8 @@ module _ {job : Terms} {rate : Rate} {place m : ℕ} {work pushed : List ℤ}
           rises = rw front-is (rising-front (cuts .front) (cuts .back) (rw (cuts .whole) at (g .rises)));
           starts = g .starts;
           fits = g .fits;
-          within = rw front-is (λ p n. moves-within p (front-in p n) (cut-early last-free cuts p n));
-          roomPushed = g .buffer .room;
+          within = rw front-is front-moves;
+          roomPushed = omega (arith, g .buffer .room);
           past = g .buffer .past;
         }
 
@@ -313,47 +319,48 @@ module _ {job : Terms} {rate : Rate} {place m : ℕ} {work pushed : List ℤ}
 
         -- and no more than the list.
         pushed-few : length (pushedAt work (frontOf here end) (job .ready) rate) ≤ suc m
-        pushed-few =
-            omega (
-              arith,
-              waiting-few (listAt work place (end - place)),
-              list-length work place (end - place),
-              found .high,
-              found .low,
-            )
-          where
-            waiting-few : (ps : List Point) → length (allLater (jobRate rate) (whenReady (job .ready) ps)) ≤ length ps
-            waiting-few [] = omega arith
-            waiting-few (p ∷ ps) = go p ps
-              where
-                go : (p : Point) (ps : List Point) → length (allLater (jobRate rate) (waiting (job .ready) p ps)) ≤ suc (length ps)
-                go p [] = omega arith
-                go p (q ∷ qs) = by (leZ (q .time) (job .ready)) (go q qs)
-                  where
-                    later-length : (xs : List Point) → length (allLater (jobRate rate) xs) ≡ length xs
-                    later-length [] = refl
-                    later-length (x ∷ xs) = ap suc (later-length xs)
+        pushed-few = omega (arith, ap length pushed-is, push-few j (jobRate rate) list, list-length work place (suc m))
 
-                    by : (c : Bool) → length (allLater (jobRate rate) (waiting (job .ready) q qs)) ≤ suc (length qs)
-                        → length (allLater (jobRate rate) (cond c (waiting (job .ready) q qs) (waited (job .ready) p ∷ q ∷ qs))) ≤ suc (suc (length qs))
-                    by true h = omega (arith, h)
-                    by false h = omega (arith, later-length qs)
+        -- It comes from one point and all behind it.
+        from-one : Finds (job .ready) (cuts .front)
+        from-one = finds (job .ready) (cuts .front) front-some
 
-        -- So it stands in the buffer.
-        pub pushes-by : {other : Prefix} {pushed′ : List ℤ} → Pushed work (frontOf here end) (job .ready) rate other pushed′
-            → PushedBy job rate here work other pushed′
-        pushes-by {other} {pushed′} p = record {
-          held = subst (λ (ps : List Point). Held pushed′ (other .place) ps) pushed-is (p .held);
-          counted = p .counted ∙ ap length pushed-is;
-          some = omega (arith, p .counted, pushed-some);
-          few = omega (arith, p .counted, pushed-few);
-          ends = p .ends;
-          past = p .past;
-        }
+        pushed-long : length (pushedAt work (frontOf here end) (job .ready) rate) ≡ suc (length (from-one .behind))
+        pushed-long =
+            ap (λ (ps : List Point). length (allLater (jobRate rate) (whenReady (job .ready) ps))) front-is
+            ∙ later-length (jobRate rate) (whenReady (job .ready) (cuts .front))
+            ∙ ap length (from-one .found)
+
+        module _ {other : Prefix} {pushed′ : List ℤ} (p : Pushed work (frontOf here end) (job .ready) rate other pushed′) where
+          before-one : place + length (from-one .before) + other .count ≡ end
+          before-one =
+              let sum = length-append (from-one .before) (from-one .first ∷ from-one .behind) in
+              omega (arith, ap length (from-one .whole), pushed-long, p .counted, cuts .count)
+
+          pub cut-fits : other .count ≤ end + 1
+          cut-fits = omega (arith, before-one)
+
+          -- So it stands in the buffer.
+          pub pushes-by : PushedBy job rate here work (movedTo other end) pushed′
+          pushes-by = record {
+            held = subst (λ (ps : List Point). Held pushed′ (other .place) ps) pushed-is (p .held);
+            counted = p .counted ∙ ap length pushed-is;
+            some = omega (arith, p .counted, pushed-some);
+            few = omega (arith, p .counted, pushed-few);
+            ends = p .ends;
+            past = p .past;
+            cut = cut-before here rate (cuts .back) (g .fits .least) (g .held) (g .rises) (cuts .whole) from-one front-moves there
+                (end + 1 - other .count) (omega (arith, before-one));
+          }
+            where
+              there : Held pushed′ (other .place) (allLater (jobRate rate) (whenReady (job .ready) (cuts .front)))
+              there =
+                  subst (λ (ps : List Point). Held pushed′ (other .place) (allLater (jobRate rate) (whenReady (job .ready) ps))) front-is
+                  (p .held)
 
       -- ---- case 2
 
-      module _ (not-early : ltZ (last .time) (job .ready) ≡ false) {other : Prefix} {pushed′ : List ℤ}
+      module _ (not-early : ltZ (last .time) (job .ready) ≡ false) {other : Moved} {pushed′ : List ℤ}
           (sized : length pushed′ ≡ length pushed) (p : PushedBy job rate here work other pushed′)
         where
           abbrev pushedList : List Point
@@ -366,7 +373,7 @@ module _ {job : Terms} {rate : Rate} {place m : ℕ} {work pushed : List ℤ}
           still : Buffer pushed′
           still = record { room = omega (arith, sized, g .buffer .room); past = p .past }
 
-          there : pointsAt pushed′ other ≡ pushedList
+          there : pointsAt pushed′ (pushedAs other) ≡ pushedList
           there = ap (listAt pushed′ (other .place)) (p .counted) ∙ held-read (p .held)
 
           pushes-rise : Rising pushedList
@@ -394,7 +401,7 @@ module _ {job : Terms} {rate : Rate} {place m : ℕ} {work pushed : List ℤ}
               }
 
           -- Of any other it is joined with the list as it was.
-          pub can-join : job .critical ≡ false → CanJoin work here pushed′ other
+          pub can-join : job .critical ≡ false → CanJoin work here (other .cut) pushed′ (pushedAs other)
           can-join free = record {
             held = g .held;
             rises = g .rises;
@@ -404,10 +411,11 @@ module _ {job : Terms} {rate : Rate} {place m : ℕ} {work pushed : List ℤ}
             past = ap (at0 pushed′) (p .ends) ∙ p .past;
             inside = omega (arith, p .ends, still .room);
             room = g .roomMore free;
+            cut = p .cut;
           }
 
-          module _ (free : job .critical ≡ false) {r : Prefix} {after : List ℤ} (o : Joined work here pushed′ other r after) where
-            joined-is : stepped job rate list ≡ betterOf list (pointsAt pushed′ other)
+          module _ (free : job .critical ≡ false) {r : Prefix} {after : List ℤ} (o : Joined work here pushed′ (pushedAs other) r after) where
+            joined-is : stepped job rate list ≡ betterOf list (pointsAt pushed′ (pushedAs other))
             joined-is =
                 both-is
                 ∙ ap (λ (c : Bool). cond c pushedList (merge belowAll list pushedList)) free
@@ -430,25 +438,25 @@ module _ {job : Terms} {rate : Rate} {place m : ℕ} {work pushed : List ℤ}
 
 -- The list pushed by a job, as the code makes it: the points up to the last start are found and pushed.
 pub record PushesBy (job : Terms) (rate : Rate) (list : Prefix) (work pushed : List ℤ) : Type 0 where
-  pub last : InFree (lastStart job rate)
-  pub push : (end : ℕ) → After work (list .place) (endOf list) (limitOf (lastStart job rate)) end
-      → CanPush work (frontOf list end) (job .ready) rate pushed
-  pub gives : (end : ℕ) (other : Prefix) (pushed′ : List ℤ)
-      → After work (list .place) (endOf list) (limitOf (lastStart job rate)) end
-      → Pushed work (frontOf list end) (job .ready) rate other pushed′ → PushedBy job rate list work other pushed′
+  pub seek : CanSeek job rate list work
+  pub push : (end : ℕ) → Startable job rate list work end → CanPush work (frontOf list end) (job .ready) rate pushed
+  pub fits : (end : ℕ) (other : Prefix) (pushed′ : List ℤ) → Startable job rate list work end
+      → Pushed work (frontOf list end) (job .ready) rate other pushed′ → other .count ≤ end + 1
+  pub gives : (end : ℕ) (other : Prefix) (pushed′ : List ℤ) → Startable job rate list work end
+      → Pushed work (frontOf list end) (job .ready) rate other pushed′ → PushedBy job rate list work (movedTo other end) pushed′
 
 -- Case 2, as the code does it: the pushed list is laid behind the list, or joined with it.
 pub record Merges (job : Terms) (rate : Rate) (list : Prefix) (work pushed : List ℤ) : Type 0 where
-  pub lay : (other : Prefix) (pushed′ : List ℤ) → length pushed′ ≡ length pushed → PushedBy job rate list work other pushed′
+  pub lay : (other : Moved) (pushed′ : List ℤ) → length pushed′ ≡ length pushed → PushedBy job rate list work other pushed′
       → CanLay (endOf list) pushed′ (other .place) (other .count) work
-  pub laid : (other : Prefix) (pushed′ after : List ℤ) → length pushed′ ≡ length pushed
+  pub laid : (other : Moved) (pushed′ after : List ℤ) → length pushed′ ≡ length pushed
       → PushedBy job rate list work other pushed′ → job .critical ≡ true
       → Laid (endOf list) pushed′ (other .place) (other .count) work after
       → Stepped job rate list work (record { place = endOf list; count = other .count }) after pushed′
-  pub join : (other : Prefix) (pushed′ : List ℤ) → length pushed′ ≡ length pushed → PushedBy job rate list work other pushed′
-      → job .critical ≡ false → CanJoin work list pushed′ other
-  pub joined : (other r : Prefix) (pushed′ after : List ℤ) → length pushed′ ≡ length pushed
-      → PushedBy job rate list work other pushed′ → job .critical ≡ false → Joined work list pushed′ other r after
+  pub join : (other : Moved) (pushed′ : List ℤ) → length pushed′ ≡ length pushed → PushedBy job rate list work other pushed′
+      → job .critical ≡ false → CanJoin work list (other .cut) pushed′ (pushedAs other)
+  pub joined : (other : Moved) (r : Prefix) (pushed′ after : List ℤ) → length pushed′ ≡ length pushed
+      → PushedBy job rate list work other pushed′ → job .critical ≡ false → Joined work list pushed′ (pushedAs other) r after
       → Stepped job rate list work r after pushed′
 
 -- The cases of a list that has a point: what the tests read, and what each case asks and gives.
@@ -471,8 +479,13 @@ module _ {job : Terms} {rate : Rate} {work pushed : List ℤ} where
   pushes-at place (suc m) c =
       let g = c .step in
       record {
-        last = last-free g (c .can);
+        seek = record {
+          told = record { ends = g .ends; most = g .fits .most };
+          last = last-free g (c .can);
+          room = omega (arith, g .room);
+        };
         push = λ end a. can-push g (c .can) a;
+        fits = λ end other pushed′ a p. cut-fits g (c .can) a p;
         gives = λ end other pushed′ a p. pushes-by g (c .can) a p;
       }
 

@@ -7,16 +7,18 @@ use lib.IntN.{ℤ, pos, _-ℤ_}
 use lib.Signed.{ltZ}
 use lib.ListN.{length, set}
 use Rattle.seconds.specs.Limits.{longest, mostWeight}
-use Rattle.seconds.specs.Ranges.{InTime}
+use Rattle.seconds.specs.Ranges.{InTime, InFree}
 use Rattle.order.specs.Job.{Job, oneRate, Point}
 use Rattle.profile.specs.Rising.{Rising}
 use Rattle.points.specs.Steps.{pushedBy, tooLate, stepBy}
 use Rattle.codes.specs.declared.Prefix.{Prefix}
-use Rattle.codes.specs.Code.{pointOf, pastAll, at0, pointsAt, endOf}
-use Rattle.codes.specs.Held.{Held}
+use Rattle.codes.specs.Code.{pointOf, limitOf, pastAll, at0, pointsAt, endOf}
+use Rattle.codes.specs.Held.{Held, After}
 use Rattle.pushing.specs.declared.Rate.{Rate}
 use Rattle.pushing.specs.Pushes.{top, Coded, RateFits, jobRate, deltaOf, waitedAs}
+use Rattle.merging.specs.Joins.{CutAt}
 use Rattle.stepping.specs.declared.Terms.{Terms}
+use Rattle.stepping.specs.declared.Moved.{Moved}
 
 -- A job by its terms, at one rate; its own number does not count here.
 abbrev pub jobOf : Terms → Rate → Job
@@ -30,9 +32,9 @@ stepped job rate ps = stepBy (jobOf job rate) (jobRate rate) ps
 abbrev pub lastStart : Terms → Rate → ℤ
 lastStart job rate = job .deadline -ℤ pos (rate .takes)
 
--- The buffer of a pushed list: a number past all stands at its top.
+-- The buffer of a pushed list: a number past all stands at its top, and one more behind it.
 pub record Buffer (pushed : List ℤ) : Type 0 where
-  pub room : top < length pushed
+  pub room : top + 1 < length pushed
   pub past : at0 pushed top ≡ pastAll
 
 -- A list of points stands there, and the job is within the limits with each of them.
@@ -44,7 +46,7 @@ pub record CanStep (job : Terms) (rate : Rate) (list : Prefix) (work pushed : Li
   pub fits : RateFits rate
   pub light : (p : Point) → In p (pointsAt work list) → p .weight + rate .gain ≤ mostWeight
   pub room : endOf list + list .count ≤ length work
-  pub roomMore : job .critical ≡ false → endOf list + 303 < length work
+  pub roomMore : job .critical ≡ false → endOf list + 319 < length work
   pub buffer : Buffer pushed
 
 -- The list after the job stands behind or in place of the list before it; the part in use stays, and grows by no more than
@@ -86,20 +88,34 @@ pub record Added (job : Terms) (rate : Rate) (list : Prefix) (work : List ℤ) (
   pub told : r ≡ withOne (job .critical) list
   pub written : work′ ≡ set work (endOf list) (waitedAs (job .ready) (deltaOf rate) (at0 work (endOf list - 1)))
 
+-- The points from which the job can still start are those up to a place, and it can be found.
+pub record CanSeek (job : Terms) (rate : Rate) (list : Prefix) (work : List ℤ) : Type 0 where
+  pub told : CanEnd job rate
+  pub last : InFree (lastStart job rate)
+  pub room : endOf list ≤ length work
+
+abbrev pub Startable : Terms → Rate → Prefix → List ℤ → ℕ → Type 0
+Startable job rate list work end = After work (list .place) (endOf list) (limitOf (lastStart job rate)) end
+
 -- The list can be pushed by the job: it has a point, and the job can start from it.
 pub record CanPushBy (job : Terms) (rate : Rate) (list : Prefix) (work pushed : List ℤ) : Type 0 where
   pub step : CanStep job rate list work pushed
   pub some : 1 ≤ list .count
   pub can : tooLate (jobOf job rate) (jobRate rate) (pointOf (at0 work (list .place))) ≡ false
 
--- The list pushed by the job at the rate stands before the top of the buffer; it has a point, and no more than the list.
-pub record PushedBy (job : Terms) (rate : Rate) (list : Prefix) (work : List ℤ) (r : Prefix) (pushed : List ℤ) : Type 0 where
+-- The list pushed by the job at the rate stands before the top of the buffer; it has a point, and no more than the list, which is
+-- cut where all in front goes before it.
+abbrev pub pushedAs : Moved → Prefix
+pushedAs r = record { place = r .place; count = r .count }
+
+pub record PushedBy (job : Terms) (rate : Rate) (list : Prefix) (work : List ℤ) (r : Moved) (pushed : List ℤ) : Type 0 where
   pub held : Held pushed (r .place) (pushedBy (jobOf job rate) (jobRate rate) (pointsAt work list))
   pub counted : r .count ≡ length (pushedBy (jobOf job rate) (jobRate rate) (pointsAt work list))
   pub some : 1 ≤ r .count
   pub few : r .count ≤ list .count
-  pub ends : endOf r ≡ top
+  pub ends : endOf (pushedAs r) ≡ top
   pub past : at0 pushed top ≡ pastAll
+  pub cut : CutAt work list (r .cut) (at0 pushed (r .place))
 
 -- Case 2: it can be pushed, and its last point is not before the job is ready.
 pub record CanMerge (job : Terms) (rate : Rate) (list : Prefix) (work pushed : List ℤ) : Type 0 where

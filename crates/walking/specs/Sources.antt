@@ -16,6 +16,7 @@ use Rattle.seconds.specs.Signed.{signed, minZ, min-is, sub-is, abs-is, one-zero
 use Rattle.order.specs.Job.{Job, Point, Rate, oneRate, rateOf, gainOf}
 use Rattle.order.specs.Within.{JobWithin}
 use Rattle.order.specs.Moves.{latestAt, latestBefore, lastStart}
+use Rattle.profile.specs.Profile.{lookup}
 use Rattle.packed.specs.Packed.{jobOf, isCritical}
 use Rattle.fields.specs.declared.Job.{Job as Numbers}
 use Rattle.fields.specs.Fields.{fieldsOf, asJob}
@@ -42,6 +43,11 @@ latest-in-range j (some r) by e w h d = cases (leZ (j .ready) (lastStart j r by)
     (λ a. nothing-there (rw a at d))
 
 -- ---- the source that is found
+
+-- Lists with the same last point by the time give the same.
+pub source-same : (j : Job) (ps qs : List Point) (w : ℕ) (by : ℤ) → lookup ps by ≡ lookup qs by
+    → sourceIn j ps w by ≡ sourceIn j qs w by
+source-same j ps qs w by e = rw e
 
 -- Kept: as much weight is still wanted as the job counts, and the time is its latest.
 record Kept (j : Job) (w : ℕ) (by : ℤ) (s : Source) : Type 0 where
@@ -87,7 +93,7 @@ job-written j = refl
 
 module _ (j : Numbers) (bit : ℕ) (list : List Point) (trail : Trail) where
   -- Left out: the trail stays.
-  pub step-left : leavesOut (isCritical (fieldsOf j)) list (trail .weight) (trail .by) ≡ true
+  step-left : leavesOut (isCritical (fieldsOf j)) list (trail .weight) (trail .by) ≡ true
       → stepBack (asJob j) bit list trail ≡ some trail
   step-left h =
       let m : trail .mask + 0 * bit ≡ trail .mask = omega arith in
@@ -103,7 +109,7 @@ module _ (j : Numbers) (bit : ℕ) (list : List Point) (trail : Trail) where
       (λ a. nothing-there (rw a at h))
 
   -- Kept: its bit is set, its weight is accounted for, and the bus must be free by its last start.
-  pub step-kept : JobFacts j → (s : Source) → sourceIn (asJob j) list (trail .weight) (trail .by) ≡ some s
+  step-kept : JobFacts j → (s : Source) → sourceIn (asJob j) list (trail .weight) (trail .by) ≡ some s
       → leavesOut (isCritical (fieldsOf j)) list (trail .weight) (trail .by) ≡ false
       → (natAbs (j .weight) ≤ trail .weight)
       × (stepBack (asJob j) bit list trail
@@ -120,3 +126,18 @@ module _ (j : Numbers) (bit : ℕ) (list : List Point) (trail : Trail) where
       let long : pos (natAbs z) ≡ z = omega (signed, abs-is z, one-zero z, f .long) in
       let is : s ≡ keptBy last = kept .is ∙ ap keptBy (last-of (s .latest) (kept .last)) in
       (kept .light, rw (job-written j, there, is, m, long))
+
+  -- The step back by the test: each number is the one for a job left out or the one for a job kept.
+  pub step-either : JobFacts j → (s : Source) → sourceIn (asJob j) list (trail .weight) (trail .by) ≡ some s
+      → (left : Bool) → leavesOut (isCritical (fieldsOf j)) list (trail .weight) (trail .by) ≡ left
+      → (cond left 0 (natAbs (j .weight)) ≤ trail .weight)
+      × (stepBack (asJob j) bit list trail
+      ≡ some (record {
+        mask = trail .mask + cond left 0 bit;
+        weight = trail .weight - cond left 0 (natAbs (j .weight));
+        by = cond left (trail .by) (lastStartOf (j .length) (j .deadline) (trail .by));
+      }))
+  step-either f s found true h =
+      let m : trail .mask + 0 ≡ trail .mask = omega arith in
+      (omega arith, step-left h ∙ rw (m, sub-zero (trail .weight)))
+  step-either f s found false h = step-kept f s found h

@@ -12,11 +12,10 @@ use lib.Pow.{pow-pos, pow-mono}
 use lib.Seq.{take-all}
 use Rattle.seconds.specs.Ranges.{InFree}
 use Rattle.order.specs.Job.{Job, Point, gainOf}
-use Rattle.order.specs.Choice.{Choice, bitOf, maskOf, mask, outcomes}
+use Rattle.order.specs.Choice.{Choice, bitOf, maskOf, mask}
 use Rattle.order.specs.Within.{JobWithin}
-use Rattle.profile.specs.Profile.{extend, startPoint}
+use Rattle.profile.specs.Profile.{lookup, extend, startPoint}
 use Rattle.profile.specs.Rising.{rising-one}
-use Rattle.profile.specs.Points.{profileOf-rises}
 use Rattle.packed.specs.Packed.{jobFields, countOf, t0Of, jobsIn}
 use Rattle.fields.specs.declared.Job.{Job as Numbers}
 use Rattle.fields.specs.Fields.{fieldsOf, asJob}
@@ -29,13 +28,11 @@ use Rattle.points.specs.PrefixLaws.{Singles, list-is}
 use Rattle.points.specs.Walk.{sourceIn, foldLists, walkLists}
 use Rattle.points.specs.WalkLaws.{fold-lists-is}
 use Rattle.codes.specs.Code.{listAt}
-use Rattle.codes.specs.HeldLaws.{held-read}
-use Rattle.reading.specs.Reading.{Stands}
-use Rattle.filling.specs.ListsLaws.{jobs-single}
+use Rattle.filling.specs.ListsLaws.{jobs-single, lists-stand}
 use Rattle.walking.specs.declared.Trail.{Trail}
 use Rattle.walking.specs.declared.End.{End}
 use Rattle.walking.specs.Trail.{StepsBack, trailBefore, stepBack, Walks, walkMask}
-use Rattle.walking.specs.Sources.{source-in-range}
+use Rattle.walking.specs.Sources.{source-same, source-in-range}
 
 -- The bits of a mask with so many empty places below, and the worth of the next one.
 abbrev bitsAt : ℕ → ℕ → Bits
@@ -133,8 +130,8 @@ module _ {js : List Job} {P : List Point} {weight : ℕ} {by : ℤ} {k : ℕ} {j
     on-fits : trail .mask < 2 ^ (63 - k)
     on-fits = rw bit-is at (on .fits)
 
-    -- The list before the job is known.
-    module _ {list : List Point} (is : listAfter (take k js) P ≡ list) where
+    -- A list is known that has the last point of the list before the job by the trail's time.
+    module _ (list : List Point) (is : lookup (listAfter (take k js) P) (trail .by) ≡ lookup list (trail .by)) where
       -- The jobs before it, from the last to the first, and the walk over them from a source.
       abbrev before : List Job
       before = reverse (take k js)
@@ -147,8 +144,10 @@ module _ {js : List Job} {P : List Point} {weight : ℕ} {by : ℤ} {k : ℕ} {j
       goes-on : onward (sourceIn j list (trail .weight) (trail .by)) further
           ≡ foldLists withPick (reverse js) P weight by (bitsAt (length js) 0)
       goes-on =
-          let asked : listAfter (reverse before) P ≡ list = rw (reverse-reverse (take k js)) is in
-          ap (λ (ps : List Point). onward (sourceIn j ps (trail .weight) (trail .by)) further) (sym asked)
+          let asked : lookup (listAfter (reverse before) P) (trail .by) ≡ lookup list (trail .by) =
+          rw (reverse-reverse (take k js)) is in
+          ap (λ (o : Option Source). onward o further)
+          (sym (source-same j (listAfter (reverse before) P) list (trail .weight) (trail .by) asked))
           ∙ rw (back-more js k there) at (on .same)
 
       -- So where the whole walk gives a choice, a source is found,
@@ -236,7 +235,7 @@ module _ {work : List ℤ} {bytes : List ℕ} {n : ℕ} {places counts : List �
       there : getElem? js k ≡ some (asJob numbers)
       there = job-there bytes k below numbers read
 
-      -- The list before the job stands in the work area.
+      -- The points of the list before the job stand in the work area.
       abbrev place : ℕ
       place = getD places k 0
 
@@ -246,22 +245,12 @@ module _ {work : List ℤ} {bytes : List ℕ} {n : ℕ} {places counts : List �
       within : k ≤ n
       within = omega (arith, below, w .count)
 
-      list-there : listAt work place count ≡ extend P (take k js)
-      list-there = rw (w .lists .counted k within) (held-read (w .lists .held k within))
-
-      stands : Stands work place count
-      stands =
-          record {
-            held = rw list-there (w .lists .held k within);
-            rises = rw list-there (profileOf-rises (outcomes (take k js) P));
-            room = omega (arith, w .lists .ends k within, w .room);
-          }
-
-      -- It is the list that the walk asks.
-      list-asked : listAfter (take k js) P ≡ listAt work place count
-      list-asked =
+      -- They have the last point of the list that the walk asks, by every time.
+      list-asked : (t : ℤ) → lookup (listAfter (take k js) P) t ≡ lookup (listAt work place count) t
+      list-asked t =
           let one : Singles (take k js) = λ j m. jobs-single bytes (w .order) j (in-take k js m) in
-          list-is (take k js) one (rising-one (startPoint (t0Of bytes))) ∙ sym list-there
+          let is : listAfter (take k js) P ≡ extend P (take k js) = list-is (take k js) one (rising-one (startPoint (t0Of bytes))) in
+          ap (λ (ps : List Point). lookup ps t) is ∙ sym (w .lists .stands k within .says t)
 
       bit-fits : trail .mask + 2 ^ (63 - k) < 2 ^ 64
       bit-fits = omega (arith, on-fits few-jobs there on, pow-mono {i = 63 - k} {j = 63} (omega arith))
@@ -269,16 +258,18 @@ module _ {work : List ℤ} {bytes : List ℕ} {n : ℕ} {places counts : List �
       -- So the code can step back.
       pub can-step : CanStep work bytes place count weight by k numbers trail
       can-step =
-          let f = on-found few-jobs there on list-asked (w .walked) in
+          let list = listAt work place count in
+          let asked = list-asked (trail .by) in
+          let f = on-found few-jobs there on list asked (w .walked) in
           record {
             asks =
                 record {
                   within = job-fine bytes k below numbers read (w .order);
-                  list = stands;
+                  list = lists-stand (w .lists) (w .room) k within;
                   fits = bit-fits;
                   free = on .free;
                   source = f .0;
                   found = f .1;
                 };
-            keeps = on-step few-jobs there on list-asked (f .0) (f .1) (job-limits bytes k below numbers read (w .order));
+            keeps = on-step few-jobs there on list asked (f .0) (f .1) (job-limits bytes k below numbers read (w .order));
           }

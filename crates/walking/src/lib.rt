@@ -7,6 +7,7 @@ use fields::job_in;
 use reading::Found;
 use reading::last_by;
 ghost use mathlib.Core.Path.{_≡_};
+ghost use mathlib.Core.Bool.{cond};
 ghost use mathlib.Core.Option.{some};
 ghost use Prim.Native.Nat.{_-_, _^_, _<_};
 ghost use Rattle.seconds.specs.Limits.{mostJobs};
@@ -63,21 +64,42 @@ fn last_start(long: i32, deadline: i32, by: i32) -> i32
     lesser(deadline, end) - long
 }
 
-// One job back: it is left out where the list before it gives the weight in time, else it is kept.
+// One of two times.
+fn either_time(first: bool, x: i32, y: i32) -> i32
+    ensures { λ r. ⌜ r ≡ cond first x y ⌝ }
+{
+    if first { x } else { y }
+}
+
+// No weight if so, else that weight.
+fn no_weight_if(so: bool, weight: usize) -> usize
+    ensures { λ r. ⌜ r ≡ cond so 0 weight ⌝ }
+{
+    if so { 0 } else { weight }
+}
+
+// No bit if so, else that bit.
+fn no_bit_if(so: bool, bit: u64) -> u64
+    ensures { λ r. ⌜ r ≡ cond so 0 bit ⌝ }
+{
+    if so { 0 } else { bit }
+}
+
+// One job back: it is left out where the list before it gives the weight in time, else it is kept. No branch tells which.
 fn step_back(work: &[i32], place: usize, count: usize, bit: u64, job: Job, trail: Trail) -> Trail
     requires { ⌜ StepsBack (now work) place count bit job trail ⌝ }
     ensures { λ r. ⌜ some r ≡ stepBack (asJob job) bit (listAt (now (work .entry)) place count) trail ⌝ }
 {
     let by = trail.by;
-    if leaves(work, place, count, job.critical == 1, trail.weight, by) {
-        return trail;
-    }
-    let gain = job.weight as usize;
+    let weight = trail.weight;
+    let left = leaves(work, place, count, job.critical == 1, weight, by);
     let last = last_start(job.length, job.deadline, by);
+    let gain = no_weight_if(left, job.weight as usize);
+    let worth = no_bit_if(left, bit);
     Trail {
-        mask: trail.mask + bit,
-        weight: trail.weight - gain,
-        by: last,
+        mask: trail.mask + worth,
+        weight: weight - gain,
+        by: either_time(left, by, last),
     }
 }
 

@@ -24,13 +24,13 @@ use Rattle.planner.proofs.plan_by_lists.Tie as tie
 -- ---- the stages of the code, each seen from a later one
 
 abbrev start : tie.After-struct-told → tie.Start
-start read = read .before .before .before .before .before .before
+start read = read .before .before .before .before .before
 
 abbrev begun : tie.After-work → tie.After-start-at
 begun back = back .before
 
 abbrev filled : tie.After-last-by-arg → tie.After-fill-lists
-filled read = read .before .before .before .before .before .before .before .before .before
+filled read = read .before .before .before .before .before .before .before .before
 
 -- ---- the first list is started
 
@@ -41,18 +41,12 @@ t0-back s =
     let fits : SFits w32 (s .args .header .t0) = rw (p .read .t0) (time-fits (p .order .header .timely)) in
     toZ-ofZ fits
 
-buffer-requires : tie.Need-buffer-requires
-buffer-requires c κs = search needs
-
 start-at-requires : tie.Need-start-at-requires
 start-at-requires c κs = let s = start c in rw (t0-back s) (can-start (s .pre))
 
 module _ (c : tie.After-start-at) where
   abbrev entry : tie.Start
   entry = start (c .before)
-
-  abbrev buffered : tie.After-buffer
-  buffered = c .before .before .before
 
   abbrev first : List ℤ
   first = c .start-at .last .0
@@ -65,17 +59,14 @@ module _ (c : tie.After-start-at) where
 
 -- ---- all lists are filled
 
-slice-aggregate-fill-lists : tie.Need-slice-aggregate-fill-lists
-slice-aggregate-fill-lists c = search needs
-
 fill-lists-requires : tie.Need-fill-lists-requires
 fill-lists-requires c κs =
-    let from : tie.After-start-at = begun (c .before .before .before .before) in
-    can-fill (entry from .pre) (sized from) (started from) (buffered from .buffer .ensures)
+    let from : tie.After-start-at = begun (c .before .before .before) in
+    can-fill (entry from .pre) (sized from) (started from)
 
 module _ (c : tie.After-fill-lists) where
   abbrev from : tie.After-start-at
-  from = begun (c .before .before .before .before .before)
+  from = begun (c .before .before .before .before)
 
   abbrev all : List ℤ
   all = c .fill-lists .last .0
@@ -201,9 +192,7 @@ pub plan-by-lists-spec : {M : Type 1} → statement M
 plan-by-lists-spec =
     tie.close
     (tie.spec
-    buffer-requires
     start-at-requires
-    slice-aggregate-fill-lists
     fill-lists-requires
     mul-place
     slice-read-place

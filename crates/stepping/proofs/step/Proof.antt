@@ -8,9 +8,11 @@ use lib.Signed.{ltZ}
 use mir.Syntax.{w32}
 use mir.Val.{toZ, ofZ}
 use borrow.Author.Needs.{needs}
-use Rattle.seconds.specs.Signed.{maxZ, read-back}
+use Rattle.seconds.specs.Signed.{read-back}
+use Rattle.points.specs.Steps.{tooLate}
 use Rattle.codes.specs.Code.{pointOf, at0, endOf}
-use Rattle.stepping.specs.Stepping.{lastStart}
+use Rattle.pushing.specs.Pushes.{jobRate}
+use Rattle.stepping.specs.Stepping.{jobOf}
 use Rattle.stepping.specs.Cases.{empty-stepped, Starts, starts}
 use Rattle.stepping.proofs.step.Statement.{statement}
 use Rattle.stepping.proofs.step.Tie as tie
@@ -35,9 +37,6 @@ mul-last c = search needs
 
 slice-copy-out-last : tie.Need-slice-copy-out-last
 slice-copy-out-last c = search needs
-
-last-start-requires : tie.Need-last-start-requires
-last-start-requires c κs = search needs
 
 -- A list that has a point.
 module _ (c : tie.Else1) where
@@ -71,65 +70,50 @@ module _ (c : tie.After-last) where
   last-back : toZ w32 (ofZ w32 last) ≡ last
   last-back = read-back last (c .last .given)
 
-time-in-requires : tie.Need-time-in-requires
-time-in-requires c κs = let d = c .before in rw (first-back d) (cases (some d) .first-least)
-
-greater-requires : tie.Need-greater-requires
-greater-requires c κs = search needs
+too-late-requires : tie.Need-too-late-requires
+too-late-requires c κs =
+    let s = start c .pre in
+    (record { ends = s .ends; most = s .fits .most }, rw (first-back c) (cases (some c) .first-least))
 
 left-out-requires : tie.Need-left-out-requires
 left-out-requires c κs = search needs
 
 -- The test of case 1 is that of the definition.
-module _ (c : tie.After-greater) where
+module _ (c : tie.After-too-late) where
   abbrev numbers : tie.After-last
-  numbers = c .before .before .before
+  numbers = c .before
 
-  abbrev entry : tie.Start
-  entry = start numbers
-
-  last-start-is : toZ w32 (ofZ w32 (c .before .before .last-start .result)) ≡ lastStart (entry .args .job) (entry .args .rate)
-  last-start-is =
-      read-back (c .before .before .last-start .result) (c .before .before .last-start .ok) ∙ c .before .before .last-start .ensures
-
-  free-is : toZ w32 (ofZ w32 (c .before .time-in .result)) ≡ pointOf (first numbers) .time
-  free-is =
-      read-back (c .before .time-in .result) (c .before .time-in .ok)
-      ∙ c .before .time-in .ensures ∙ ap (λ (z : ℤ). pointOf z .time) (first-back numbers)
-
-  start-is : toZ w32 (ofZ w32 (c .greater .result)) ≡ maxZ (entry .args .job .ready) (pointOf (first numbers) .time)
-  start-is =
-      read-back (c .greater .result) (c .greater .ok)
-      ∙ c .greater .ensures ∙ ap₂ maxZ (ready-back (some numbers)) free-is
-
-  test-is : ltZ (toZ w32 (ofZ w32 (c .before .before .last-start .result))) (toZ w32 (ofZ w32 (c .greater .result)))
-      ≡ ltZ (lastStart (entry .args .job) (entry .args .rate)) (maxZ (entry .args .job .ready) (pointOf (first numbers) .time))
-  test-is = ap₂ ltZ last-start-is start-is
+  test-is : c .too-late .result
+      ≡ tooLate (jobOf (start numbers .args .job) (start numbers .args .rate)) (jobRate (start numbers .args .rate)) (pointOf (first numbers))
+  test-is =
+      c .too-late .ensures
+      ∙ ap (λ (z : ℤ). tooLate (jobOf (start numbers .args .job) (start numbers .args .rate)) (jobRate (start numbers .args .rate)) (pointOf z))
+      (first-back numbers)
 
 returns-2 : tie.Need-returns-2
 returns-2 c =
     let d = c .before .before in
     rw (c .left-out .ensures) (cases (some (numbers d)) .late (sym (test-is d) ∙ c .before .if2 .taken))
 
-time-in-requires-2 : tie.Need-time-in-requires-2
-time-in-requires-2 c κs = let d = numbers (c .before) in rw (last-back d) (cases (some d) .last-least)
+time-in-requires : tie.Need-time-in-requires
+time-in-requires c κs = let d = numbers (c .before) in rw (last-back d) (cases (some d) .last-least)
 
 -- The test of case 3 is too.
-module _ (c : tie.After-time-in2) where
-  abbrev past : tie.After-greater
+module _ (c : tie.After-time-in) where
+  abbrev past : tie.After-too-late
   past = c .before .before
 
-  can-start : ltZ (lastStart (entry past .args .job) (entry past .args .rate))
-      (maxZ (entry past .args .job .ready) (pointOf (first (numbers past)) .time)) ≡ false
+  can-start : tooLate (jobOf (start (numbers past) .args .job) (start (numbers past) .args .rate))
+      (jobRate (start (numbers past) .args .rate)) (pointOf (first (numbers past))) ≡ false
   can-start = sym (test-is past) ∙ c .before .if2 .left
 
-  last-time-is : toZ w32 (ofZ w32 (c .time-in2 .result)) ≡ pointOf (last (numbers past)) .time
+  last-time-is : toZ w32 (ofZ w32 (c .time-in .result)) ≡ pointOf (last (numbers past)) .time
   last-time-is =
-      read-back (c .time-in2 .result) (c .time-in2 .ok)
-      ∙ c .time-in2 .ensures ∙ ap (λ (z : ℤ). pointOf z .time) (last-back (numbers past))
+      read-back (c .time-in .result) (c .time-in .ok)
+      ∙ c .time-in .ensures ∙ ap (λ (z : ℤ). pointOf z .time) (last-back (numbers past))
 
-  early-is : ltZ (toZ w32 (ofZ w32 (c .time-in2 .result))) (toZ w32 (ofZ w32 (entry past .args .job .ready)))
-      ≡ ltZ (pointOf (last (numbers past)) .time) (entry past .args .job .ready)
+  early-is : ltZ (toZ w32 (ofZ w32 (c .time-in .result))) (toZ w32 (ofZ w32 (start (numbers past) .args .job .ready)))
+      ≡ ltZ (pointOf (last (numbers past)) .time) (start (numbers past) .args .job .ready)
   early-is = ap₂ ltZ last-time-is (ready-back (some (numbers past)))
 
 add-one-requires : tie.Need-add-one-requires
@@ -171,12 +155,10 @@ step-spec =
     sub-last
     mul-last
     slice-copy-out-last
-    last-start-requires
-    time-in-requires
-    greater-requires
+    too-late-requires
     left-out-requires
     returns-2
-    time-in-requires-2
+    time-in-requires
     add-one-requires
     same-length
     returns-3

@@ -1,10 +1,11 @@
--- `walking::step_back` meets its contract: the test is that of the job's source, and a job that is not left out is kept.
--- Assumes nothing.
-use Prim.Native.Nat.{_+_, _-_, _≤_}
-use mathlib.Core.Path.{_≡_, sym, ap₂, _∙_}
-use mathlib.Core.Bool.{Bool}
+-- `walking::step_back` meets its contract: the test is that of the job's source, and each number is the one for a job left out
+-- or the one for a job kept. Assumes nothing.
+use Prim.Native.Nat.{ℕ, _+_, _-_, _≤_}
+use mathlib.Core.Path.{_≡_, sym, ap, ap₂, _∙_}
+use mathlib.Core.Bool.{Bool, true, false, cond}
 use mathlib.Core.List.{List}
-use mathlib.Core.Option.{some}
+use mathlib.Core.Option.{Option, some}
+use native.Mathlib.Omega.{arith}
 use lib.IntN.{ℤ, natAbs}
 use mir.Syntax.{w32}
 use mir.Val.{toZ, ofZ}
@@ -17,8 +18,9 @@ use Rattle.packed.specs.Packed.{isCritical}
 use Rattle.fields.specs.Fields.{fieldsOf, asJob}
 use Rattle.fields.specs.Facts.{JobFacts, job-facts, JobFits, facts-fit, mark-bits}
 use Rattle.codes.specs.Code.{listAt}
+use Rattle.walking.specs.declared.Trail.{Trail}
 use Rattle.walking.specs.Trail.{leavesOut, lastStartOf, stepBack}
-use Rattle.walking.specs.Sources.{step-left, step-kept}
+use Rattle.walking.specs.Sources.{step-either}
 use Rattle.walking.proofs.step_back.Statement.{statement}
 use Rattle.walking.proofs.step_back.Tie as tie
 
@@ -45,6 +47,10 @@ module _ (s : tie.Start) where
   abbrev list : List Point
   list = listAt (s .args .work .now) (s .args .place) (s .args .count)
 
+  -- The last start of the job.
+  abbrev last : ℤ
+  last = lastStartOf (s .args .job .length) (s .args .job .deadline) (s .args .trail .by)
+
 -- ---- the test
 
 module _ (c : tie.After-leaves) where
@@ -59,42 +65,25 @@ module _ (c : tie.After-leaves) where
       ∙ ap₂ (λ (b : Bool) (t : ℤ). leavesOut b (list entry) (entry .args .trail .weight) t)
       (mark-bits (entry .args .job .critical) (facts entry .critical)) (by-back entry)
 
--- Left out.
-returns : tie.Need-returns
-returns c =
-    let d = c .before in
-    let s = entry d in
-    sym (step-left (s .args .job) (s .args .bit) (list s) (s .args .trail) (sym (left-is d) ∙ c .if1 .taken))
+  abbrev left : Bool
+  left = c .leaves .result
 
--- Kept.
-module _ (c : tie.Else1) where
-  abbrev start : tie.Start
-  start = entry (c .before)
-
-  abbrev last : ℤ
-  last = lastStartOf (start .args .job .length) (start .args .job .deadline) (start .args .trail .by)
-
-  kept-is : (natAbs (start .args .job .weight) ≤ start .args .trail .weight)
-      × (stepBack (asJob (start .args .job)) (start .args .bit) (list start) (start .args .trail)
+  -- The step back, whichever it is.
+  step-is : (cond left 0 (natAbs (entry .args .job .weight)) ≤ entry .args .trail .weight)
+      × (stepBack (asJob (entry .args .job)) (entry .args .bit) (list entry) (entry .args .trail)
       ≡ some (record {
-        mask = start .args .trail .mask + start .args .bit;
-        weight = start .args .trail .weight - natAbs (start .args .job .weight);
-        by = last;
+        mask = entry .args .trail .mask + cond left 0 (entry .args .bit);
+        weight = entry .args .trail .weight - cond left 0 (natAbs (entry .args .job .weight));
+        by = cond left (entry .args .trail .by) (last entry);
       }))
-  kept-is =
-      step-kept (start .args .job) (start .args .bit) (list start) (start .args .trail) (facts start) (start .pre .source)
-      (start .pre .found) (sym (left-is (c .before)) ∙ c .if1 .left)
-
-cast-gain : tie.Need-cast-gain
-cast-gain c =
-    let kept : tie.Else1 = c .before .before in
-    let s = start kept in
-    rw (weight-back s) (omega (signed, facts s .weight, abs-is (s .args .job .weight)))
+  step-is =
+      step-either (entry .args .job) (entry .args .bit) (list entry) (entry .args .trail) (facts entry) (entry .pre .source)
+      (entry .pre .found) left (sym left-is)
 
 last-start-requires : tie.Need-last-start-requires
 last-start-requires c κs =
-    let kept : tie.Else1 = c .before .before .before .before in
-    let s = start kept in
+    let told : tie.After-leaves = c .before .before in
+    let s = entry told in
     let f = facts s in
     let g = fitting s in
     record {
@@ -103,36 +92,112 @@ last-start-requires c κs =
       free = omega (signed, s .pre .free, by-back s);
     }
 
--- The last start that the call gives.
-abbrev kept-by : tie.After-last-start → tie.Else1
-kept-by c = c .before .before .before .before .before
+-- ---- the last start that the call gives
 
-last-is : (c : tie.After-last-start) → toZ w32 (ofZ w32 (c .last-start .result)) ≡ last (kept-by c)
-last-is c =
-    let s = start (kept-by c) in
-    let long = toZ w32 (ofZ w32 (s .args .job .length)) in
-    let deadline = toZ w32 (ofZ w32 (s .args .job .deadline)) in
-    let by = toZ w32 (ofZ w32 (s .args .trail .by)) in
-    let made : c .last-start .result ≡ lastStartOf long deadline by = c .last-start .ensures in
-    read-back (c .last-start .result) (c .last-start .ok)
-    ∙ made
-    ∙ rw (toZ-ofZ (fitting s .long), toZ-ofZ (fitting s .deadline), by-back s)
+module _ (c : tie.After-last-start) where
+  abbrev tested : tie.After-leaves
+  tested = c .before .before .before
 
-add-t12 : tie.Need-add-t12
-add-t12 c = search needs
+  last-is : toZ w32 (ofZ w32 (c .last-start .result)) ≡ last (entry tested)
+  last-is =
+      let s = entry tested in
+      let long = toZ w32 (ofZ w32 (s .args .job .length)) in
+      let deadline = toZ w32 (ofZ w32 (s .args .job .deadline)) in
+      let by = toZ w32 (ofZ w32 (s .args .trail .by)) in
+      let made : c .last-start .result ≡ lastStartOf long deadline by = c .last-start .ensures in
+      read-back (c .last-start .result) (c .last-start .ok)
+      ∙ made
+      ∙ rw (toZ-ofZ (fitting s .long), toZ-ofZ (fitting s .deadline), by-back s)
 
-sub-t13 : tie.Need-sub-t13
-sub-t13 c =
-    let kept = kept-by (c .before .before) in
-    rw (weight-back (start kept)) (kept-is kept .0)
+cast-no-weight-if : tie.Need-cast-no-weight-if
+cast-no-weight-if c =
+    let s = entry (tested (c .before .before)) in
+    rw (weight-back s) (omega (signed, facts s .weight, abs-is (s .args .job .weight)))
 
-returns-2 : tie.Need-returns-2
-returns-2 c =
-    let told : tie.After-last-start = c .before .before in
-    let kept = kept-by told in
-    rw (last-is told, weight-back (start kept)) (sym (kept-is kept .1))
+no-weight-if-requires : tie.Need-no-weight-if-requires
+no-weight-if-requires c κs = search needs
+
+no-bit-if-requires : tie.Need-no-bit-if-requires
+no-bit-if-requires c κs = search needs
+
+-- ---- what the job gives
+
+-- A number or none is at most the number.
+at-most : (b : Bool) (n : ℕ) → cond b 0 n ≤ n
+at-most true n = omega arith
+at-most false n = omega arith
+
+module _ (c : tie.After-no-bit-if) where
+  abbrev weighed : tie.After-no-weight-if
+  weighed = c .before
+
+  abbrev told : tie.After-last-start
+  told = weighed .before .before .before
+
+  abbrev start : tie.Start
+  start = entry (tested told)
+
+  abbrev out : Bool
+  out = left (tested told)
+
+  worth-is : c .no-bit-if .result ≡ cond out 0 (start .args .bit)
+  worth-is = c .no-bit-if .ensures
+
+  gain-is : weighed .no-weight-if .result ≡ cond out 0 (natAbs (start .args .job .weight))
+  gain-is = rw (weight-back start) at (weighed .no-weight-if .ensures)
+
+add-t15 : tie.Need-add-t15
+add-t15 c =
+    let d : tie.After-no-bit-if = c .before in
+    let s = start d in
+    let fits = s .pre .fits in
+    let most = at-most (out d) (s .args .bit) in
+    rw (worth-is d) (omega (arith, fits, most))
+
+sub-t14 : tie.Need-sub-t14
+sub-t14 c =
+    let d : tie.After-no-bit-if = c .before in
+    rw (gain-is d) (step-is (tested (told d)) .0)
+
+either-time-requires : tie.Need-either-time-requires
+either-time-requires c κs = search needs
+
+-- ---- the trail before the job
+
+-- By its three numbers.
+same-trail : {k m v w : ℕ} {t u : ℤ} → k ≡ m → v ≡ w → t ≡ u
+    → Path (Option Trail) (some (record { mask = k; weight = v; by = t })) (some (record { mask = m; weight = w; by = u }))
+same-trail e f g = rw (e, f, g)
+
+module _ (c : tie.After-either-time) where
+  abbrev given : tie.After-no-bit-if
+  given = c .before .before
+
+  time-is : toZ w32 (ofZ w32 (c .either-time .result))
+      ≡ cond (out given) (start given .args .trail .by) (last (start given))
+  time-is =
+      read-back (c .either-time .result) (c .either-time .ok)
+      ∙ c .either-time .ensures
+      ∙ ap₂ (λ (x y : ℤ). cond (out given) x y) (by-back (start given)) (last-is (told given))
+
+returns : tie.Need-returns
+returns c =
+    let d : tie.After-no-bit-if = given c in
+    let s = start d in
+    same-trail (ap (λ (n : ℕ). s .args .trail .mask + n) (worth-is d)) (ap (λ (n : ℕ). s .args .trail .weight - n) (gain-is d))
+    (time-is c)
+    ∙ sym (step-is (tested (told d)) .1)
 
 pub step-back-spec : {M : Type 1} → statement M
 step-back-spec =
     tie.close
-    (tie.spec leaves-requires returns cast-gain last-start-requires add-t12 sub-t13 returns-2)
+    (tie.spec
+    leaves-requires
+    last-start-requires
+    cast-no-weight-if
+    no-weight-if-requires
+    no-bit-if-requires
+    add-t15
+    sub-t14
+    either-time-requires
+    returns)
