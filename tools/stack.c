@@ -13,7 +13,8 @@
 
 #define STACK (1 << 18)
 #define PAINT 0xA5
-#define INPUTS 5
+#define INPUTS 6
+#define WIDE 4 /* the input with windows that every choice meets */
 #define POINTS (LEAFANCHOR_PROFILE_ROOM / 2)
 
 static unsigned char *stack;
@@ -215,23 +216,28 @@ static void make_repeating(void)
     }
 }
 
-/* 48 jobs with windows that overlap, critical halves and behind each its optional one, so that every call goes all the
- * way; packed with 48 jobs that have packs, 24 that have none, 1 and no jobs, and one order that is refused; and the
+/* The numbers of an input's jobs: critical halves and behind each its optional one, so that every call goes all the way.
+ * Windows overlap, or are so wide that lists grow long and go by cells. */
+static void make_jobs(size_t input)
+{
+    for (int32_t place = 0; place < LEAFANCHOR_MOST_JOBS; place++) {
+        const int32_t pair = place / 2, pack = input == 1 ? 0 : 255 - place;
+        const int32_t ready = input == WIDE ? 0 : 100 * place, deadline = input == WIDE ? 60000 : ready + 1000;
+        const int32_t weight = input == WIDE ? 1 + pair % 12 : 12;
+        const int32_t critical[] = {pair, pack, 1, 0, ready, 150, deadline};
+        const int32_t optional[] = {pair + LEAFANCHOR_HALVES_APART, pack, 0, weight, ready, 60 * weight, deadline};
+        memcpy(&numbers[LEAFANCHOR_JOB_NUMBERS * place], place % 2 == 0 ? critical : optional, sizeof critical);
+    }
+}
+
+/* 48 jobs that have packs, 24 that have none, 1 and no jobs, 48 with wide windows, and one order that is refused; and the
  * packed plan of each. */
 static void make_inputs(void)
 {
-    static const size_t counts[INPUTS] = {48, 24, 1, 0, 48};
-    for (int32_t place = 0; place < LEAFANCHOR_MOST_JOBS; place++) {
-        const int32_t pair = place / 2, ready = 100 * place, deadline = ready + 1000;
-        const int32_t critical[] = {pair, 0, 1, 0, ready, 150, deadline};
-        const int32_t optional[] = {pair + LEAFANCHOR_HALVES_APART, 0, 0, 12, ready, 720, deadline};
-        memcpy(&numbers[LEAFANCHOR_JOB_NUMBERS * place], place % 2 == 0 ? critical : optional, sizeof critical);
-    }
+    static const size_t counts[INPUTS] = {48, 24, 1, 0, 48, 48};
     for (size_t input = 0; input < INPUTS; input++) {
         jobs[input] = counts[input];
-        for (int32_t place = 0; place < LEAFANCHOR_MOST_JOBS; place++) {
-            numbers[LEAFANCHOR_JOB_NUMBERS * place + 1] = input % 2 == 0 ? 255 - place : 0; /* the pack */
-        }
+        make_jobs(input);
         bytes[input] = leafanchor_pack(0, numbers, LEAFANCHOR_JOB_NUMBERS * jobs[input], orders[input],
                                        LEAFANCHOR_ORDER_BYTES).bytes;
         plan_bytes[input] = leafanchor_write_plan(orders[input], bytes[input], plans[input], LEAFANCHOR_PLAN_BYTES,

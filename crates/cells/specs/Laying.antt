@@ -39,21 +39,3 @@ pub record CanLower (row pushed : List ℤ) (end : ℕ) (work : List ℤ) (at : 
   pub room : end ≤ length pushed
   pub few : end ≤ 1000
   pub inside : at + end ≤ length work
-
--- The rest of a row can be laid behind so many cells, whose count is known.
-pub record CanLayRest (row : List ℤ) (from end : ℕ) (work : List ℤ) (at counted : ℕ) : Type 0 where
-  pub order : from ≤ end
-  pub some : 1 ≤ from
-  pub size : end ≤ length row
-  pub few : end ≤ 1000
-  pub inside : at + end ≤ length work
-  pub told : counted ≡ risesTo (at0 row) from
-
--- Both together.
-pub record CanLowerAll (row pushed : List ℤ) (ends far : ℕ) (work : List ℤ) (at : ℕ) : Type 0 where
-  pub order : ends ≤ far
-  pub some : 1 ≤ ends
-  pub size : far ≤ length row
-  pub room : ends ≤ length pushed
-  pub few : far ≤ 1000
-  pub inside : at + far ≤ length work

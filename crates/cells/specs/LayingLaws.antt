@@ -5,16 +5,12 @@ use mathlib.Core.Bool.{Bool, true, false, cond}
 use mathlib.Core.List.{List}
 use mathlib.Core.Logic.{⊎-elim}
 use native.Mathlib.Nat.{eq-or-lt-of-le}
-use borrow.Table.Steps.{cases}
 use native.Mathlib.Omega.{arith}
-use lib.Dec.{ltb}
 use lib.IntN.{ℤ, pos}
 use lib.ListN.{length, set, length-set}
 use lib.Seq.{getD-set-same, getD-set-other}
-use Rattle.seconds.specs.Signed.{signed}
 use Rattle.codes.specs.Code.{at0}
-use Rattle.cells.specs.Cells.{Put}
-use Rattle.cells.specs.Laying.{isPoint, before, risesTo, lowered, Laid, CanLayRest, CanLowerAll}
+use Rattle.cells.specs.Laying.{isPoint, before, risesTo, Laid}
 
 pub laid-none : (f : ℕ → ℤ) (from at : ℕ) (work : List ℤ) → Laid f from from at work work
 laid-none f from at work = record { size = refl; laid = λ x a b. absurd (omega arith); stays = λ k h. refl }
@@ -61,30 +57,3 @@ rises-same f g (suc x) h =
     before-same : (x : ℕ) → ((y : ℕ) → y < x → f y ≡ g y) → before f x ≡ before g x
     before-same zero h = refl
     before-same (suc x) h = h x (omega arith)
-
--- ---- both together
-
-module _ {row pushed : List ℤ} {ends far : ℕ} {work : List ℤ} {at : ℕ} (c : CanLowerAll row pushed ends far work at)
-    {row′ : List ℤ} (p : Put (lowered row pushed) 0 ends row row′) {mid : List ℤ} (l : Laid (lowered row pushed) 0 ends at work mid)
-    {n : ℕ} (told : n ≡ risesTo (lowered row pushed) ends)
-  where
-    pub can-lay-rest : CanLayRest row′ ends far mid at n
-    can-lay-rest = record {
-      order = c .order;
-      some = c .some;
-      size = omega (arith, c .size, p .size);
-      few = c .few;
-      inside = omega (arith, c .inside, l .size);
-      told = told ∙ rises-same (lowered row pushed) (at0 row′) ends (λ y h. sym (p .put y (omega arith) h));
-    }
-
-    pub all-laid : {after : List ℤ} → Laid (at0 row′) ends far at mid after → Laid (at0 row′) 0 far at work after
-    all-laid {after} r = record { size = r .size ∙ l .size; laid = laid; stays = λ k h. r .stays k (omega arith) ∙ l .stays k (omega arith) }
-      where
-        laid : (x : ℕ) → 0 ≤ x → x < far → at0 after (at + x) ≡ at0 row′ x
-        laid x a b =
-            cases (ltb x ends)
-            (λ e.
-            let h : x < ends = omega signed in
-            r .stays (at + x) (omega arith) ∙ l .laid x (omega arith) h ∙ sym (p .put x (omega arith) h))
-            (λ e. r .laid x (omega signed) b)

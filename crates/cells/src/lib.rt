@@ -15,7 +15,7 @@ ghost use lib.ListN.{length};
 ghost use Rattle.codes.specs.Code.{at0, lightness, pointsAt, pastAll};
 ghost use Rattle.cells.specs.Cells.{wide, Cells, Put, CanCount, CanRun, CanSpread};
 ghost use Rattle.cells.specs.Cells.{movedOn, CanMove, CanMoveAll, CanPushCells, PushedCells};
-ghost use Rattle.cells.specs.Laying.{risesTo, Laid, CanLower, lowered, CanLayRest, CanLowerAll};
+ghost use Rattle.cells.specs.Laying.{risesTo, Laid, CanLower, lowered};
 
 // The cells of a row.
 pub const WIDE: usize = 320;
@@ -63,12 +63,12 @@ fn put_run(row: &mut [i32], from: usize, end: usize, top: i32)
     }
 }
 
-// No cells up to an end.
-pub fn wipe(row: &mut [i32], end: usize)
-    requires { ⌜ end ≤ length (now row) ⌝ }
-    ensures { λ _. ⌜ Put (λ x. pastAll) 0 end (now (row .entry)) (now (row .exit)) ⌝ }
+// No cells from a place to an end.
+pub fn wipe(row: &mut [i32], from: usize, end: usize)
+    requires { ⌜ (from ≤ end) × (end ≤ length (now row)) ⌝ }
+    ensures { λ _. ⌜ Put (λ x. pastAll) from end (now (row .entry)) (now (row .exit)) ⌝ }
 {
-    let mut x = 0;
+    let mut x = from;
     while x < end {
         row[x] = PAST;
         x += 1;
@@ -98,7 +98,7 @@ pub fn spread(work: &[i32], list: Prefix, row: &mut [i32])
     requires { ⌜ CanSpread (now work) list (now row) ⌝ }
     ensures { λ _. ⌜ Cells (now (row .exit)) (pointsAt (now (work .entry)) list) ⌝ }
 {
-    wipe(row, WIDE);
+    wipe(row, 0, WIDE);
     put_list(work, list, row);
 }
 
@@ -143,7 +143,7 @@ pub fn one_if(so: bool) -> u32
 
 // The lesser of both, cell by cell, laid at a place of the work area too. Returns how many of them are greater than the one
 // before: as many of the cells before the last are points.
-fn lower(row: &mut [i32], pushed: &[i32], end: usize, work: &mut [i32], at: usize) -> u32
+pub fn lower(row: &mut [i32], pushed: &[i32], end: usize, work: &mut [i32], at: usize) -> u32
     requires { ⌜ CanLower (now row) (now pushed) end (now work) at ⌝ }
     ensures row { λ _. ⌜ Put (lowered (now (row .entry)) (now (pushed .entry))) 0 end (now (row .entry)) (now (row .exit)) ⌝ }
     ensures laid { λ _. ⌜ Laid (lowered (now (row .entry)) (now (pushed .entry))) 0 end at (now (work .entry)) (now (work .exit)) ⌝ }
@@ -161,39 +161,4 @@ fn lower(row: &mut [i32], pushed: &[i32], end: usize, work: &mut [i32], at: usiz
         x += 1;
     }
     n
-}
-
-// The cells from a place to an end, laid and counted in the same way, behind those before.
-fn lay_rest(row: &[i32], from: usize, end: usize, work: &mut [i32], at: usize, counted: u32) -> u32
-    requires { ⌜ CanLayRest (now row) from end (now work) at counted ⌝ }
-    ensures laid { λ _. ⌜ Laid (at0 (now (row .entry))) from end at (now (work .entry)) (now (work .exit)) ⌝ }
-    ensures counted { λ r. ⌜ r ≡ risesTo (at0 (now (row .entry))) end ⌝ }
-{
-    let mut n = counted;
-    let mut x = from;
-    while x < end {
-        let cell = row[x];
-        work[at + x] = cell;
-        n += one_if(row[x - 1] < cell);
-        x += 1;
-    }
-    n
-}
-
-// The lesser of both, up to where the pushed cells end, and with the other cells laid up to where all end, and counted.
-pub fn lower_and_lay(
-    row: &mut [i32],
-    pushed: &[i32],
-    ends: usize,
-    far: usize,
-    work: &mut [i32],
-    at: usize,
-) -> u32
-    requires { ⌜ CanLowerAll (now row) (now pushed) ends far (now work) at ⌝ }
-    ensures row { λ _. ⌜ Put (lowered (now (row .entry)) (now (pushed .entry))) 0 ends (now (row .entry)) (now (row .exit)) ⌝ }
-    ensures laid { λ _. ⌜ Laid (at0 (now (row .exit))) 0 far at (now (work .entry)) (now (work .exit)) ⌝ }
-    ensures counted { λ r. ⌜ r ≡ risesTo (at0 (now (row .exit))) far ⌝ }
-{
-    let n = lower(row, pushed, ends, work, at);
-    lay_rest(row, ends, far, work, at, n)
 }

@@ -25,11 +25,12 @@ use Rattle.points.specs.StepLaws.{push-few, step-better}
 use Rattle.codes.specs.declared.Prefix.{Prefix}
 use Rattle.codes.specs.Code.{at0, pointsAt, endOf, lightness, limitOf, pastAll}
 use Rattle.pushing.specs.declared.Rate.{Rate}
-use Rattle.pushing.specs.Pushes.{jobRate, deltaOf}
+use Rattle.pushing.specs.Pushes.{top, jobRate, deltaOf}
 use Rattle.stepping.specs.declared.Terms.{Terms}
 use Rattle.stepping.specs.Stepping.{jobOf, stepped, lastStart, Buffer, CanSeek, Startable, CanStep, Stepped}
 use Rattle.cells.specs.Cells.{cellOf, reach, wide, Cells, Put, CanSpread as CellsSpread, CanPushCells, PushedCells}
-use Rattle.cells.specs.Laying.{risesTo, lowered, Laid, CanLowerAll}
+use Rattle.cells.specs.Laying.{risesTo, lowered, Laid, CanLower}
+use Rattle.cells.specs.LayingLaws.{rises-same}
 use Rattle.cells.specs.CellLaws.{Within, min-first, same-cell, same-reach, append-cell, cell-range, cell-past, in-reach, reach-few, reach-append}
 use Rattle.cells.specs.Spreading.{wiped}
 use Rattle.gathering.specs.Points.{pointsTo, CanGather, Gathered}
@@ -80,26 +81,26 @@ module _ {job : Terms} {rate : Rate} {ps : List Point} (rises : Rising ps) (with
 
     -- ---- its cells: the lesser of those left and those pushed
 
-    module _ {row mid : List ℤ} (pushed′ : List ℤ) (cells : Cells row ps) (w : Wiped (job .critical) row mid) {ends : ℕ}
-        (ends-is : ends ≡ reach (pushedBy j (jobRate rate) ps))
-        (pushed-cell : (y : ℕ) → y < ends → at0 pushed′ y ≡ cellOf (pushedBy j (jobRate rate) ps) y)
+    module _ {row mid : List ℤ} (pushed′ : List ℤ) (cells : Cells row ps) (w : Wiped (job .critical) row mid) {far : ℕ}
+        (far-is : far ≡ max (reach (leaving j ps)) (reach (pushedBy j (jobRate rate) ps)))
+        (pushed-cell : (y : ℕ) → y < far → at0 pushed′ y ≡ cellOf (pushedBy j (jobRate rate) ps) y)
       where
         left-cells : Cells mid (leaving j ps)
         left-cells = w .cells ps cells
 
-        module _ {row′ : List ℤ} (l : Put (lowered mid pushed′) 0 ends mid row′) where
+        module _ {row′ : List ℤ} (l : Put (lowered mid pushed′) 0 far mid row′) where
           both-cell : (x : ℕ) → x < wide → at0 row′ x ≡ cellOf both x
           both-cell x h =
-              cases (leb ends x) (λ e. further (omega signed)) (λ e. inside (omega signed))
+              cases (leb far x) (λ e. further (omega signed)) (λ e. inside (omega signed))
               ∙ sym (append-cell (leaving j ps) (pushedBy j (jobRate rate) ps) pushedIn x)
             where
-              inside : x < ends → at0 row′ x ≡ minZ (cellOf (leaving j ps) x) (cellOf (pushedBy j (jobRate rate) ps) x)
+              inside : x < far → at0 row′ x ≡ minZ (cellOf (leaving j ps) x) (cellOf (pushedBy j (jobRate rate) ps) x)
               inside k = l .put x (omega arith) k ∙ ap₂ minZ (left-cells .cell x h) (pushed-cell x k)
 
-              further : ends ≤ x → at0 row′ x ≡ minZ (cellOf (leaving j ps) x) (cellOf (pushedBy j (jobRate rate) ps) x)
+              further : far ≤ x → at0 row′ x ≡ minZ (cellOf (leaving j ps) x) (cellOf (pushedBy j (jobRate rate) ps) x)
               further k =
                   let past : cellOf (pushedBy j (jobRate rate) ps) x ≡ pastAll =
-                  cell-past (pushedBy j (jobRate rate) ps) x (omega (arith, ends-is)) in
+                  cell-past (pushedBy j (jobRate rate) ps) x (omega (arith, far-is)) in
                   l .behind x k ∙ left-cells .cell x h
                   ∙ sym (ap (minZ (cellOf (leaving j ps) x)) past ∙ min-first (cell-range (leaving j ps) left-within x .high))
 
@@ -110,36 +111,30 @@ module _ {job : Terms} {rate : Rate} {ps : List Point} (rises : Rising ps) (with
           }
 
           -- Laid at a place they say it.
-          pub carried : {used far : ℕ} {work work′ : List ℤ} → far ≡ max (cond (job .critical) 0 (reach ps)) ends → 1 ≤ ends
-              → Laid (at0 row′) 0 far used work work′ → used + far ≤ length work → {n : ℕ} → n ≡ risesTo (at0 row′) far
+          pub carried : {used : ℕ} {work work′ : List ℤ} → 1 ≤ far → Laid (lowered mid pushed′) 0 far used work work′
+              → used + far ≤ length work → {n : ℕ} → n ≡ risesTo (lowered mid pushed′) far
               → Carried (stepped job rate ps) (record { place = used; count = far }) (n + 1) work′ row′
-          carried {used} {far} {work} {work′} far-is some laid room {n} n-is =
+          carried {used} {work} {work′} some laid room {n} n-is =
               subst (λ (qs : List Point). Carried qs (record { place = used; count = far }) (n + 1) work′ row′) (sym after-is) (record {
                 rises = profileOf-rises both;
                 within = new-within;
                 cells = new-cells;
                 says = subst (λ (k : ℕ). Says work′ used k (profileOf both)) (sym is)
-                    (cells-say work′ used (profileOf-rises both) new-within (λ x h. laid .laid x (omega arith) (omega (arith, is))
+                    (cells-say work′ used (profileOf-rises both) new-within
+                    (λ x h. laid .laid x (omega arith) (omega (arith, is)) ∙ sym (l .put x (omega arith) (omega (arith, is)))
                     ∙ new-cells .cell x (omega (arith, new-few))));
                 few = omega (arith, is);
                 counted = omega (
                   arith,
-                  n-is,
+                  n-is ∙ rises-same (lowered mid pushed′) (at0 row′) far (λ x h. sym (l .put x (omega arith) h)),
                   ap (risesTo (at0 row′)) is,
-                  points-counted new-cells (profileOf-rises both) new-within new-few (omega (arith, is, far-is)),
+                  points-counted new-cells (profileOf-rises both) new-within new-few (omega (arith, is)),
                 );
                 room = omega (arith, laid .size);
               })
             where
-              left-reach : reach (leaving j ps) ≡ cond (job .critical) 0 (reach ps)
-              left-reach = go (job .critical)
-                where
-                  go : (c : Bool) → reach (cond c [] ps) ≡ cond c 0 (reach ps)
-                  go true = refl
-                  go false = refl
-
               is : far ≡ reach (profileOf both)
-              is = omega (arith, far-is, new-reach, left-reach, ends-is)
+              is = far-is ∙ sym new-reach
 
 -- ---- a job that cannot start
 
@@ -403,30 +398,52 @@ module _ (job : Terms) (rate : Rate) (list : Prefix) {many points : ℕ} {work r
             go true e d = omega (arith, roomy .room, goes .1, front-reach, can .weightless e)
             go false e d = omega (arith, far-few, roomy .roomMore e)
 
-        pub can-lower : {mid pushed′ : List ℤ} → length mid ≡ wide → Buffer pushed′ → CanLowerAll mid pushed′ (rate .gain + many) far work (endOf list)
-        can-lower e b = record {
-          order = omega (arith, far-is);
-          some = omega arith;
-          size = omega (arith, far-few);
-          room = omega (arith, ends-few, b .room);
-          few = omega (arith, far-few);
-          inside = far-room;
-        }
+        -- What is left without the job reaches as far as its cells.
+        left-reach : reach (leaving (jobOf job rate) ps) ≡ cond (job .critical) 0 (reach ps)
+        left-reach = go (job .critical)
+          where
+            go : (b : Bool) → reach (cond b [] ps) ≡ cond b 0 (reach ps)
+            go true = refl
+            go false = refl
 
-        -- So the row and the stretch carry the profile after the job.
-        module _ {pushed′ : List ℤ} (p : PushedCells row many (limitOf (job .ready)) (deltaOf rate) (rate .gain) pushed pushed′) where
-          pub still : Buffer pushed′
-          still = pushed-buffer (c .rises) (c .within) can (goes .0) (c .cells) (roomy .buffer) (goes .1) some p
+        -- The row and the stretch carry the profile after the job.
+        module _ {pushed′ pushed″ : List ℤ} (p : PushedCells row many (limitOf (job .ready)) (deltaOf rate) (rate .gain) pushed pushed′)
+            (past : Put (λ x. pastAll) (rate .gain + many) far pushed′ pushed″)
+          where
+            pub still : Buffer pushed″
+            still =
+                let b = pushed-buffer (c .rises) (c .within) can (goes .0) (c .cells) (roomy .buffer) (goes .1) some p in
+                record {
+                  room = omega (arith, past .size, b .room);
+                  past = past .behind top (omega (arith, far-few)) ∙ b .past;
+                }
 
-          pub next-carried : {mid : List ℤ} → Wiped (job .critical) row mid → {row′ : List ℤ}
-              → Put (lowered mid pushed′) 0 (rate .gain + many) mid row′ → {work′ : List ℤ} → Laid (at0 row′) 0 far (endOf list) work work′
-              → {n : ℕ} → n ≡ risesTo (at0 row′) far
-              → Carried (stepped job rate ps) (record { place = endOf list; count = far }) (n + 1) work′ row′
-          next-carried w l laid told =
-              carried (c .rises) (c .within) can (pushed-within (c .rises) (c .within) can (goes .0)) pushed′ (c .cells) w
-              (sym (pushed-reach (c .rises) (c .within) can (goes .0) (c .cells) (roomy .buffer) (goes .1) some p))
-              (pushed-cell (c .rises) (c .within) can (goes .0) (c .cells) (roomy .buffer) (goes .1) some p) l far-reach (omega arith) laid
-              far-room told
+            pub can-lower : {mid : List ℤ} → length mid ≡ wide → CanLower mid pushed″ far work (endOf list)
+            can-lower e = record {
+              size = omega (arith, far-few);
+              room = omega (arith, far-few, still .room);
+              few = omega (arith, far-few);
+              inside = far-room;
+            }
+
+            pushes : reach (pushedBy (jobOf job rate) (jobRate rate) ps) ≡ rate .gain + many
+            pushes = pushed-reach (c .rises) (c .within) can (goes .0) (c .cells) (roomy .buffer) (goes .1) some p
+
+            all-cells : (y : ℕ) → y < far → at0 pushed″ y ≡ cellOf (pushedBy (jobOf job rate) (jobRate rate) ps) y
+            all-cells y h =
+                cases (leb (rate .gain + many) y)
+                (λ e.
+                past .put y (omega signed) h ∙ sym (cell-past (pushedBy (jobOf job rate) (jobRate rate) ps) y (omega (signed, pushes))))
+                (λ e.
+                past .before y (omega signed)
+                ∙ pushed-cell (c .rises) (c .within) can (goes .0) (c .cells) (roomy .buffer) (goes .1) some p y (omega signed))
+
+            pub next-carried : {mid : List ℤ} → Wiped (job .critical) row mid → {row′ : List ℤ} → Put (lowered mid pushed″) 0 far mid row′
+                → {work′ : List ℤ} → Laid (lowered mid pushed″) 0 far (endOf list) work work′ → {n : ℕ} → n ≡ risesTo (lowered mid pushed″) far
+                → Carried (stepped job rate ps) (record { place = endOf list; count = far }) (n + 1) work′ row′
+            next-carried w l laid told =
+                carried (c .rises) (c .within) can (pushed-within (c .rises) (c .within) can (goes .0)) pushed″ (c .cells) w
+                (omega (arith, far-reach, left-reach, pushes)) all-cells l (omega (arith, far-reach)) laid far-room told
 
 -- ---- a row wiped, or as it was
 

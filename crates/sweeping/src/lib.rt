@@ -3,7 +3,7 @@
 // Assumes nothing.
 use cells::WIDE;
 use cells::cells_to;
-use cells::lower_and_lay;
+use cells::lower;
 use cells::push_cells;
 use cells::wipe;
 use codes::Prefix;
@@ -49,7 +49,7 @@ fn wipe_if(critical: bool, row: &mut [i32])
     ensures { λ _. ⌜ Wiped critical (now (row .entry)) (now (row .exit)) ⌝ }
 {
     if critical {
-        wipe(row, WIDE);
+        wipe(row, 0, WIDE);
     }
 }
 
@@ -123,8 +123,9 @@ fn sweep_started(
         rate.gain,
         pushed,
     );
+    wipe(pushed, ends, far);
     wipe_if(critical, row);
-    let rises = lower_and_lay(row, pushed, ends, far, work, used);
+    let rises = lower(row, pushed, far, work, used);
     Stretch {
         place: used,
         count: far,

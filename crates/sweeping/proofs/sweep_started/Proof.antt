@@ -15,6 +15,7 @@ use Rattle.pushing.specs.Pushes.{deltaOf}
 use Rattle.order.specs.Job.{Point}
 use Rattle.stepping.specs.Stepping.{stepped}
 use Rattle.cells.specs.Cells.{reach, PushedCells}
+use Rattle.cells.specs.Laying.{lowered}
 use Rattle.cells.specs.LayingLaws.{rises-few}
 use Rattle.sweeping.specs.Sweep.{Carried, Steppable, Roomy}
 use Rattle.sweeping.specs.SweepLaws.{list-some, last-least, list-reach, can-push-row, ends-few, far-few, can-lower, still, next-carried}
@@ -115,62 +116,70 @@ push-cells-requires c κs =
     rw (limit-is d, delta-is d) (can-push-row (s .args .job) (s .args .rate) (s .args .list) (s .pre .some) (s .pre .told)
     (s .pre .sweep .carried) (s .pre .sweep .can) (s .pre .sweep .roomy))
 
-wipe-if-requires : tie.Need-wipe-if-requires
-wipe-if-requires c κs = search needs
-
--- The cells are pushed, and those left without the job are there.
-module _ (c : tie.After-wipe-if) where
-  abbrev pushed : tie.After-push-cells
-  pushed = c .before .before .before
-
+-- The cells are pushed.
+module _ (c : tie.After-push-cells) where
   abbrev made : tie.After-delta-of
-  made = pushed .before .before
-
-lower-and-lay-requires : tie.Need-lower-and-lay-requires
-lower-and-lay-requires c κs =
-    let w : tie.After-wipe-if = c .before .before .before .before in
-    let d = made w in
-    let s = entry d in
-    let carried = s .pre .sweep .carried in
-    can-lower (s .args .job) (s .args .rate) (s .args .list) (s .pre .some) (s .pre .told) carried (s .pre .sweep .can) (s .pre .sweep .roomy)
-    (far-is (reached d)) (w .wipe-if .ensures .size ∙ carried .cells .size)
-    (still (s .args .job) (s .args .rate) (s .args .list) (s .pre .some) (s .pre .told) carried (s .pre .sweep .can) (s .pre .sweep .roomy)
-    (far-is (reached d)) (rw (limit-is d, delta-is d) at (pushed w .push-cells .ensures)))
-
-cast-t13 : tie.Need-cast-t13
-cast-t13 c = search needs
-
--- They are lowered, laid and counted.
-module _ (c : tie.After-lower-and-lay) where
-  abbrev wiped : tie.After-wipe-if
-  wiped = c .before .before .before .before .before
-
-  abbrev told : tie.After-delta-of
-  told = made wiped
+  made = c .before .before
 
   abbrev origin : tie.Start
-  origin = entry told
+  origin = entry made
 
   abbrev far : ℕ
-  far = reached told .most .result
+  far = reached made .most .result
 
   far-small : far ≤ 301
   far-small =
       let s = origin in
       far-few (s .args .job) (s .args .rate) (s .args .list) (s .pre .some) (s .pre .told) (s .pre .sweep .carried) (s .pre .sweep .can)
-      (s .pre .sweep .roomy) (far-is (reached told))
+      (s .pre .sweep .roomy) (far-is (reached made))
 
   pushed-on : PushedCells (origin .args .row .now) (origin .args .many) (limitOf (origin .args .job .ready)) (deltaOf (origin .args .rate))
-      (origin .args .rate .gain) (origin .args .pushed .now) (pushed wiped .push-cells .last .1 .1 .1 .1 .1 .0)
-  pushed-on = rw (limit-is told, delta-is told) at (pushed wiped .push-cells .ensures)
+      (origin .args .rate .gain) (origin .args .pushed .now) (c .push-cells .last .1 .1 .1 .1 .1 .0)
+  pushed-on = rw (limit-is made, delta-is made) at (c .push-cells .ensures)
+
+wipe-requires : tie.Need-wipe-requires
+wipe-requires c κs =
+    let p : tie.After-push-cells = c .before .before in
+    (omega (arith, far-is (reached (made p))), omega (arith, far-small p, pushed-on p .size, origin p .pre .sweep .roomy .buffer .room))
+
+wipe-if-requires : tie.Need-wipe-if-requires
+wipe-if-requires c κs = search needs
+
+-- Past them there are none, and those left without the job are there.
+module _ (c : tie.After-wipe-if) where
+  abbrev past : tie.After-wipe
+  past = c .before .before .before
+
+  abbrev pushed : tie.After-push-cells
+  pushed = past .before .before .before
+
+lower-requires : tie.Need-lower-requires
+lower-requires c κs =
+    let w : tie.After-wipe-if = c .before .before .before .before in
+    let p = pushed w in
+    let s = origin p in
+    let carried = s .pre .sweep .carried in
+    can-lower (s .args .job) (s .args .rate) (s .args .list) (s .pre .some) (s .pre .told) carried (s .pre .sweep .can) (s .pre .sweep .roomy)
+    (far-is (reached (made p))) (pushed-on p) (past w .wipe .ensures) (w .wipe-if .ensures .size ∙ carried .cells .size)
+
+cast-t13 : tie.Need-cast-t13
+cast-t13 c = search needs
+
+-- They are lowered, laid and counted.
+module _ (c : tie.After-lower) where
+  abbrev wiped : tie.After-wipe-if
+  wiped = c .before .before .before .before .before
+
+  abbrev told : tie.After-push-cells
+  told = pushed wiped
 
   -- Whatever profile was carried, the one after the job is.
-  next : {points : ℕ} (ps : List Point) → Carried ps (origin .args .list) points (origin .args .work .now) (origin .args .row .now)
-      → Steppable (origin .args .job) (origin .args .rate) ps
-      → Carried (stepped (origin .args .job) (origin .args .rate) ps) (record { place = endOf (origin .args .list); count = far })
-      (c .lower-and-lay .result + 1) (c .lower-and-lay .last .1 .1 .1 .1 .0) (c .lower-and-lay .last .0)
+  next : {points : ℕ} (ps : List Point) → Carried ps (origin told .args .list) points (origin told .args .work .now) (origin told .args .row .now)
+      → Steppable (origin told .args .job) (origin told .args .rate) ps
+      → Carried (stepped (origin told .args .job) (origin told .args .rate) ps)
+      (record { place = endOf (origin told .args .list); count = far told }) (c .lower .result + 1) (c .lower .last .1 .1 .1 .0) (c .lower .last .0)
   next ps carried can =
-      let s = origin in
+      let s = origin told in
       let own = s .pre .sweep .carried in
       let as-far : reach ps ≡ reach (s .pre .sweep .ps) =
       list-reach (s .args .job) (s .args .rate) (s .args .list) (s .pre .some) (s .pre .told) carried
@@ -178,13 +187,15 @@ module _ (c : tie.After-lower-and-lay) where
       let roomy = s .pre .sweep .roomy in
       let also : Roomy (s .args .job) ps (s .args .list) (s .args .work .now) (s .args .pushed .now) =
       record { room = omega (arith, as-far, roomy .room); roomMore = roomy .roomMore; buffer = roomy .buffer } in
-      next-carried (s .args .job) (s .args .rate) (s .args .list) (s .pre .some) (s .pre .told) carried can also (far-is (reached told)) pushed-on
-      (wiped .wipe-if .ensures) (c .lower-and-lay .ensures .0) (c .lower-and-lay .ensures .1 .0) (c .lower-and-lay .ensures .1 .1)
+      next-carried (s .args .job) (s .args .rate) (s .args .list) (s .pre .some) (s .pre .told) carried can also (far-is (reached (made told)))
+      (pushed-on told) (past wiped .wipe .ensures) (wiped .wipe-if .ensures) (c .lower .ensures .0) (c .lower .ensures .1 .0)
+      (c .lower .ensures .1 .1)
 
 add-t14 : tie.Need-add-t14
 add-t14 c =
-    let d : tie.After-lower-and-lay = c .before .before in
-    omega (arith, d .lower-and-lay .ensures .1 .1, rises-few (at0 (d .lower-and-lay .last .0)) (far d), far-small d)
+    let d : tie.After-lower = c .before .before in
+    let counted = lowered (wiped d .wipe-if .last .1 .0) (past (wiped d) .wipe .last .0) in
+    omega (arith, d .lower .ensures .1 .1, rises-few counted (far (told d)), far-small (told d))
 
 same-length : tie.Need-same-length
 same-length c = search needs
@@ -197,16 +208,17 @@ same-length-3 c = search needs
 
 returns : tie.Need-returns
 returns c points =
-    let d : tie.After-lower-and-lay = c .before .before in
-    let s = origin d in
-    let laid = d .lower-and-lay .ensures .1 .0 in
+    let d : tie.After-lower = c .before .before in
+    let p = told d in
+    let s = origin p in
+    let laid = d .lower .ensures .1 .0 in
     record {
       size = laid .size;
       stays = λ k h. laid .stays k (omega arith);
       further = omega arith;
       few = omega arith;
       buffer = still (s .args .job) (s .args .rate) (s .args .list) (s .pre .some) (s .pre .told) (s .pre .sweep .carried) (s .pre .sweep .can)
-          (s .pre .sweep .roomy) (far-is (reached (told d))) (pushed-on d);
+          (s .pre .sweep .roomy) (far-is (reached (made p))) (pushed-on p) (past (wiped d) .wipe .ensures);
       next = next d;
     }
 
@@ -224,8 +236,9 @@ sweep-started-spec =
     limit-by-requires
     delta-of-requires
     push-cells-requires
+    wipe-requires
     wipe-if-requires
-    lower-and-lay-requires
+    lower-requires
     cast-t13
     add-t14
     same-length

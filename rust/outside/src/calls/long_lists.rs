@@ -2,7 +2,7 @@
 
 use super::Trial;
 use crate::inputs;
-use trials::{dense_order, packed, wide_order, Order};
+use trials::{dense_order, half_wide_order, packed, wide_critical_order, wide_order, Order, Random};
 
 impl Trial {
     /// Plans two such orders, half of the time rivals, extends a start by each, and chooses between them.
@@ -23,7 +23,9 @@ impl Trial {
 
     /// Half of the time one job of it is critical.
     fn order_of_long_lists(&mut self) -> Order {
-        let draw = if self.random.once_in(2) { wide_order } else { dense_order };
+        let draws: [fn(&mut Random) -> Order; 4] =
+            [wide_order, dense_order, wide_critical_order, half_wide_order];
+        let draw = self.random.one_of(&draws);
         let mut order = draw(&mut self.random);
         if self.random.once_in(2) {
             let job = self.random.below(order.jobs.len());
