@@ -1,8 +1,9 @@
 -- `gathering::keep` meets its contract. Assumes nothing.
 use Prim.Native.Nat.{ℕ, _+_, _≤_}
-use mathlib.Core.Path.{refl, ap}
+use mathlib.Core.Path.{_≡_, refl, ap, ap₂, _∙_}
 use mathlib.Core.Bool.{Bool, true, false, cond}
 use native.Mathlib.Omega.{arith}
+use lib.IntN.{ℤ}
 use mir.Syntax.{w32}
 use mir.Val.{toZ, ofZ}
 use mir.Facts.{toZ-ofZ}
@@ -38,10 +39,10 @@ same-length c = search needs
 
 returns : tie.Need-returns
 returns c =
-    let s = c .before in (
-      rw (toZ-ofZ (s .fits .cell), toZ-ofZ (s .fits .next)) at (ap (λ (k : ℕ). s .args .at + k) (c .one-if .ensures)),
-      rw (toZ-ofZ (s .fits .cell)) refl,
-    )
+    let s = c .before in
+    let one : c .one-if .result ≡ cond (isPoint (s .args .cell) (s .args .next)) 1 0 =
+    c .one-if .ensures ∙ ap₂ (λ (cell next : ℤ). cond (isPoint cell next) 1 0) (toZ-ofZ (s .fits .cell)) (toZ-ofZ (s .fits .next)) in
+    (ap (λ (k : ℕ). s .args .at + k) one, rw (toZ-ofZ (s .fits .cell)) refl)
 
 pub keep-spec : {M : Type 1} → statement M
 keep-spec = tie.close (tie.spec mul-cell slice-set-from-cell one-if-requires cast-result add-result same-length returns)

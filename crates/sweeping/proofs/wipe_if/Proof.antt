@@ -2,6 +2,8 @@
 use mathlib.Core.Path.{sym, subst}
 use mathlib.Core.Bool.{Bool}
 use borrow.Author.Needs.{needs}
+use Rattle.codes.specs.Code.{pastAll}
+use Rattle.cells.specs.Cells.{wide, Put}
 use Rattle.sweeping.specs.Sweep.{Wiped}
 use Rattle.sweeping.specs.SweepLaws.{wiped-row, left-row}
 use Rattle.sweeping.proofs.wipe_if.Statement.{statement}
@@ -17,8 +19,8 @@ returns : tie.Need-returns
 returns c =
     let w : tie.After-wipe = c .before in
     let s : tie.Start = w .before .before .before in
-    subst (λ (b : Bool). Wiped b (s .args .row .now) (w .wipe .last .0)) (sym (w .before .before .if1 .taken))
-    (wiped-row (s .pre) (w .wipe .ensures))
+    let put : Put (λ x. pastAll) 0 wide (s .args .row .now) (w .wipe .last .0) = w .wipe .ensures in
+    subst (λ (b : Bool). Wiped b (s .args .row .now) (w .wipe .last .0)) (sym (w .before .before .if1 .taken)) (wiped-row (s .pre) put)
 
 returns-2 : tie.Need-returns-2
 returns-2 c =
