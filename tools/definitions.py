@@ -21,7 +21,9 @@ PARTS = [
         profiles Numbers, profiles Answer, point_records Records, better Answer,
         area Area, filling After, planner Calls, halves Calls, extending Calls, ties Winning, choosing Choosing, openings Answer,
         packed_plan Plan, plan_writer Calls, checking Calls, best_plan Calls,
-        packed_answers Numbers, plan_answers Numbers, opening_answers Numbers, verdict_answers Numbers, text Decimal, report Report'''),
+        sheet Sheet, sheet Answered, adding Calls, streams Entries, streams Stream, feeding Calls, fractions Fractions,
+        packed_answers Numbers, plan_answers Numbers, opening_answers Numbers, verdict_answers Numbers, sheet_answers Numbers,
+        text Decimal, report Report, sheet_text SheetText, week_report WeekText'''),
 ]
 IMPORT = re.compile(r'(?:unfoldable )?(?:pub |ghost )?use Rattle·(\w+?)(?:·specs\.specs|\.specs)\.(\w+)\.')
 LAW = re.compile(r'(pub )?\S+ : |.*\b(refl|omega|rw|cc|search|unfolding)\b')

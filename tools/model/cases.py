@@ -1,5 +1,5 @@
-"""The cases of crates/edges/stdin, whose first lines say how they are written, answered by the rules in the form of the
-program `edges`: the case's name, the answer, and behind bars every lent buffer as it is left."""
+"""The cases of crates/edges/stdin and of crates/sheet_edges/stdin, whose first lines say how they are written, answered by the
+rules in the form of the programs: the case's name, the answer, and behind bars every lent buffer as it is left."""
 import re
 
 import rules
@@ -60,7 +60,7 @@ def area(work, cleared):
 def told(answer):
     """The word of an answer's kind, where the program writes one, and its figures."""
     kind = answer[0]
-    return (' ' + kind if kind in ('refused', 'made', 'none', 'end', 'job', 'yes', 'no') else '') + plain(answer[1:])
+    return (' ' + kind if kind in ('refused', 'made', 'none', 'end', 'job', 'yes', 'no', 'counted') else '') + plain(answer[1:])
 
 
 class Case:
@@ -172,6 +172,34 @@ def choose(case, tie=rules.sooner):
     return ' part %d' % len(part) + plain(part) + area(case.work, cleared)
 
 
+def sheet_add(case):
+    """One order more: behind bars the sheet's numbers and the order."""
+    answer, figures, cleared = rules.sheet_add(numbers_in(case.parts[0]), order_in(case.parts[1]), case.work)
+    return told(answer) + ' |' + plain(figures) + area(case.work, cleared)
+
+
+def sheet_join(case):
+    answer, figures = rules.sheet_join(numbers_in(case.parts[0]), numbers_in(case.parts[1]))
+    return told(answer) + ' |' + plain(figures)
+
+
+def sheet_feed(case):
+    """Behind bars the numbers that are held and the pieces, which are fed one behind the other."""
+    held, front = numbers_in(case.parts[0]), [BYTE_MARK] * case.room
+    said, cleared = '', False
+    assert len(case.parts) == case.figures['parts'], case.name
+    for piece in case.parts[1:]:
+        answer, held, front, clears = rules.sheet_feed(held, front, numbers_in(piece), case.work)
+        said, cleared = said + told(answer), cleared or clears
+    return said + ' |' + plain(held) + buffer(front) + area(case.work, cleared)
+
+
+def sheet_text(case):
+    figures = numbers_in(case.parts[0])
+    answer, data = rules.sheet_text(figures, case.figures['cut'], case.room)
+    return told(answer) + ' |' + plain(figures) + buffer(written(data, BYTE_MARK, case.room))
+
+
 def opened(data):
     refusal = rules.judge_header(data)
     return ' refused %d' % refusal if refusal else ' %d' % rules.header(data)[0]
@@ -195,11 +223,12 @@ CALLS = {
     'question_first': lambda case: question(case, rules.to_first),
     'choose_first': lambda case: choose(case, rules.to_first),
     'read': read, 'open': lambda case: opened(order_in(case.parts[0])),
+    'sheet_add': sheet_add, 'sheet_join': sheet_join, 'sheet_feed': sheet_feed, 'sheet_text': sheet_text,
     'step': lambda case: stepped(order_in(case.parts[0]), case.place('at')),
 }
 
 
 def answers(text):
-    """What `edges` prints for its whole input."""
+    """What `edges` or `sheet_edges` prints for its whole input."""
     cases = [Case(line) for line in text.split('\n') if line and not line.startswith('#')]
     return ''.join('%s:%s\n' % (case.name, CALLS[case.name.split()[0]](case)) for case in cases)

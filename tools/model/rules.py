@@ -2,6 +2,8 @@
 bytes; a job its seven numbers: number, pack, critical, weight, ready, length, deadline; a profile alternating numbers. A
 call's answer is a tuple that begins with a word for its kind, as ('refused', number, place, field). A refusal on its way
 there is its three figures."""
+from fractions import Fraction
+from functools import lru_cache
 from itertools import product
 
 EARLIEST, LATEST = -100_000, 100_000
@@ -14,6 +16,9 @@ LEFT_OUT = 200_000
 HIGHEST_HALF, APART, PER_WEIGHT = 31, 32, 60  # of an order of halves
 LONGEST_FRAME = 86_400  # and the longest deadline and period of a repeating job
 MANY = 10  # up to so many jobs every choice is tried as well
+MOST_ORDERS = 10_000  # of a sheet
+MOST_POINTS = 14_448  # the greatest point total that there can be
+FIGURES, HELD, FRONT, TEXT_ROOM = 26, 29, 437, 336  # rooms of a sheet, a stream (numbers, bytes), a text (bytes)
 # The bits of each field of a job in a record, by the record's kind. One that has none is 0.
 WIDTHS = (6, 0, 1, 7, 18, 14, 18), (6, 8, 1, 7, 18, 14, 18)
 HAS_SIGN = (False, False, False, False, True, False, True)
@@ -524,10 +529,152 @@ def write_plan(data, room, work):
     return ('bytes', len(written)), written, cleared
 
 
-# ---- the program
+# ---- the week's sheet (R46, R47): a sheet is its 26 numbers
+
+def one_order(data):
+    """The sheet of one order, whatever planning says of it."""
+    return list(one_sheet(tuple(data)))
+
+
+@lru_cache(maxsize=1000)  # the same order often comes again
+def one_sheet(data):
+    answer, _, _ = plan(data, 48, WORK_AREA)
+    figures = [1] + [0] * (FIGURES - 1)
+    if answer[0] == 'refused':
+        figures[answer[1]] = 1
+    else:
+        _, _, jobs_kept, kept, _, _, total = answer
+        figures[20:25] = 1, weigh(judge(data)[2]), kept, jobs_kept, total + 1
+    return figures
+
+
+def join(one, other):
+    """The sheet of two lists of orders, one behind the other."""
+    sums = [a + b for a, b in zip(one[:24], other[:24])]
+    return sums + ([other[24], one[0] + other[25]] if other[24] > one[24] else one[24:])
+
+
+def sheet_of(orders):
+    """The sheet of a list of orders: sums, and the first of the greatest totals."""
+    sheets = [one_order(data) for data in orders]
+    tops = [figures[24] for figures in sheets] or [0]
+    top = max(tops)
+    return [sum(figures[at] for figures in sheets) for at in range(24)] + [top, tops.index(top) if top else 0]
+
+
+def ratio(upper, lower):
+    return '%d/%d' % Fraction(upper, lower).as_integer_ratio() if lower else '-'
+
+
+def sheet_lines(figures, cut):
+    """The 28 lines of a sheet."""
+    feasible_ones, offered, kept, _, top, place = figures[20:]
+    return [str(figure) for figure in figures[:24]] + [
+        '%d %d' % (top - 1, place) if feasible_ones else '-',
+        ratio(feasible_ones, feasible_ones + figures[11]),
+        ratio(offered - kept, offered),
+        'cut' if cut else 'whole']
+
+
+def text_of(figures, cut):
+    return '\n'.join(sheet_lines(figures, cut)) + '\n'
+
+
+# ---- streams (R48): whole, and in pieces as 29 numbers and 437 bytes
+
+def parts(stream):
+    """The whole entries of a stream, and whether it is cut."""
+    entries, at = [], 0
+    while at + 2 <= len(stream):
+        end = at + 2 + 256 * stream[at] + stream[at + 1]
+        if end > len(stream):
+            break
+        entries.append(stream[at + 2:end])
+        at = end
+    return entries, at < len(stream)
+
+
+def fed(held, front, byte):
+    """What is held of a stream, one byte later."""
+    figures, (known, length, got) = held[:FIGURES], held[FIGURES:]
+    if known < 2:
+        known, length = known + 1, 256 * length + byte
+    else:
+        front = front[:got] + [byte] + front[got + 1:] if got < FRONT else front
+        got += 1
+    if known == 2 and got == length:
+        figures, known, length, got = join(figures, one_order(front[:min(length, FRONT)])), 0, 0, 0
+    return figures + [known, length, got], front
+
+
+# ---- the calls of sheets (R25, R49): the answer, the lent buffers as they are left, and whether the work area is cleared
+
+def is_sheet(figures):
+    """Whether a sheet of at most 10,000 orders can have these figures, as far as R49 asks."""
+    orders, refusals, (feasible_ones, offered, kept, jobs_kept, top, place) = figures[0], figures[1:20], figures[20:26]
+    if orders > MOST_ORDERS or feasible_ones + sum(refusals) != orders:
+        return False
+    if offered > 300 * feasible_ones or kept > offered or jobs_kept > 48 * feasible_ones:
+        return False
+    return 1 <= top <= MOST_POINTS + 1 and place < orders if feasible_ones else top == place == 0
+
+
+def is_held(held):
+    """The same of what is held of a stream: nothing of a length, one byte of it, or all of it and less of the entry."""
+    known, length, got = held[FIGURES:HELD]
+    if known == 2:
+        fits = length <= 65_535 and got < length
+    else:
+        fits = known in (0, 1) and length <= 255 * known and got == 0
+    return is_sheet(held) and fits
+
+
+def sheet_add(figures, data, work):
+    if len(figures) < FIGURES or work < WORK_AREA:
+        return ('refused', 10), figures, False
+    if not is_sheet(figures) or figures[0] == MOST_ORDERS:
+        return ('refused', 18), figures, False
+    return ('counted',), join(figures[:FIGURES], one_order(data)) + figures[FIGURES:], True
+
+
+def sheet_join(figures, more):
+    """The answer and the first sheet; there is no work area."""
+    if min(len(figures), len(more)) < FIGURES:
+        return ('refused', 10), figures
+    if not is_sheet(figures) or not is_sheet(more) or figures[0] + more[0] > MOST_ORDERS:
+        return ('refused', 18), figures
+    return ('counted',), join(figures[:FIGURES], more[:FIGURES]) + figures[FIGURES:]
+
+
+def sheet_feed(held, front, piece, work):
+    """The answer, the numbers and the bytes. A piece with too many entries is counted up to the first that is too many."""
+    if len(held) < HELD or len(front) < FRONT or work < WORK_AREA:
+        return ('refused', 10), held, front, False
+    if not is_held(held):
+        return ('refused', 18), held, front, False
+    now, room = held[:HELD], front
+    for byte in piece:
+        now, room = fed(now, room, byte)
+        if now[0] > MOST_ORDERS:
+            return ('refused', 18), now + held[HELD:], room, True
+    return ('counted',), now + held[HELD:], room, True
+
+
+def sheet_text(figures, cut, room):
+    """The answer and the bytes written."""
+    if len(figures) < FIGURES or room < TEXT_ROOM:
+        return ('refused', 10), []
+    if not is_sheet(figures):
+        return ('refused', 18), []
+    text = text_of(figures[:FIGURES], cut)
+    assert len(text) <= TEXT_ROOM, text
+    return ('bytes', len(text)), list(text.encode('ascii'))
+
+
+# ---- the programs
 
 def report(data):
-    """The program's text (R31, R32)."""
+    """The text of the program `plan_order` (R31, R32)."""
     answer, starts, _ = plan(data, 48, WORK_AREA)
     if answer[0] == 'refused':
         return '%d %d %d\n' % answer[1:]
@@ -535,3 +682,15 @@ def report(data):
     for job, start in zip(judge(data)[2], starts):
         lines.append('%d %s' % (job[0], '-' if start == LEFT_OUT else start))
     return '\n'.join(lines) + '\n'
+
+
+def week(stream):
+    """The text of the program `week_sheet` (R50). Feeding the stream must come to the sheet of its entries."""
+    entries, cut = parts(stream)
+    answer, held, _, _ = sheet_feed([0] * HELD, [0] * FRONT, stream, WORK_AREA)
+    if len(entries) > MOST_ORDERS:
+        assert answer == ('refused', 18) and held[0] == MOST_ORDERS + 1
+        return '18 0 0\n'
+    figures = sheet_of(entries)
+    assert is_sheet(figures) and held[:FIGURES] == figures and cut == (held[FIGURES] > 0)
+    return text_of(figures, cut)

@@ -16,6 +16,7 @@ pub use lines::place_of;
 pub use lines::place_setting;
 pub use lines::read_bytes;
 pub use lines::read_numbers;
+pub use lines::read_sizes;
 pub use lines::setting;
 pub use told::put;
 pub use told::put_buffer;

@@ -75,10 +75,11 @@ fn with_figure(value: u32, byte: u8) -> u32 {
     if byte > b'9' {
         return value;
     }
-    if value > 400_000_000 {
+    let longer = value as u64 * 10 + (byte - b'0') as u64;
+    if longer > 4_294_967_295 {
         return value;
     }
-    value * 10 + (byte - b'0') as u32
+    longer as u32
 }
 
 // Whether a byte is part of a number.
@@ -127,14 +128,23 @@ fn put_byte(bytes: &mut [u8], place: usize, value: u32) {
     }
 }
 
-// The numbers behind the first word of a part, put into one buffer as numbers and into the other as bytes,
-// as far as each goes. Returns how many there are.
-fn read_each(part: &[u8], numbers: &mut [i32], bytes: &mut [u8]) -> usize {
+// Puts a number without its sign at a place; past the end nothing is written.
+fn put_size(sizes: &mut [u32], place: usize, value: u32) {
+    if place < sizes.len() {
+        sizes[place] = value;
+    }
+}
+
+// The numbers behind the first word of a part, put into one buffer as numbers, into the next as bytes and into
+// the last without their signs, as far as each goes. Returns how many there are.
+fn read_each(part: &[u8], numbers: &mut [i32], bytes: &mut [u8], sizes: &mut [u32]) -> usize {
     let mut at = past(part, 0, b' ');
     let mut count = 0;
     while at < part.len() {
         put(numbers, count, number_at(part, at));
-        put_byte(bytes, count, size_at(part, at));
+        let size = size_at(part, at);
+        put_byte(bytes, count, size);
+        put_size(sizes, count, size);
         count += 1;
         at = past(part, at, b' ');
     }
@@ -144,13 +154,22 @@ fn read_each(part: &[u8], numbers: &mut [i32], bytes: &mut [u8]) -> usize {
 // Those numbers. Returns how many there are.
 pub fn read_numbers(part: &[u8], numbers: &mut [i32]) -> usize {
     let mut unused = [0; 1];
-    read_each(part, numbers, &mut unused)
+    let mut sizes = [0; 1];
+    read_each(part, numbers, &mut unused, &mut sizes)
 }
 
 // The same as bytes.
 pub fn read_bytes(part: &[u8], bytes: &mut [u8]) -> usize {
     let mut unused = [0; 1];
-    read_each(part, &mut unused, bytes)
+    let mut sizes = [0; 1];
+    read_each(part, &mut unused, bytes, &mut sizes)
+}
+
+// The same without their signs.
+pub fn read_sizes(part: &[u8], sizes: &mut [u32]) -> usize {
+    let mut numbers = [0; 1];
+    let mut bytes = [0; 1];
+    read_each(part, &mut numbers, &mut bytes, sizes)
 }
 
 // Where the number stands in front of a case's first bar that follows a word, by the word's last letter.

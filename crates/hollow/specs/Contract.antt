@@ -1,7 +1,7 @@
 -- A call's contract as a relation of inputs and outcomes, versions of a call, and what it is for hollow ones to be shut out.
 -- Definitions only.
 use mathlib.Core.Path.{_≡_, refl}
-use mathlib.Core.Bool.{Bool, true}
+use mathlib.Core.Bool.{Bool, true, false}
 
 -- An outcome is an answer and the lent buffers at exit. The contract allows some outcomes at each input: the one that the
 -- definitions say, and no other. Beside it stand the buffers as they are lent, and which answers are refusals.
@@ -79,3 +79,15 @@ module _ {X R B : Type 0} (c : Contract X R B) where
   pub record NotHollowIn {P : Type 0} (part : B → P) (x y : X) : Type 0 where
     pub answers : NotHollow x y
     pub writes-nothing : (f : X → R × B) → Leaves part f → ShutOut f x
+
+  -- And alone: one that answers an input which must be refused is shut out there;
+  abbrev pub Refuses : X → Type 0
+  Refuses x = (f : X → R × B) → c .refusal (f x .0) ≡ false → ShutOut f x
+
+  -- one that does not write a part is shut out at an input;
+  abbrev pub Writes : {P : Type 0} → (B → P) → X → Type 0
+  Writes part x = (f : X → R × B) → Leaves part f → ShutOut f x
+
+  -- one that leaves the same in a part at two inputs is shut out at one of them.
+  abbrev pub TellsApart : {P : Type 0} → (B → P) → X → X → Type 0
+  TellsApart part x y = (f : X → R × B) → part (f x .1) ≡ part (f y .1) → Allowed f x → ShutOut f y

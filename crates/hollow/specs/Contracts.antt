@@ -6,7 +6,7 @@ use mathlib.Core.Bool.{Bool, true, false}
 use mathlib.Core.List.{List, _++_}
 use base.Fml.{GName}
 use denote.Ref.{RefT, now}
-use lib.Dec.{eqb}
+use lib.Dec.{eqb, ltb}
 use lib.IntN.{ℤ}
 use lib.ListN.{length, drop}
 use Rattle.profiles.specs.Answer.{lookupOf}
@@ -60,6 +60,11 @@ use Rattle.checking.specs.declared.Checked.the-variants as checked
 use Rattle.best_plan.specs.Calls.{bestOf, bestWorkAfter, BestCall}
 use Rattle.plan_writer.specs.Calls.{writtenOf, outAfter as writtenAfter, writeWorkAfter, WriteCall}
 use Rattle.report.specs.Report.{printed}
+use Rattle.sheet.specs.Sheet.{joinRefusal, joinedAfter as sheetAfter, JoinCall}
+use Rattle.adding.specs.Calls.{addRefusal, addAfter, addWorkAfter, AddCall}
+use Rattle.feeding.specs.Calls.{feedRefusal, feedAfter, frontAfter, feedWorkAfter, FeedCall}
+use Rattle.sheet_text.specs.SheetText.{toldOf, textAfter, TellCall}
+use Rattle.sheet_text.specs.declared.Told.{Told}
 use Rattle.hollow.specs.Contract.{Contract, answering, writing, over}
 
 -- ---- which answers are refusals
@@ -330,4 +335,75 @@ choosing rule =
       only = λ x r b h. (λ i. (h .1 .bytes i, h .1 .place i), h .1 .area);
       lent = λ x. x .3;
       refusal = λ r. eqb (length (r .0)) 0;
+    }
+
+-- ---- sheets
+
+-- Of each the answer is a refusal's number, 0 for none.
+abbrev numbered : ℕ → Bool
+numbered r = ltb 0 r
+
+-- Joining two sheets is given both. Of the first, what it leaves.
+abbrev pub joiningSheets : Contract (List ℕ × List ℕ) ℕ (List ℕ)
+joiningSheets =
+    record {
+      allows = λ x r b. JoinCall (x .0) (x .1) r b;
+      answer = λ x. joinRefusal (x .0) (x .1);
+      left = λ x. sheetAfter (x .0) (x .1);
+      met = λ x. record { answer = refl; lent = refl };
+      only = λ x r b h. (h .answer, h .lent);
+      lent = λ x. x .0;
+      refusal = numbered;
+    }
+
+-- One order more is given a sheet, the order's bytes and the work area. Of the first and the last, what it leaves.
+abbrev pub AddInput : Type 0
+AddInput = List ℕ × List ℕ × List ℤ
+
+abbrev pub adding : Contract AddInput ℕ (List ℕ × List ℤ)
+adding =
+    record {
+      allows = λ x r b. AddCall (x .0) (x .1) (x .2) r (b .0) (b .1);
+      answer = λ x. addRefusal (x .0) (x .2);
+      left = λ x. (addAfter (x .0) (x .1) (x .2), addWorkAfter (x .0) (x .2));
+      met = λ x. record { answer = refl; lent = refl; area = refl };
+      only = λ x r b h. (h .answer, λ i. (h .lent i, h .area i));
+      lent = λ x. (x .0, x .2);
+      refusal = numbered;
+    }
+
+-- Feeding is given the numbers and the front that are held of a stream, a piece, and the work area. Of all but the piece, what it leaves.
+abbrev pub FeedInput : Type 0
+FeedInput = List ℕ × List ℕ × List ℕ × List ℤ
+
+abbrev pub feeding : Contract FeedInput ℕ (List ℕ × List ℕ × List ℤ)
+feeding =
+    record {
+      allows = λ x r b. FeedCall (x .0) (x .1) (x .2) (x .3) r (b .0) (b .1) (b .2);
+      answer = λ x. feedRefusal (x .0) (x .1) (x .2) (x .3);
+      left = λ x. (
+        feedAfter (x .0) (x .1) (x .2) (x .3),
+        frontAfter (x .0) (x .1) (x .2) (x .3),
+        feedWorkAfter (x .0) (x .1) (x .3),
+      );
+      met = λ x. record { answer = refl; numbers = refl; room = refl; cleaned = refl };
+      only = λ x r b h. (h .answer, λ i. (h .numbers i, h .room i, h .cleaned i));
+      lent = λ x. (x .0, x .1, x .3);
+      refusal = numbered;
+    }
+
+-- Telling a sheet is given it, whether its stream is cut, and bytes to write the text to.
+abbrev pub TellInput : Type 0
+TellInput = List ℕ × Bool × List ℕ
+
+abbrev pub telling : Contract TellInput Told (List ℕ)
+telling =
+    record {
+      allows = λ x r b. TellCall (x .0) (x .1) (x .2) r b;
+      answer = λ x. toldOf (x .0) (x .1) (x .2);
+      left = λ x. textAfter (x .0) (x .1) (x .2);
+      met = λ x. record { refusal = refl; bytes = refl; text = refl };
+      only = λ x r b h. (λ i. record { refusal = h .refusal i; bytes = h .bytes i }, h .text);
+      lent = λ x. x .2;
+      refusal = λ r. numbered (r .refusal);
     }

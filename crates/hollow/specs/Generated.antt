@@ -69,10 +69,20 @@ use Rattle.best_plan.proofs.best as best
 use Rattle.best_plan.proofs.best.Reads as best-reads
 use Rattle.plan_writer.proofs.write_plan as write-plan
 use Rattle.plan_writer.proofs.write_plan.Reads as write-plan-reads
+use Rattle.sheet.proofs.join as join
+use Rattle.sheet.proofs.join.Reads as join-reads
+use Rattle.adding.proofs.add as add
+use Rattle.adding.proofs.add.Reads as add-reads
+use Rattle.feeding.proofs.feed as feed
+use Rattle.feeding.proofs.feed.Reads as feed-reads
+use Rattle.sheet_text.specs.declared.Told.{Told}
+use Rattle.sheet_text.proofs.tell as tell
+use Rattle.sheet_text.proofs.tell.Reads as tell-reads
 use Rattle.hollow.specs.Contracts.{planning, extending, joiningProfiles, lookingUp, lookingUpRecords, unpacking, packing, framing}
 use Rattle.hollow.specs.Contracts.{openingReader, stepping, beginning, steppingReader, readingAt, reporting, heatingUp}
 use Rattle.ties.specs.Winning.{sooner, toFirst}
 use Rattle.hollow.specs.Contracts.{planningHalves, asking, choosing, checkingLegal, checkingBest, writingPlan}
+use Rattle.hollow.specs.Contracts.{joiningSheets, adding, feeding, telling}
 
 pub plan-is : (κs : Lfts 3) (a : Args plan.signature κs) (r : Planned) (x : AtExit plan.ended κs)
     → plan-reads.Post κs a r x
@@ -178,3 +188,22 @@ pub write-plan-is : (κs : Lfts 3) (a : Args write-plan.signature κs) (r : Pack
     → write-plan-reads.Post κs a r x
     ≡ writingPlan .allows (a .0 .now, a .1 .0 .now, a .1 .1 .0 .now) r (x .1 .0 .now, x .1 .1 .0 .now)
 write-plan-is κs a r x = refl
+
+pub join-is : (κs : Lfts 2) (a : Args join.signature κs) (r : ℕ) (x : AtExit join.ended κs)
+    → join-reads.Post κs a r x ≡ joiningSheets .allows (a .0 .now, a .1 .0 .now) r (x .0 .now)
+join-is κs a r x = refl
+
+pub add-is : (κs : Lfts 3) (a : Args add.signature κs) (r : ℕ) (x : AtExit add.ended κs)
+    → add-reads.Post κs a r x
+    ≡ adding .allows (a .0 .now, a .1 .0 .now, a .1 .1 .0 .now) r (x .0 .now, x .1 .1 .0 .now)
+add-is κs a r x = refl
+
+pub feed-is : (κs : Lfts 4) (a : Args feed.signature κs) (r : ℕ) (x : AtExit feed.ended κs)
+    → feed-reads.Post κs a r x
+    ≡ feeding .allows (a .0 .now, a .1 .0 .now, a .1 .1 .0 .now, a .1 .1 .1 .0 .now) r
+    (x .0 .now, x .1 .0 .now, x .1 .1 .1 .0 .now)
+feed-is κs a r x = refl
+
+pub tell-is : (κs : Lfts 2) (a : Args tell.signature κs) (r : Told) (x : AtExit tell.ended κs)
+    → tell-reads.Post κs a r x ≡ telling .allows (a .0 .now, a .1 .0, a .1 .1 .0 .now) r (x .1 .1 .0 .now)
+tell-is κs a r x = refl

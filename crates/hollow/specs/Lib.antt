@@ -9,3 +9,4 @@ pub mod Computed
 pub mod ShutOut
 pub mod Extensions
 pub mod Totals
+pub mod Sheets

@@ -1,10 +1,11 @@
 -- The inputs at which hollow versions are tried: P1, P2, P4 and P9 of the rules, plans of P1 and P4, the README's order of halves and its
 -- refused one, with lent buffers that hold a 1 everywhere, so that what is written or cleared shows. Definitions only.
 use Prim.Native.Nat.{ℕ}
-use mathlib.Core.List.{List, [], _∷_}
+use mathlib.Core.Bool.{Bool}
+use mathlib.Core.List.{List, [], _∷_, _++_}
 use denote.Ref.{RefT}
 use lib.IntN.{ℤ, pos, negsuc}
-use lib.ListN.{getD, set, replicate}
+use lib.ListN.{getD, set, take, replicate}
 use Rattle.packed.specs.Packed.{numbersOf}
 use Rattle.worked.specs.Frames.{checks}
 use Rattle.profiles.specs.Numbers.{mostNumbers}
@@ -14,9 +15,13 @@ use Rattle.reader_struct.specs.declared.Reader.{Reader}
 use Rattle.report.specs.Report.{textRoom}
 use Rattle.report.specs.AsPrinted.{morningBytes}
 use Rattle.plan_writer.specs.Calls.{planRoom}
+use Rattle.streams.specs.Stream.{frontRoom}
+use Rattle.sheet_text.specs.SheetText.{sheetRoom}
 use Rattle.worked.specs.Halves.{twoChecks}
 use Rattle.worked.specs.Plans.{keeping}
+use Rattle.worked.specs.Week.{weekFigures}
 use Rattle.hollow.specs.Contracts.{PlanInput, ExtendInput, BestInput, WriteInput, AskInput}
+use Rattle.hollow.specs.Contracts.{AddInput, FeedInput, TellInput}
 
 -- ---- lent buffers
 
@@ -154,3 +159,48 @@ writeMorning = (morningBytes, planPage, workArea)
 
 abbrev pub writeOneJob : WriteInput
 writeOneJob = (oneJobBytes, planPage, workArea)
+
+-- ---- what the calls of sheets are given
+
+-- The sheet of so many entries of no bytes, which are refused with 1; and figures that no sheet has, an order neither refused nor feasible.
+abbrev pub empties : ℕ → List ℕ
+empties n = n ∷ n ∷ replicate 24 0
+
+abbrev pub noSheets : List ℕ
+noSheets = 1 ∷ replicate 25 0
+
+-- One sheet behind another.
+abbrev pub joinSheets : ℕ → ℕ → List ℕ × List ℕ
+joinSheets a b = (empties a, empties b)
+
+-- An order more on a sheet of entries of no bytes.
+abbrev pub addTo : ℕ → List ℕ → AddInput
+addTo n bytes = (empties n, bytes, workArea)
+
+-- What is held of a stream of so many of them, at an edge; and a piece fed to it.
+abbrev pub heldAt : List ℕ → List ℕ
+heldAt figures = figures ++ (0 ∷ 0 ∷ 0 ∷ [])
+
+abbrev pub frontPage : List ℕ
+frontPage = replicate frontRoom 1
+
+abbrev pub feedTo : ℕ → List ℕ → FeedInput
+feedTo n piece = (heldAt (empties n), frontPage, piece, workArea)
+
+-- One more of them, and the first byte of two of another entry.
+abbrev pub onePiece : List ℕ
+onePiece = 0 ∷ 0 ∷ 0 ∷ 2 ∷ 7 ∷ []
+
+-- The last byte of P4, where 11 of 12 bytes have come, and these are the front.
+abbrev pub feedLast : List ℕ → FeedInput
+feedLast front = (empties 0 ++ (2 ∷ 12 ∷ 11 ∷ []), front, 0x0A ∷ [], workArea)
+
+abbrev pub oneJobFront : List ℕ
+oneJobFront = take 11 oneJobBytes ++ replicate 426 1
+
+-- The text of figures, cut or whole, on an empty page.
+abbrev pub tellOf : List ℕ → Bool → TellInput
+tellOf figures cut = (figures, cut, replicate sheetRoom 1)
+
+abbrev pub tellWeek : Bool → TellInput
+tellWeek cut = tellOf weekFigures cut

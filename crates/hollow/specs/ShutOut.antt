@@ -1,8 +1,6 @@
--- Of every call, a version that refuses everything, one with a constant answer and one that writes nothing are shut out, at
--- inputs that the call accepts, by what the definitions answer and write there.
-use Prim.Native.Nat.{ℕ}
+-- Of every call but those of sheets (Sheets), a version that refuses everything, one with a constant answer and one that writes
+-- nothing are shut out, at inputs that the call accepts, by what the definitions answer and write there.
 use mathlib.Core.Path.{_≡_, refl, ap}
-use mathlib.Core.Bool.{false}
 use mathlib.Core.List.{List}
 use native.Mathlib.Omega.{arith}
 use lib.IntN.{ℤ, pos, natAbs}
@@ -22,7 +20,6 @@ use Rattle.profiles.specs.Answer.{foundOf}
 use Rattle.better.specs.Answer.{pointsWritten as pointsJoined}
 use Rattle.unpack.specs.Answer.{jobsUnpacked}
 use Rattle.pack.specs.Answer.{bytesWritten}
-use Rattle.pack.specs.declared.Packed.{Packed}
 use Rattle.multiples.specs.Multiples.{gcdIn, gcd, lcm}
 use Rattle.frames.specs.Frames.{mayRepeat, jobsGiven, givenAt, firstUnfit, frameOf, repeatsOf, sequenceOf, frameNumbers}
 use Rattle.frames.specs.Frames.{givenChecks, madeChecks}
@@ -31,23 +28,19 @@ use Rattle.reader.specs.Reading.{openCount, readNumbers}
 use Rattle.heat.specs.Answer.{lengthOf}
 use Rattle.extending.specs.Calls.{pointsWritten}
 use Rattle.planner.specs.Calls.{planNumbers}
-use Rattle.planner.specs.declared.Planned.{Planned}
 use Rattle.halves.specs.Calls.{halvesNumbers}
-use Rattle.halves.specs.declared.HalvesPlanned.{HalvesPlanned}
-use Rattle.extending.specs.declared.Extended.{Extended}
 use Rattle.ties.specs.Winning.{TieRule}
 use Rattle.choosing.specs.Choosing.{winnerOf}
 use Rattle.openings.specs.declared.Answer.{Answer}
 use Rattle.checking.specs.Calls.{checkedNumbers}
-use Rattle.checking.specs.declared.Checked.{Checked}
 use Rattle.plan_writer.specs.Calls.{bytesFor}
 use Rattle.report.specs.AsPrinted.{morningBytes}
 use Rattle.worked.specs.Plans.{ownPlan, lighterPlan}
-use Rattle.hollow.specs.Contract.{Allowed, ShutOut, Leaves, NotHollow, NotHollowIn}
-use Rattle.hollow.specs.Contracts.{PlanInput, planning, ExtendInput, extending, joiningProfiles, lookingUp, lookingUpRecords}
+use Rattle.hollow.specs.Contract.{ShutOut, Refuses, Writes, TellsApart, NotHollow, NotHollowIn}
+use Rattle.hollow.specs.Contracts.{planning, extending, joiningProfiles, lookingUp, lookingUpRecords}
 use Rattle.hollow.specs.Contracts.{unpacking, packing, framing, openingReader, stepping, beginning, steppingReader, readingAt}
 use Rattle.hollow.specs.Contracts.{planningHalves, reporting, heatingUp, AskInput, asking, choosing}
-use Rattle.hollow.specs.Contracts.{checkingLegal, BestInput, checkingBest, WriteInput, writingPlan}
+use Rattle.hollow.specs.Contracts.{checkingLegal, checkingBest, writingPlan}
 use Rattle.hollow.specs.Laws.{other-answer, answered-wrongly, same-buffers, unwritten, not-hollow, not-hollow-in}
 use Rattle.hollow.specs.Named.{ones, front, workArea, oneJobBytes, planMorning, planOneJob, halvesChecked}
 use Rattle.hollow.specs.Named.{extendMorning, extendOneJob}
@@ -84,20 +77,17 @@ extend-not-hollow =
     (λ b. b .0) front (rw (accepted .extend-morning, accepted .morning-order, front-ones 601) (omega signed))
 
 -- None may leave the work area as it was.
-pub plan-clears : (f : PlanInput → Planned × (List ℤ × List ℤ)) → Leaves planning (λ b. b .1) f
-    → ShutOut planning f planMorning
+pub plan-clears : Writes planning (λ b. b .1) planMorning
 plan-clears f leaves =
     unwritten planning (λ b. b .1) f planMorning front
     (rw (accepted .plan-morning, front-cleared workArea, front-ones 14748) (omega signed)) (leaves planMorning)
 
-pub plan-halves-clears : (f : PlanInput → HalvesPlanned × (List ℤ × List ℤ)) → Leaves planningHalves (λ b. b .1) f
-    → ShutOut planningHalves f halvesChecked
+pub plan-halves-clears : Writes planningHalves (λ b. b .1) halvesChecked
 plan-halves-clears f leaves =
     unwritten planningHalves (λ b. b .1) f halvesChecked front
     (rw (accepted .halves-checked, front-cleared workArea, front-ones 14748) (omega signed)) (leaves halvesChecked)
 
-pub extend-clears : (f : ExtendInput → Extended × (List ℤ × List ℤ)) → Leaves extending (λ b. b .1) f
-    → ShutOut extending f extendMorning
+pub extend-clears : Writes extending (λ b. b .1) extendMorning
 extend-clears f leaves =
     unwritten extending (λ b. b .1) f extendMorning front
     (rw (accepted .extend-morning, front-cleared workArea, front-ones 14748) (omega signed)) (leaves extendMorning)
@@ -207,12 +197,10 @@ best-not-hollow =
     (rw (accepted .best-passed, front-cleared workArea, front-ones 14748) (omega signed))
 
 -- Neither call may answer for P4 and P1's own plan, which has bits set beyond P4's one job.
-pub legal-refuses : (f : List ℕ × List ℕ → Checked × Unit {0}) → checkingLegal .refusal (f (oneJobBytes, ownPlan) .0) ≡ false
-    → ShutOut checkingLegal f (oneJobBytes, ownPlan)
+pub legal-refuses : Refuses checkingLegal (oneJobBytes, ownPlan)
 legal-refuses f = answered-wrongly checkingLegal f (oneJobBytes, ownPlan) (rw (accepted .legal-refused))
 
-pub best-refuses : (f : BestInput → Checked × List ℤ) → checkingBest .refusal (f (bestOneJob ownPlan) .0) ≡ false
-    → ShutOut checkingBest f (bestOneJob ownPlan)
+pub best-refuses : Refuses checkingBest (bestOneJob ownPlan)
 best-refuses f = answered-wrongly checkingBest f (bestOneJob ownPlan) (rw (accepted .best-refused))
 
 -- By the number of bytes, and the first one.
@@ -224,16 +212,14 @@ write-plan-not-hollow =
     (λ b. b .0) (λ l. pos (getD l 0 0)) (rw (accepted .write-morning, accepted .morning-order) (omega signed))
 
 -- The bytes may not be the same for both, whatever is answered,
-pub write-plan-not-constant : (f : WriteInput → Packed × (List ℕ × List ℤ)) → f writeMorning .1 .0 ≡ f writeOneJob .1 .0
-    → Allowed writingPlan f writeMorning → ShutOut writingPlan f writeOneJob
+pub write-plan-not-constant : TellsApart writingPlan (λ b. b .0) writeMorning writeOneJob
 unfolding rest toBits encode bytesOf planNumber packPlan bytesFor
 write-plan-not-constant f =
     same-buffers writingPlan (λ b. b .0) f writeMorning writeOneJob (λ l. pos (getD l 0 0))
     (rw (accepted .write-morning, accepted .morning-order, accepted .write-one-job, accepted .one-job-order) (omega signed))
 
 -- and the work area may not stay as it was.
-pub write-plan-clears : (f : WriteInput → Packed × (List ℕ × List ℤ)) → Leaves writingPlan (λ b. b .1) f
-    → ShutOut writingPlan f writeMorning
+pub write-plan-clears : Writes writingPlan (λ b. b .1) writeMorning
 write-plan-clears f leaves =
     unwritten writingPlan (λ b. b .1) f writeMorning front
     (rw (accepted .write-morning, front-cleared workArea, front-ones 14748) (omega signed)) (leaves writeMorning)

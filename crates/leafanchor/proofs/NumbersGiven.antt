@@ -1,5 +1,6 @@
 -- The numbers that each exported call can give, in every outcome that its contract allows, whatever it is given: at most 12, and on packed
--- orders 19. Only the call that plans halves gives 13 too, only the two that check plans give 14 and 15, and only framing gives 16 and 17.
+-- orders 19. Only the call that plans halves gives 13 too, only the two that check plans give 14 and 15, only framing gives 16 and 17, and
+-- only the four on sheets (`Sheets`) give 18.
 use Prim.Native.Nat.{ℕ, _≤_}
 use mathlib.Core.Path.{_≡_, refl}
 use mathlib.Core.Bool.{Bool, _||_}
@@ -172,7 +173,7 @@ choose-low rule first second t work =
 -- ---- every outcome of each call
 
 -- No outcome that a contract allows has another number.
-abbrev Gives : {A R X : Type 0} → (ℕ → Bool) → (A → R → X → Type 0) → (R → ℕ) → Type 0
+abbrev pub Gives : {A R X : Type 0} → (ℕ → Bool) → (A → R → X → Type 0) → (R → ℕ) → Type 0
 Gives {A} {R} {X} test allows number = (a : A) (r : R) (x : X) → allows a r x → T (test (number r))
 
 pub record SharedGiven : Type 0 where

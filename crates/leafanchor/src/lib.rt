@@ -21,6 +21,11 @@ ghost use Rattle.best_plan.specs.Calls.{bestOf, bestWorkAfter};
 ghost use Rattle.ties.specs.Winning.{sooner, toFirst};
 ghost use Rattle.choosing.specs.Choosing.{workAfter};
 ghost use Rattle.openings.specs.Answer.{answerOf};
+ghost use Rattle.sheet.specs.Sheet.{joinRefusal, joinedAfter as sheetAfter};
+ghost use Rattle.adding.specs.Calls.{addRefusal, addAfter, addWorkAfter};
+ghost use Rattle.feeding.specs.Calls.{feedRefusal, feedAfter, frontAfter, feedWorkAfter};
+ghost use Rattle.sheet_text.specs.SheetText.{toldOf, textAfter};
+ghost use Rattle.sheet_answers.specs.Numbers.{sheetNumbers, textNumbers, saysCut};
 ghost use Rattle.packed_answers.specs.Numbers.{heatNumbers, unpackNumbers, packNumbers, framedNumbers};
 ghost use Rattle.packed_answers.specs.Numbers.{openNumbers, stepNumbers};
 ghost use Rattle.plan_answers.specs.Numbers.{lookupNumbers, betterNumbers, extendNumbers, planFigures};
@@ -41,6 +46,8 @@ use plan_answers::HalvesAnswer;
 use plan_answers::LookupAnswer;
 use plan_answers::PlanAnswer;
 use point_records::Point;
+use sheet_answers::SheetAnswer;
+use sheet_answers::SheetTextAnswer;
 use verdict_answers::VerdictAnswer;
 
 // The heat-up length for the sampler's byte.
@@ -275,4 +282,62 @@ pub extern "C" fn leafanchor_choose_first(
 {
     let told = openings::question_first(first, second, t, work);
     opening_answers::choose_answer(told, first.len(), second.len())
+}
+
+// One order more on a sheet of 26 numbers, by its bytes.
+#[no_mangle]
+pub extern "C" fn leafanchor_sheet_add(
+    figures: &mut [u32],
+    order: &[u8],
+    work: &mut [i32],
+) -> SheetAnswer
+    ensures answer { λ r. ⌜ r ≡ sheetNumbers (addRefusal (now (figures .entry)) (now (work .entry))) ⌝ }
+    ensures lent { λ r. ⌜
+        now (figures .exit) ≡ addAfter (now (figures .entry)) (now (order .entry)) (now (work .entry)) ⌝ }
+    ensures area { λ r. ⌜ now (work .exit) ≡ addWorkAfter (now (figures .entry)) (now (work .entry)) ⌝ }
+{
+    sheet_answers::sheet_answer(adding::add(figures, order, work))
+}
+
+// A second sheet joined to a first.
+#[no_mangle]
+pub extern "C" fn leafanchor_sheet_join(figures: &mut [u32], more: &[u32]) -> SheetAnswer
+    ensures answer { λ r. ⌜ r ≡ sheetNumbers (joinRefusal (now (figures .entry)) (now (more .entry))) ⌝ }
+    ensures lent { λ r. ⌜ now (figures .exit) ≡ sheetAfter (now (figures .entry)) (now (more .entry)) ⌝ }
+{
+    sheet_answers::sheet_answer(sheet::join(figures, more))
+}
+
+// A piece of a stream, of which 29 numbers and a front of 437 bytes are held.
+#[no_mangle]
+pub extern "C" fn leafanchor_sheet_feed(
+    feed: &mut [u32],
+    front: &mut [u8],
+    piece: &[u8],
+    work: &mut [i32],
+) -> SheetAnswer
+    ensures answer { λ r. ⌜
+        r
+        ≡ sheetNumbers (feedRefusal (now (feed .entry)) (now (front .entry)) (now (piece .entry)) (now (work .entry))) ⌝ }
+    ensures numbers { λ r. ⌜
+        now (feed .exit) ≡ feedAfter (now (feed .entry)) (now (front .entry)) (now (piece .entry)) (now (work .entry)) ⌝ }
+    ensures room { λ r. ⌜
+        now (front .exit) ≡ frontAfter (now (feed .entry)) (now (front .entry)) (now (piece .entry)) (now (work .entry)) ⌝ }
+    ensures area { λ r. ⌜
+        now (work .exit) ≡ feedWorkAfter (now (feed .entry)) (now (front .entry)) (now (work .entry)) ⌝ }
+{
+    sheet_answers::sheet_answer(feeding::feed(feed, front, piece, work))
+}
+
+// The text of a sheet, written to the front of `text`; any `cut` but 0 says that the stream was cut.
+#[no_mangle]
+pub extern "C" fn leafanchor_sheet_text(
+    figures: &[u32],
+    cut: u32,
+    text: &mut [u8],
+) -> SheetTextAnswer
+    ensures answer { λ r. ⌜ r ≡ textNumbers (toldOf (now (figures .entry)) (saysCut cut) (now (text .entry))) ⌝ }
+    ensures lent { λ r. ⌜ now (text .exit) ≡ textAfter (now (figures .entry)) (saysCut cut) (now (text .entry)) ⌝ }
+{
+    sheet_answers::text_answer(sheet_text::tell(figures, cut != 0, text))
 }

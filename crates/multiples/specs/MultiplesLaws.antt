@@ -1,5 +1,6 @@
--- The laws of the least common multiple: it is a common multiple and divides every other, of two numbers and of a list; and the step
--- of Euclid's that the code takes.
+-- The laws of the greatest common divisor, which divides both numbers and is a multiple of every other divisor of both, and of the
+-- least common multiple: it is a common multiple and divides every other, of two numbers and of a list; and the step of Euclid's
+-- that the code takes.
 use Prim.Native.Nat.{ℕ, zero, suc, _*_, _-_, _/_, _%_, _≤_, _<_, _∣_}
 use mathlib.Core.Path.{_≡_, refl, sym, ap, _∙_}
 use mathlib.Core.List.{List, [], _∷_, _++_, List·Memᴰ, List·Memᴰ·head, List·Memᴰ·tail}
@@ -32,6 +33,10 @@ multiple-self n = (1, omega arith)
 -- A multiple that is not 0 is no smaller.
 pub multiple-above : (d n : ℕ) → 1 ≤ n → Multiple d n → d ≤ n
 multiple-above d n some m = le-of-dvd some (divides d n m)
+
+-- Divided and taken as often again, a multiple is as it was.
+pub multiple-over : (d n : ℕ) → Multiple d n → n / d * d ≡ n
+multiple-over d n m = div-mul-cancel d (divides d n m)
 
 -- Two numbers that are multiples of each other are equal.
 pub multiple-both : (m n : ℕ) → Multiple m n → Multiple n m → m ≡ n
@@ -99,9 +104,28 @@ module _ (a b : ℕ) where
   unfolding gcd
   gcd-span k m = spanIn (suc b) a b k m (omega arith)
 
-  -- It is not 0 where the first number is not.
+  -- Both are multiples of it,
+  pub gcd-of-first : Multiple (gcd a b) a
+  gcd-of-first = multiple (gcd a b) a gcd-left
+
+  pub gcd-of-second : Multiple (gcd a b) b
+  gcd-of-second = multiple (gcd a b) b gcd-right
+
+  -- and it is a multiple of whatever both are multiples of, also where all three are taken m times.
+  pub gcd-spans : (k m : ℕ) → Multiple k (m * a) → Multiple k (m * b) → Multiple k (m * gcd a b)
+  gcd-spans k m p q = multiple k (m * gcd a b) (gcd-span k m (divides k (m * a) p) (divides k (m * b) q))
+
+  pub gcd-greatest : (k : ℕ) → Multiple k a → Multiple k b → Multiple k (gcd a b)
+  gcd-greatest k p q =
+      let once : (n : ℕ) → 1 * n ≡ n = λ n. omega arith in
+      rw (once (gcd a b)) at (gcd-spans k 1 (rw (once a) p) (rw (once b) q))
+
+  -- It is not 0 where the first number is not, or the second.
   pub gcd-positive : 1 ≤ a → 1 ≤ gcd a b
   gcd-positive some = pos-of-dvd-of-pos gcd-left some
+
+  pub gcd-some : 1 ≤ b → 1 ≤ gcd a b
+  gcd-some some = pos-of-dvd-of-pos gcd-right some
 
   -- ---- the least common multiple of two numbers
 

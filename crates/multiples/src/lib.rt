@@ -1,10 +1,11 @@
-// The least common multiple of numbers: its definition and laws, and the code that finds it.
+// The greatest common divisor and the least common multiple of numbers: their definitions and laws, and the code that finds
+// them.
 
 ghost use mathlib.Core.Path.{_≡_};
 ghost use Rattle.multiples.specs.Multiples.{BothPositive, gcd as gcdOf, lcm as lcmOf};
 
 // Euclid's greatest common divisor.
-fn gcd(a: u32, b: u32) -> u32
+pub fn gcd(a: u32, b: u32) -> u32
     ensures { λ r. ⌜ r ≡ gcdOf a b ⌝ }
 {
     let mut x = a;

@@ -7,7 +7,8 @@ use report::report_read;
 ghost use mathlib.Core.Path.{_≡_};
 ghost use Prim.Native.Nat.{_<_};
 ghost use lib.ListN.{length, take};
-ghost use Rattle.report.specs.Report.{reportOf, longestOrder};
+ghost use Rattle.planner.specs.Calls.{longestOrder};
+ghost use Rattle.report.specs.Report.{reportOf};
 
 // One byte more than the longest order has: any longer input has the text of its first bytes (`read-enough`
 // of report).

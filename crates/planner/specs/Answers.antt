@@ -10,6 +10,7 @@ use native.Mathlib.Omega.{arith}
 use lib.Count.{ones}
 use lib.IntN.{ℤ, pos}
 use lib.ListN.{length}
+use Rattle.seconds.specs.Limits.{mostJobs}
 use Rattle.order.specs.Job.{Job, weightOf}
 use Rattle.order.specs.Choice.{Choice, feasible, lostWeight, mask, numberKept}
 use Rattle.order.specs.Runs.{run-length}
@@ -19,11 +20,11 @@ use Rattle.plan.specs.PlanIs.{plan-none, plan-is}
 use Rattle.plan.specs.Figures.{answer-figures}
 use Rattle.packed.specs.declared.Refusal.{Refusal}
 use Rattle.packed.specs.Judge.{inField, plainly, noRefusal, Verdict, fine, refused, judge}
-use Rattle.packed.specs.JudgeLaws.{never, stages-fine}
+use Rattle.packed.specs.JudgeLaws.{judge-append, never, stages-fine}
 use Rattle.packed.specs.Packed.{countOf, numbersOf, orderOf}
 use Rattle.packed.specs.Refusals.{headerChecks, jobChecks, weightChecks, roomChecks, orderChecks}
 use Rattle.packed.specs.RefusalLaws.{room-fine}
-use Rattle.packed.specs.Accepted.{order-within}
+use Rattle.packed.specs.Accepted.{order-fine, order-within}
 use Rattle.packed.specs.RefusalPlaces.{BadField, RefusalIs, nowhere, SixIs, six-order, answer-refusal, answer-says}
 use Rattle.area.specs.Area.{area}
 use Rattle.judge.specs.Told.{Named, named-rooms, named-order, six-rooms}
@@ -90,6 +91,20 @@ module _ (bytes : List ℕ) (starts work : List ℤ) where
         λ e. (first .0 (all .0 e .0) .0, room .0 (first .0 (all .0 e .0) .1), longest .0 (all .0 e .1)),
         λ h. all .1 (first .1 (h .0, room .1 (h .1)), longest .1 (h .2)),
       )
+
+  -- With room for every order's starts and for the work area the verdict is the one on the order.
+  pub plan-roomy : mostJobs ≤ length starts → area ≤ length work → planVerdict bytes starts work ≡ judge (orderChecks bytes)
+  unfolding planChecks
+  plan-roomy places space = go (judge (orderChecks bytes)) refl
+    where
+      go : (v : Verdict) → judge (orderChecks bytes) ≡ v → planVerdict bytes starts work ≡ judge (orderChecks bytes)
+      go fine e = plan-passed .1 (e, omega (arith, order-fine bytes .0 e .header .few), space) ∙ sym e
+      go (refused r) e =
+          rw (
+            judge-append (orderChecks bytes ++ roomChecks (countOf bytes) (length starts)) (roomChecks area (length work)),
+            judge-append (orderChecks bytes) (roomChecks (countOf bytes) (length starts)),
+            e,
+          )
 
   -- None of them gives 11.
   pub plan-other : {r : Refusal} → planVerdict bytes starts work ≡ refused r → r .number ≢ 11

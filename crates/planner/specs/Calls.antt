@@ -1,12 +1,14 @@
 -- Planning as a call: the checks, the answer, and every lent buffer at exit, for every input. Definitions only.
-use Prim.Native.Nat.{ℕ}
+use Prim.Native.Nat.{ℕ, _+_, _*_}
 use mathlib.Core.Path.{_≡_}
 use mathlib.Core.List.{List, _++_}
 use mathlib.Core.Option.{Option, none, some}
 use lib.IntN.{ℤ, pos}
 use lib.ListN.{length}
+use Rattle.seconds.specs.Limits.{mostJobs}
 use Rattle.plan.specs.Plan.{Answer, planAnswer}
 use Rattle.packed.specs.declared.Refusal.{Refusal}
+use Rattle.packed.specs.Layout.{headerBytes, recordBytes}
 use Rattle.packed.specs.Judge.{plainly, noRefusal, Check, Verdict, fine, refused, judge}
 use Rattle.packed.specs.Packed.{countOf, orderOf}
 use Rattle.packed.specs.Refusals.{roomChecks, orderChecks}
@@ -37,6 +39,10 @@ figuresOf a =
       finish = a .finish;
       points = a .points;
     }
+
+-- The bytes of an order of as many jobs as there may be, in kind 1.
+unfoldable pub longestOrder : ℕ
+longestOrder = headerBytes + recordBytes 1 * mostJobs
 
 -- The answer by the verdict and the plan; with no feasible choice it is 11.
 abbrev pub plannedBy : Verdict → Option Answer → Planned

@@ -5,3 +5,4 @@ pub mod CallLaws
 pub mod PlanMask
 pub mod PlanningLaws
 pub mod Answers
+pub mod Longer

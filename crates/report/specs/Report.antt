@@ -1,5 +1,5 @@
 -- The text that the program prints, as a function of the bytes that it reads. Definitions only.
-use Prim.Native.Nat.{ℕ, _+_, _*_, _≤_}
+use Prim.Native.Nat.{ℕ, _≤_}
 use mathlib.Core.Path.{_≡_}
 use mathlib.Core.Bool.{cond}
 use mathlib.Core.List.{List, [], _∷_, _++_}
@@ -7,14 +7,13 @@ use mathlib.Core.Option.{Option, none, some}
 use lib.Dec.{ltb}
 use lib.IntN.{ℤ, pos}
 use lib.ListN.{length, drop}
-use Rattle.seconds.specs.Limits.{leftOut, mostJobs}
+use Rattle.seconds.specs.Limits.{leftOut}
 use Rattle.seconds.specs.Ranges.{same}
 use Rattle.order.specs.Job.{Job, Order}
 use Rattle.plan.specs.Plan.{Answer, planAnswer}
 use Rattle.packed.specs.declared.Refusal.{Refusal}
-use Rattle.packed.specs.Layout.{headerBytes, recordBytes}
 use Rattle.packed.specs.Judge.{plainly, Verdict, fine, refused, judge}
-use Rattle.packed.specs.Packed.{countOf, kindOf, orderOf}
+use Rattle.packed.specs.Packed.{orderOf}
 use Rattle.packed.specs.Refusals.{orderChecks}
 use Rattle.planner.specs.Calls.{figuresOf}
 use Rattle.planner.specs.declared.Figures.{Figures}
@@ -61,16 +60,6 @@ textOf fine o = planText (o .jobs) (planAnswer o)
 -- The text for any bytes.
 unfoldable pub reportOf : List ℕ → List ℕ
 reportOf bytes = textOf (judge (orderChecks bytes)) (orderOf bytes)
-
--- ---- longer input
-
--- The bytes of an order of as many jobs as there may be, in kind 1.
-unfoldable pub longestOrder : ℕ
-longestOrder = headerBytes + recordBytes 1 * mostJobs
-
--- What longer bytes are refused by: 2 or 3 where they apply, else 4.
-abbrev pub tooLong : List ℕ → ℕ
-tooLong bytes = cond (ltb 1 (kindOf bytes)) 2 (cond (ltb mostJobs (countOf bytes)) 3 4)
 
 -- ---- the calls
 

@@ -13,16 +13,16 @@ use Rattle.seconds.specs.Limits.{mostJobs}
 use Rattle.plan.specs.Plan.{Answer, planAnswer}
 use Rattle.plan.specs.Figures.{answer-figures}
 use Rattle.packed.specs.declared.Refusal.{Refusal}
-use Rattle.packed.specs.Judge.{plainly, Check, Verdict, fine, refused, judge}
-use Rattle.packed.specs.JudgeLaws.{judge-append, stages-fine, Tells, tells-append, judge-tells}
+use Rattle.packed.specs.Judge.{plainly, Verdict, fine, refused, judge}
+use Rattle.packed.specs.JudgeLaws.{judge-append, Tells, tells-append, judge-tells}
 use Rattle.packed.specs.Packed.{countOf, numbersOf, jobCount, jobIn, orderOf}
 use Rattle.packed.specs.PackedLaws.{numbers-count, order-jobs}
 use Rattle.packed.specs.PlacesLaws.{length-each}
-use Rattle.packed.specs.Refusals.{firstBad, firstRepeat, headerChecks, jobChecks, weightChecks, roomChecks, orderChecks}
-use Rattle.packed.specs.RefusalLaws.{header-fine, room-fine}
+use Rattle.packed.specs.Refusals.{firstBad, firstRepeat, headerChecks, jobChecks, weightChecks, orderChecks}
+use Rattle.packed.specs.RefusalLaws.{header-fine}
 use Rattle.packed.specs.Accepted.{order-fine, order-within}
-use Rattle.area.specs.Area.{area}
-use Rattle.planner.specs.Calls.{planChecks, planVerdict, plannedBy, startsBy, plannedOf, startsAfter}
+use Rattle.planner.specs.Calls.{planVerdict, plannedBy, startsBy, plannedOf, startsAfter}
+use Rattle.planner.specs.Answers.{plan-roomy}
 use Rattle.planner.specs.declared.Figures.{Figures}
 use Rattle.planner.specs.declared.Planned.the-variants.{Refused, Made}
 use Rattle.text.specs.Buffer.{Wrote}
@@ -90,24 +90,9 @@ jobs-count : (bytes : List ℕ) → length (orderOf bytes .jobs) ≡ countOf byt
 jobs-count bytes = rw (order-jobs bytes) (omega (arith, length-each (jobIn bytes) 0 (countOf bytes)))
 
 module _ (bytes : List ℕ) (starts work : List ℤ) (out : List ℕ) (room : HasRoom starts work out) where
-  -- The two checks of room.
-  abbrev places : List Check
-  places = roomChecks (countOf bytes) (length starts)
-
-  abbrev space : List Check
-  space = roomChecks area (length work)
-
   -- With so much room the verdict is the one on the order.
   verdict-is : planVerdict bytes starts work ≡ judge (orderChecks bytes)
-  unfolding planChecks
-  verdict-is = go (judge (orderChecks bytes)) refl
-    where
-      go : (v : Verdict) → judge (orderChecks bytes) ≡ v → judge (orderChecks bytes ++ places ++ space) ≡ judge (orderChecks bytes)
-      go fine e =
-          let few : countOf bytes ≤ length starts = omega (arith, room .places, order-fine bytes .0 e .header .few) in
-          let starts-fit = stages-fine (orderChecks bytes) places .1 (e, room-fine (countOf bytes) (length starts) .1 few) in
-          stages-fine (orderChecks bytes ++ places) space .1 (starts-fit, room-fine area (length work) .1 (room .space)) ∙ sym e
-      go (refused r) e = rw (judge-append (orderChecks bytes ++ places) space, judge-append (orderChecks bytes) places, e)
+  verdict-is = plan-roomy bytes starts work (room .places) (room .space)
 
   -- A refusal is told by one line, and its place is an early one.
   pub refusal-told : (r : Refusal) → Refused r ≡ plannedOf bytes starts work

@@ -9,12 +9,10 @@ use planner::Planned;
 use planner::plan;
 use starting::LEFT_OUT;
 use text::put_byte;
-use text::put_count;
+use text::put_figure;
 use text::put_number;
-ghost use mathlib.Core.List.{[], _∷_, _++_};
 ghost use Prim.Native.Nat.{_+_, _≤_};
 ghost use lib.ListN.{take};
-ghost use Rattle.text.specs.Decimal.{digits};
 ghost use Rattle.text.specs.Buffer.{Room, Wrote};
 ghost use Rattle.report.specs.Report.{refusalLine, planLine, startWord, jobLine, reportOf, Reported};
 ghost use Rattle.report.specs.Writing.{frontWords, keptWords, CanRefuse, CanList, listed, CanTell, HasRoom};
@@ -32,16 +30,6 @@ const MOST_JOBS: usize = 48;
 // The room that is wanted for a text, in bytes.
 pub const ROOM: usize = 2048;
 
-// A number from zero up, and a byte behind it: at most eleven bytes.
-fn put_figure(out: &mut [u8], at: usize, value: u32, behind: u8) -> usize
-    requires { ⌜ Room 11 (now out) at ⌝ }
-    ensures { λ r. ⌜ Wrote (now (out .entry)) at (digits value ++ (behind ∷ [])) (now (out .exit)) r ⌝ }
-    ensures { λ r. ⌜ r ≤ at + 11 ⌝ }
-{
-    let next = put_count(out, at, value);
-    put_byte(out, next, behind)
-}
-
 // The two figures that every first line begins with, a refusal's number and its place, at the front: at most 22 bytes.
 fn put_front(out: &mut [u8], number: u32, place: u32) -> usize
     requires { ⌜ Room 22 (now out) 0 ⌝ }
@@ -53,7 +41,7 @@ fn put_front(out: &mut [u8], number: u32, place: u32) -> usize
 }
 
 // The line of a refusal, at the front: at most 33 bytes.
-fn put_refusal(out: &mut [u8], refusal: Refusal) -> usize
+pub fn put_refusal(out: &mut [u8], refusal: Refusal) -> usize
     requires { ⌜ CanRefuse refusal (now out) ⌝ }
     ensures { λ r. ⌜ Wrote (now (out .entry)) 0 (refusalLine refusal) (now (out .exit)) r ⌝ }
 {

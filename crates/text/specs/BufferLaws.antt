@@ -91,6 +91,11 @@ wrote-more {entry} {at} {text} {middle} {place} {more} {exit} {next} a b = recor
   kept = omega arith;
 }
 
+-- One byte more.
+pub wrote-next : {entry : List ℕ} {at : ℕ} {text out : List ℕ} {place : ℕ} (b : ℕ) → Wrote entry at text out place
+    → place + 1 ≤ length entry → Wrote entry at (text ++ (b ∷ [])) (set out place b) (place + 1)
+wrote-next b w h = wrote-more w (wrote-byte b (omega (arith, w .kept)))
+
 -- A caller hears of a signed number through its bits: here of the number itself.
 pub wrote-number : {entry : List ℕ} {at : ℕ} {z : ℤ} {exit : List ℕ} {next : ℕ} → SFits w32 z
     → Wrote entry at (figure (toZ w32 (ofZ w32 z))) exit next → Wrote entry at (figure z) exit next

@@ -1,7 +1,7 @@
 // Numbers as text: figures written as bytes into a lent buffer. Each call wants room and returns the
 // place behind what it wrote. Assumes nothing.
 ghost use mathlib.Core.Path.{_≡_};
-ghost use mathlib.Core.List.{[], _∷_};
+ghost use mathlib.Core.List.{[], _∷_, _++_};
 ghost use Prim.Native.Nat.{_+_, _≤_};
 ghost use lib.IntN.{natAbs};
 ghost use lib.ListN.{length};
@@ -46,6 +46,16 @@ pub fn put_count(out: &mut [u8], at: usize, value: u32) -> usize
     }
     out[place] = 48 + left as u8;
     next
+}
+
+// A number from zero up, and a byte behind it: at most eleven bytes.
+pub fn put_figure(out: &mut [u8], at: usize, value: u32, behind: u8) -> usize
+    requires { ⌜ Room 11 (now out) at ⌝ }
+    ensures { λ r. ⌜ Wrote (now (out .entry)) at (digits value ++ (behind ∷ [])) (now (out .exit)) r ⌝ }
+    ensures { λ r. ⌜ r ≤ at + 11 ⌝ }
+{
+    let next = put_count(out, at, value);
+    put_byte(out, next, behind)
 }
 
 // A number without its sign; -1 - value is one less than it, and fits for every value below zero.

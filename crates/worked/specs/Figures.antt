@@ -22,7 +22,11 @@ use Rattle.plan_writer.specs.Calls.{planRoom, writeChecks}
 use Rattle.checking.specs.Calls.{legalChecks}
 use Rattle.best_plan.specs.Calls.{bestChecks}
 use Rattle.choosing.specs.Choosing.{choosingChecks}
-use Rattle.report.specs.Report.{longestOrder}
+use Rattle.planner.specs.Calls.{longestOrder}
+use Rattle.sheet.specs.Sheet.{sumCount, figureCount, mostOrders, greatestTop}
+use Rattle.streams.specs.Entries.{said}
+use Rattle.streams.specs.Stream.{frontRoom, feedCount}
+use Rattle.sheet_text.specs.SheetText.{sheetRoom}
 
 -- ---- names and figures
 
@@ -85,6 +89,17 @@ figures =
     -- R24, R41, R42: the numbers of the most repeating jobs, and the longest frame
     ∷ is (pos (repeatingNumbers * mostRepeating)) (pos 96)
     ∷ is (pos longestFrame) (pos 86400)
+    -- R46, R49: the sums and the figures of a sheet, its most orders, and the greatest of the figure that is a point total and 1
+    ∷ is (pos sumCount) (pos 24)
+    ∷ is (pos figureCount) (pos 26)
+    ∷ is (pos mostOrders) (pos 10000)
+    ∷ is (pos greatestTop) (pos 14449)
+    -- R47: the bytes of the longest text
+    ∷ is (pos sheetRoom) (pos 336)
+    -- R48: the bytes of the longest entry, and the numbers and bytes that are held of a stream
+    ∷ is (pos (said 255 255)) (pos 65535)
+    ∷ is (pos feedCount) (pos 29)
+    ∷ is (pos frontRoom) (pos 437)
     ∷ []
 
 -- Every name stands for its figure.

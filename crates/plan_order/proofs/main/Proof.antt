@@ -5,7 +5,7 @@ use lib.ListN.{length, take}
 use lib.Seq.{length-take-le}
 use borrow.Author.Needs.{needs}
 use Rattle.report.specs.Report.{reportOf, printed}
-use Rattle.report.specs.Longer.{longest-is}
+use Rattle.planner.specs.Longer.{longest-is}
 use Rattle.report.specs.Telling.{front-told}
 use Rattle.plan_order.proofs.main.Statement.{statement}
 use Rattle.plan_order.proofs.main.Tie as tie

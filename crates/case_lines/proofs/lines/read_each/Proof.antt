@@ -8,10 +8,10 @@ use Rattle.case_lines.proofs.lines.read_each.Statement.{statement}
 use Rattle.case_lines.proofs.lines.read_each.Tie as tie
 
 abbrev Inv-loop : tie.InvT-loop
-Inv-loop part numbers₀ bytes₀ at₀ count₀ numbers bytes at count = (count ≤ at) × (length numbers ≡ length numbers₀) × (length bytes ≡ length bytes₀)
+Inv-loop part numbers₀ bytes₀ sizes₀ at₀ count₀ numbers bytes sizes at count = (count ≤ at) × (length numbers ≡ length numbers₀) × (length bytes ≡ length bytes₀) × (length sizes ≡ length sizes₀)
 
 abbrev μ-loop : tie.MeasureT-loop
-μ-loop part numbers₀ bytes₀ at₀ count₀ numbers bytes at count = length part - at
+μ-loop part numbers₀ bytes₀ sizes₀ at₀ count₀ numbers bytes sizes at count = length part - at
 
 past-requires : tie.Need-past-requires Inv-loop μ-loop
 past-requires c κs = search needs
@@ -31,6 +31,9 @@ size-at-requires c κs = search needs
 put-byte-requires : tie.Need-put-byte-requires Inv-loop μ-loop
 put-byte-requires c κs = search needs
 
+put-size-requires : tie.Need-put-size-requires Inv-loop μ-loop
+put-size-requires c κs = search needs
+
 add-count : tie.Need-add-count Inv-loop μ-loop
 add-count c = search needs
 
@@ -49,6 +52,9 @@ same-length c = search needs
 same-length-2 : tie.Need-same-length-2 Inv-loop μ-loop
 same-length-2 c = search needs
 
+same-length-3 : tie.Need-same-length-3 Inv-loop μ-loop
+same-length-3 c = search needs
+
 returns : tie.Need-returns Inv-loop μ-loop
 returns c = search needs
 
@@ -64,10 +70,12 @@ read-each-spec =
     put-requires
     size-at-requires
     put-byte-requires
+    put-size-requires
     add-count
     past-requires-2
     loop-less
     loop-again
     same-length
     same-length-2
+    same-length-3
     returns)

@@ -1,9 +1,9 @@
--- `report::put_figure` meets its contract: the figures, and behind them the byte.
+-- `text::put_figure` meets its contract: the figures, and behind them the byte.
 -- Assumes nothing.
 use borrow.Author.Needs.{needs}
 use Rattle.text.specs.BufferLaws.{wrote-more}
-use Rattle.report.proofs.put_figure.Statement.{statement}
-use Rattle.report.proofs.put_figure.Tie as tie
+use Rattle.text.proofs.put_figure.Statement.{statement}
+use Rattle.text.proofs.put_figure.Tie as tie
 
 put-count-requires : tie.Need-put-count-requires
 put-count-requires c κs = search needs

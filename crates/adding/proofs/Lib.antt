@@ -1,0 +1,2 @@
+-- What the contract of one order more fixes.
+pub mod Determined

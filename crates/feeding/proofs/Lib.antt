@@ -1,0 +1,3 @@
+-- What is proved of the call's contract.
+pub mod Determined
+pub mod Outcomes

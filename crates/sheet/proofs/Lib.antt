@@ -1,0 +1,2 @@
+-- What the contract of joining fixes.
+pub mod Determined

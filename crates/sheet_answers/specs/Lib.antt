@@ -1,0 +1,2 @@
+-- The answers of the calls on sheets in numbers.
+pub mod Numbers

@@ -1,0 +1,2 @@
+-- What is proved of the call's contract.
+pub mod Determined

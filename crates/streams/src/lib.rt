@@ -1,0 +1,1 @@
+// Streams of orders, each behind its length: definitions and laws, no code.
