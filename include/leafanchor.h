@@ -13,17 +13,18 @@
  * of each job kept. A point is a bus-free time and the weight that can be kept by then; a profile is a list of points,
  * both figures rising (R11). An opening is an order that the hangar may pick for the front of a morning; the tail is
  * the order behind it. A repeating job comes again with every period; the frame of repeating jobs is the time after
- * which all of them begin anew (R42).
+ * which all of them begin anew (R42). A sheet has the figures of a list of up to 10,000 orders (R46); a stream is the
+ * bytes of many orders, each behind its length in two bytes, the highest first (R48), and comes in pieces.
  *
  * Machines. The library is for x86-64, where it is called by the System V convention, and for aarch64; where pointers
  * or size_t do not have 64 bits, or a number's greater byte comes first, this header stops with one sentence. Of the
  * C library it needs memcpy, memmove and memset at most.
  *
  * What the caller owes, and no call checks: a pointer is never null, also where its length is 0; it points to as many
- * elements as the length beside it says; it is aligned as C aligns its type, which is to 4 bytes for int32_t,
- * leafanchor_job, leafanchor_repeating and leafanchor_point, to 8 for leafanchor_profile, to 1 for bytes; a buffer that
- * a call writes overlaps no other buffer of that call, but for profiles where a call says so. Beyond that a call takes
- * any numbers and any bytes and ends with an answer.
+ * elements as the length beside it says; it is aligned as C aligns its type, which is to 4 bytes for int32_t, uint32_t,
+ * leafanchor_job, leafanchor_repeating, leafanchor_point and sheets, to 8 for leafanchor_profile, to 1 for bytes; a
+ * buffer that a call writes overlaps no other buffer of that call, but for profiles and sheets where a call says so.
+ * Beyond that a call takes any numbers and any bytes and ends with an answer.
  *
  * Lengths count elements: bytes of an order or a plan, numbers of a list, records of a list of points. A buffer may
  * be longer than a call needs; what lies past the part needed stays as it was.
@@ -41,7 +42,7 @@
  *
  * The work area is room that a call is lent for its search. It may hold anything before; its first
  * LEAFANCHOR_WORK_AREA numbers are 0 after every call that has one and passes refusal 10, refused with 11 or not
- * (R29). */
+ * (R29); a sheet or a stream that is refused with 18 as it is given leaves it. */
 #ifndef LEAFANCHOR_H
 #define LEAFANCHOR_H
 
@@ -66,9 +67,9 @@ extern "C" {
  * one rises then. */
 #define LEAFANCHOR_VERSION_MAJOR 0
 /** The version's second figure: it rises when something is added. */
-#define LEAFANCHOR_VERSION_MINOR 9
+#define LEAFANCHOR_VERSION_MINOR 10
 /** The version's third figure: it rises when something is mended, or made smaller or faster. */
-#define LEAFANCHOR_VERSION_PATCH 1
+#define LEAFANCHOR_VERSION_PATCH 0
 /** The version as text, "MAJOR.MINOR.PATCH". */
 #define LEAFANCHOR_VERSION \
     LEAFANCHOR_QUOTED(LEAFANCHOR_VERSION_MAJOR) "." LEAFANCHOR_QUOTED(LEAFANCHOR_VERSION_MINOR) "." \
@@ -110,6 +111,12 @@ extern "C" {
 #define LEAFANCHOR_MOST_REPEATING 16     /**< repeating jobs of one frame, at most */
 #define LEAFANCHOR_REPEATING_NUMBERS 96  /**< numbers of so many, six a job: those of leafanchor_repeating */
 #define LEAFANCHOR_LONGEST_FRAME 86400   /**< seconds of the longest frame, and of the longest period */
+#define LEAFANCHOR_SHEET_FIGURES 26      /**< numbers of a sheet, those of leafanchor_sheet in its order */
+#define LEAFANCHOR_SHEET_REFUSALS 19     /**< those of them that count refusals, 1 to 19 */
+#define LEAFANCHOR_SHEET_ORDERS 10000    /**< orders of one sheet, at most */
+#define LEAFANCHOR_SHEET_TEXT 336        /**< bytes that a sheet's text asks room for, however short it is */
+#define LEAFANCHOR_SHEET_FEED 29         /**< numbers held of a stream: its sheet's, known, size and got */
+#define LEAFANCHOR_SHEET_FRONT 437       /**< bytes held of a stream: the longest order's and one more */
 #define LEAFANCHOR_STACK 8192            /**< bytes of stack that a call takes at most, those of this header too */
 #define LEAFANCHOR_PHRASE_ROOM 64        /**< bytes that the longest text of leafanchor_tell takes, its end included */
 #define LEAFANCHOR_NO_PLACE ((size_t)-1) /**< tells leafanchor_tell that an answer has no place */
@@ -140,6 +147,7 @@ enum leafanchor_refusal {
     LEAFANCHOR_REPEATING_NOT_VALID = 16,  /**< a repeating job's field is out of range, or its phase, deadline and rest
                                            * pass its period; the place is the first such job's */
     LEAFANCHOR_FRAME_TOO_LONG = 17,       /**< the least common multiple of the periods is above 86,400 */
+    LEAFANCHOR_NO_SHEET = 18,             /**< more than 10,000 orders, or figures that no sheet or stream has (R49) */
     LEAFANCHOR_EVERY_PACK_ZERO = 19       /**< the records are of kind 1 and every pack is 0, as in an order of no
                                            * jobs: such an order is of kind 0 */
 };
@@ -169,6 +177,7 @@ static inline const char *leafanchor_phrase(uint32_t refusal)
     case LEAFANCHOR_PLAN_STRAY_BITS: return "the packed plan has bits set that must be zero";
     case LEAFANCHOR_REPEATING_NOT_VALID: return "a repeating job's field is out of range, or its deadline late";
     case LEAFANCHOR_FRAME_TOO_LONG: return "the frame is longer than 86,400 seconds";
+    case LEAFANCHOR_NO_SHEET: return "there are more than 10,000 orders, or figures that no sheet has";
     case LEAFANCHOR_EVERY_PACK_ZERO: return "the records are of kind 1 and every pack is 0";
     default: return "no such refusal";
     }
@@ -423,6 +432,17 @@ typedef struct leafanchor_choose_answer {
     uint32_t kind;    /**< of these records, 0 or 1; 0 if refused */
 } leafanchor_choose_answer;
 
+/** Whether a sheet took what it was given. */
+typedef struct leafanchor_sheet_answer {
+    uint32_t refusal; /**< 10, 18 or 0 */
+} leafanchor_sheet_answer;
+
+/** What a sheet's text gives beside its bytes. */
+typedef struct leafanchor_sheet_text_answer {
+    uint32_t refusal; /**< 10, 18 or 0 */
+    size_t bytes;     /**< written */
+} leafanchor_sheet_text_answer;
+
 /** The heat-up length for a sample of the cell's temperature (R20). Refusal 12 gives 0 seconds.
  * @param byte the sampler's byte, which is a signed number of degrees
  * @return the seconds */
@@ -646,6 +666,58 @@ LEAFANCHOR_MUST_USE
 leafanchor_choose_answer leafanchor_choose_first(const uint8_t *first, size_t first_len, const uint8_t *second,
                                                  size_t second_len, int32_t t, int32_t *work, size_t work_len);
 
+/** Counts one order more in a sheet, whatever planning says of it (R46). Refusals 10, then 18 (R49), also where the
+ * sheet has LEAFANCHOR_SHEET_ORDERS; they change nothing.
+ * @param figures the sheet, changed: the numbers of leafanchor_sheet
+ * @param figures_len how many numbers, LEAFANCHOR_SHEET_FIGURES at least
+ * @param order the packed order, or any bytes
+ * @param order_len how many
+ * @param work the work area
+ * @param work_len room for LEAFANCHOR_WORK_AREA numbers
+ * @return the refusal */
+LEAFANCHOR_MUST_USE
+leafanchor_sheet_answer leafanchor_sheet_add(uint32_t *figures, size_t figures_len, const uint8_t *order,
+                                             size_t order_len, int32_t *work, size_t work_len);
+
+/** Joins two sheets into that of the one list behind the other (R46). Refusals 10, then 18 (R49), also for more than
+ * LEAFANCHOR_SHEET_ORDERS together; they change nothing.
+ * @param figures the first sheet, changed: the numbers of leafanchor_sheet
+ * @param figures_len how many numbers, LEAFANCHOR_SHEET_FIGURES at least
+ * @param more the second sheet: the numbers of leafanchor_sheet
+ * @param more_len how many numbers, LEAFANCHOR_SHEET_FIGURES at least
+ * @return the refusal */
+LEAFANCHOR_MUST_USE
+leafanchor_sheet_answer leafanchor_sheet_join(uint32_t *figures, size_t figures_len, const uint32_t *more,
+                                              size_t more_len);
+
+/** Feeds a stream's next piece, of any size: its whole entries are counted, and of the last one is held what has come
+ * (R48). Refusals 10, then 18 (R49); they change nothing, but that the piece with the 10,001st whole entry is counted
+ * up to it, and any piece behind it is refused.
+ * @param feed held of the stream, changed: its sheet's numbers, then known, size and got; 0 each at first
+ * @param feed_len how many numbers, LEAFANCHOR_SHEET_FEED at least
+ * @param front held of the stream, changed: the first bytes of the entry begun; anything at first
+ * @param front_len room for LEAFANCHOR_SHEET_FRONT bytes
+ * @param piece the piece
+ * @param piece_len its bytes
+ * @param work the work area
+ * @param work_len room for LEAFANCHOR_WORK_AREA numbers
+ * @return the refusal */
+LEAFANCHOR_MUST_USE
+leafanchor_sheet_answer leafanchor_sheet_feed(uint32_t *feed, size_t feed_len, uint8_t *front, size_t front_len,
+                                              const uint8_t *piece, size_t piece_len, int32_t *work,
+                                              size_t work_len);
+
+/** Writes a sheet's text, 28 lines with no end behind them (R47). Refusals 10, then 18 (R49), write nothing.
+ * @param figures the sheet: the numbers of leafanchor_sheet, or what is held of a stream
+ * @param figures_len how many numbers, LEAFANCHOR_SHEET_FIGURES at least
+ * @param cut 0 for "whole" in the last line, any other for "cut"
+ * @param text written: the text
+ * @param text_len room for LEAFANCHOR_SHEET_TEXT bytes
+ * @return the bytes written */
+LEAFANCHOR_MUST_USE
+leafanchor_sheet_text_answer leafanchor_sheet_text(const uint32_t *figures, size_t figures_len, uint32_t cut,
+                                                   uint8_t *text, size_t text_len);
+
 /** A job (R2). An array of jobs is a list of unpacked numbers, seven a job. */
 typedef struct leafanchor_job {
     int32_t number;   /**< 0 to 63, unlike any other of the order */
@@ -674,6 +746,28 @@ typedef struct leafanchor_profile {
     size_t numbers_len;                       /**< how many of the numbers are the profile: twice the points */
     int32_t numbers[LEAFANCHOR_PROFILE_ROOM]; /**< alternating times and weights; what stands behind means nothing */
 } leafanchor_profile;
+
+/** A sheet (R46), which is 26 numbers. All but the last two are sums over its orders. All 0 is the sheet of none. */
+typedef struct leafanchor_sheet {
+    uint32_t orders;         /**< all of them, LEAFANCHOR_SHEET_ORDERS at most */
+    uint32_t refused[19];    /**< those refused by 1 to 19, each at its number less 1 */
+    uint32_t feasible;       /**< those with a plan; with the refused ones they are all */
+    uint32_t offered_weight; /**< of the feasible ones: all their weights */
+    uint32_t kept_weight;    /**< of the feasible ones: what their plans keep */
+    uint32_t jobs_kept;      /**< of the feasible ones */
+    uint32_t top;            /**< the greatest point total and 1; 0 with no feasible order */
+    uint32_t place;          /**< of the first order that has it, from 0 and refused ones counted; else 0 */
+} leafanchor_sheet;
+
+/** What is held of a stream between its pieces (R48). Where sheet.orders is above LEAFANCHOR_SHEET_ORDERS it has too
+ * many entries; else it is whole where known is 0. All 0 is the beginning. */
+typedef struct leafanchor_sheet_stream {
+    leafanchor_sheet sheet; /**< of its whole entries */
+    uint32_t known;         /**< bytes of the next entry's length that have come, 0 to 2 */
+    uint32_t size;          /**< what they say */
+    uint32_t got;           /**< bytes of that entry that have come, fewer than its size */
+    uint8_t front[437];     /**< the first of them; what stands behind means nothing */
+} leafanchor_sheet_stream;
 
 /** leafanchor_unpack into jobs. It takes no stack of its own.
  * @param order the packed order
@@ -715,6 +809,93 @@ static inline leafanchor_frame_answer leafanchor_frame_jobs(const leafanchor_rep
 {
     return leafanchor_frame((const int32_t *)(const void *)jobs, sizeof *jobs / sizeof(int32_t) * jobs_len, order,
                             order_len);
+}
+
+/** The sheet of no order.
+ * @return 26 zeros */
+LEAFANCHOR_MUST_USE
+static inline leafanchor_sheet leafanchor_sheet_none(void)
+{
+    const leafanchor_sheet none = {0, {0}, 0, 0, 0, 0, 0, 0};
+    return none;
+}
+
+/** leafanchor_sheet_add to a sheet. It takes no stack of its own.
+ * @param sheet the sheet, changed
+ * @param order the packed order, or any bytes
+ * @param order_len how many
+ * @param work the work area
+ * @param work_len room for LEAFANCHOR_WORK_AREA numbers
+ * @return the refusal */
+LEAFANCHOR_MUST_USE
+static inline leafanchor_sheet_answer leafanchor_sheet_add_order(leafanchor_sheet *sheet, const uint8_t *order,
+                                                                 size_t order_len, int32_t *work, size_t work_len)
+{
+    return leafanchor_sheet_add((uint32_t *)(void *)sheet, LEAFANCHOR_SHEET_FIGURES, order, order_len, work, work_len);
+}
+
+/** leafanchor_sheet_join of sheets.
+ * @param sheet the first sheet, changed
+ * @param more the second sheet; it may be the first itself
+ * @return the refusal */
+LEAFANCHOR_MUST_USE
+static inline leafanchor_sheet_answer leafanchor_sheet_join_sheet(leafanchor_sheet *sheet,
+                                                                  const leafanchor_sheet *more)
+{
+    const leafanchor_sheet second = *more;
+    return leafanchor_sheet_join((uint32_t *)(void *)sheet, LEAFANCHOR_SHEET_FIGURES,
+                                 (const uint32_t *)(const void *)&second, LEAFANCHOR_SHEET_FIGURES);
+}
+
+/** leafanchor_sheet_text of a sheet. It takes no stack of its own.
+ * @param sheet the sheet
+ * @param cut 0 for "whole" in the last line, any other for "cut"
+ * @param text written: the text, with no end behind it
+ * @param text_len room for LEAFANCHOR_SHEET_TEXT bytes
+ * @return the bytes written */
+LEAFANCHOR_MUST_USE
+static inline leafanchor_sheet_text_answer leafanchor_sheet_tell(const leafanchor_sheet *sheet, uint32_t cut,
+                                                                 char *text, size_t text_len)
+{
+    return leafanchor_sheet_text((const uint32_t *)(const void *)sheet, LEAFANCHOR_SHEET_FIGURES, cut,
+                                 (uint8_t *)(void *)text, text_len);
+}
+
+/** A stream of which nothing has come.
+ * @return zeros */
+LEAFANCHOR_MUST_USE
+static inline leafanchor_sheet_stream leafanchor_sheet_begin(void)
+{
+    const leafanchor_sheet_stream begun = {{0, {0}, 0, 0, 0, 0, 0, 0}, 0, 0, 0, {0}};
+    return begun;
+}
+
+/** leafanchor_sheet_feed of a stream. It takes no stack of its own.
+ * @param stream what is held of the stream, changed
+ * @param piece its next piece
+ * @param piece_len its bytes
+ * @param work the work area
+ * @param work_len room for LEAFANCHOR_WORK_AREA numbers
+ * @return the refusal */
+LEAFANCHOR_MUST_USE
+static inline leafanchor_sheet_answer leafanchor_sheet_feed_piece(leafanchor_sheet_stream *stream,
+                                                                  const uint8_t *piece, size_t piece_len,
+                                                                  int32_t *work, size_t work_len)
+{
+    return leafanchor_sheet_feed((uint32_t *)(void *)stream, LEAFANCHOR_SHEET_FEED, stream->front,
+                                 LEAFANCHOR_SHEET_FRONT, piece, piece_len, work, work_len);
+}
+
+/** leafanchor_sheet_text of a stream that ends here: cut, or whole at an entry's edge. It takes no stack of its own.
+ * @param stream what is held of the stream
+ * @param text written: the text, with no end behind it
+ * @param text_len room for LEAFANCHOR_SHEET_TEXT bytes
+ * @return the bytes written */
+LEAFANCHOR_MUST_USE
+static inline leafanchor_sheet_text_answer leafanchor_sheet_tell_stream(const leafanchor_sheet_stream *stream,
+                                                                        char *text, size_t text_len)
+{
+    return leafanchor_sheet_tell(&stream->sheet, stream->known, text, text_len);
 }
 
 /** The job that a reader's step gave.
@@ -897,7 +1078,11 @@ static inline leafanchor_lookup_answer leafanchor_profile_lookup(const leafancho
     OFFSET(question_answer, kind, 12)                                                                         \
     SIZE(choose_answer, 40)                                                                                   \
     OFFSET(choose_answer, refusal, 0) OFFSET(choose_answer, field, 4) OFFSET(choose_answer, winner, 8)        \
-    OFFSET(choose_answer, offset, 16) OFFSET(choose_answer, length, 24) OFFSET(choose_answer, kind, 32)
+    OFFSET(choose_answer, offset, 16) OFFSET(choose_answer, length, 24) OFFSET(choose_answer, kind, 32)       \
+    SIZE(sheet_answer, 4)                                                                                     \
+    OFFSET(sheet_answer, refusal, 0)                                                                          \
+    SIZE(sheet_text_answer, 16)                                                                               \
+    OFFSET(sheet_text_answer, refusal, 0) OFFSET(sheet_text_answer, bytes, 8)
 
 /** A fact that the compiler checks, where it can; where there is no library the one sentence above is enough. */
 #if !LEAFANCHOR_FITS
@@ -934,6 +1119,21 @@ LEAFANCHOR_LIES_AT(repeating, length, 12)
 LEAFANCHOR_LIES_AT(repeating, deadline, 16)
 LEAFANCHOR_LIES_AT(repeating, period, 20)
 LEAFANCHOR_HAS_SIZE(profile, 2416)
+LEAFANCHOR_HAS_SIZE(sheet, LEAFANCHOR_SHEET_FIGURES * sizeof(uint32_t))
+LEAFANCHOR_LIES_AT(sheet, orders, 0)
+LEAFANCHOR_LIES_AT(sheet, refused, 4)
+LEAFANCHOR_LIES_AT(sheet, feasible, 4 + 4 * LEAFANCHOR_SHEET_REFUSALS)
+LEAFANCHOR_LIES_AT(sheet, offered_weight, 84)
+LEAFANCHOR_LIES_AT(sheet, kept_weight, 88)
+LEAFANCHOR_LIES_AT(sheet, jobs_kept, 92)
+LEAFANCHOR_LIES_AT(sheet, top, 96)
+LEAFANCHOR_LIES_AT(sheet, place, 100)
+LEAFANCHOR_HAS_SIZE(sheet_stream, 556)
+LEAFANCHOR_LIES_AT(sheet_stream, sheet, 0)
+LEAFANCHOR_LIES_AT(sheet_stream, known, 104)
+LEAFANCHOR_LIES_AT(sheet_stream, size, 108)
+LEAFANCHOR_LIES_AT(sheet_stream, got, 112)
+LEAFANCHOR_LIES_AT(sheet_stream, front, LEAFANCHOR_SHEET_FEED * sizeof(uint32_t))
 LEAFANCHOR_HOLDS(LEAFANCHOR_ORDER_BYTES == 4 + 9 * LEAFANCHOR_MOST_JOBS, "bytes of an order")
 LEAFANCHOR_HOLDS(LEAFANCHOR_ORDER_NUMBERS == LEAFANCHOR_JOB_NUMBERS * LEAFANCHOR_MOST_JOBS, "numbers of an order")
 LEAFANCHOR_HOLDS(LEAFANCHOR_STARTS == LEAFANCHOR_MOST_JOBS, "starts of a plan")
@@ -942,6 +1142,10 @@ LEAFANCHOR_HOLDS(LEAFANCHOR_HALVES_APART == LEAFANCHOR_HIGHEST_HALF + 1, "number
 LEAFANCHOR_HOLDS(LEAFANCHOR_REPEATING_NUMBERS == 6 * LEAFANCHOR_MOST_REPEATING, "numbers of repeating jobs")
 LEAFANCHOR_HOLDS(LEAFANCHOR_PROFILE_ROOM == 2 * 301, "numbers of a profile")
 LEAFANCHOR_HOLDS(LEAFANCHOR_PROFILE_ROOM >= LEAFANCHOR_ORDER_NUMBERS, "an order unpacks into a profile's room")
+LEAFANCHOR_HOLDS(LEAFANCHOR_SHEET_FIGURES == LEAFANCHOR_SHEET_REFUSALS + 7, "numbers of a sheet")
+LEAFANCHOR_HOLDS(LEAFANCHOR_SHEET_FEED == LEAFANCHOR_SHEET_FIGURES + 3, "numbers held of a stream")
+LEAFANCHOR_HOLDS(LEAFANCHOR_SHEET_FRONT == LEAFANCHOR_ORDER_BYTES + 1, "bytes held of a stream")
+LEAFANCHOR_HOLDS(sizeof(((leafanchor_sheet_stream *)0)->front) == LEAFANCHOR_SHEET_FRONT, "the front of a stream")
 LEAFANCHOR_HOLDS(LEAFANCHOR_WORK_AREA == (1 + LEAFANCHOR_MOST_JOBS) * 301, "numbers of the work area")
 
 #ifdef __cplusplus

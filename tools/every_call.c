@@ -1,8 +1,8 @@
 /* Calls every function of the header, on the worked figures P1 to P11, at the edges of the rest, on orders of halves,
- * on plans of P1, on P1 with packs, on frames, on openings of the same weight and of unlike kinds and on each field out
- * of range, and says which answer differs. That the header declares what the library defines, and that its own calls
- * over jobs and profiles give what the plain ones give, into another profile and in place, is seen here from C.
- * Compiles as C99, as C11 and as C++17. */
+ * on plans of P1, on P1 with packs, on frames, on openings of the same weight and of unlike kinds, on each field out
+ * of range and on sheets of a week, and says which answer differs. That the header declares what the library defines,
+ * and that its own calls over jobs, profiles and sheets give what the plain ones give, into another profile and in
+ * place, is seen here from C. Compiles as C99, as C11 and as C++17. */
 #include "leafanchor.h"
 
 #include <stdio.h>
@@ -729,7 +729,7 @@ static void in_words(void)
     CHECK(told(7, LEAFANCHOR_NO_PLACE, 0, leafanchor_phrase(7)));
     CHECK(told(13, LEAFANCHOR_NO_PLACE, 0, leafanchor_phrase(13)));
     CHECK(told(16, LEAFANCHOR_NO_PLACE, 0, leafanchor_phrase(16)));
-    CHECK(told(0, 0, 0, "not refused") && told(18, 3, 4, "no such refusal"));
+    CHECK(told(0, 0, 0, "not refused") && told(20, 3, 4, "no such refusal"));
     /* a place of 14 digits has room, the greatest is cut, and so is any text in a shorter room */
     CHECK(told(13, 99999999999999, 0, "job at place 99999999999999: it does not fit an order of halves"));
     CHECK(told(16, 99999999999999, 0, "job at place 99999999999999: out of range, or its deadline late"));
@@ -746,6 +746,149 @@ static void heat_up(void)
     CHECK(leafanchor_heat_up(246).seconds == 900 && leafanchor_heat_up(245).seconds == 1020);
     CHECK(leafanchor_heat_up(226).seconds == 3300);
     CHECK(leafanchor_heat_up(225).refusal == LEAFANCHOR_CELL_TOO_COLD && leafanchor_heat_up(225).seconds == 0);
+}
+
+/* Five orders of a week: of no jobs, of one byte, P1, one whose critical job is late, P1 again; and their stream. */
+#define WEEK 5
+static uint8_t week[WEEK][44], stream_bytes[2 * WEEK + 44 * WEEK];
+static size_t week_len[WEEK], stream_len;
+static const char week_text[] = "5\n1\n0\n0\n0\n0\n0\n0\n0\n0\n0\n1\n0\n0\n0\n0\n0\n0\n0\n0\n3\n100\n70\n8\n14 2\n"
+                                "3/4\n3/10\nwhole\n";
+static const char no_text[] = "0\n0\n0\n0\n0\n0\n0\n0\n0\n0\n0\n0\n0\n0\n0\n0\n0\n0\n0\n0\n0\n0\n0\n0\n-\n"
+                              "-\n-\nwhole\n";
+
+static void make_week(void)
+{
+    static const leafanchor_job late = {1, 0, 1, 0, 0, 10, 9};
+    week_len[0] = 4;
+    week_len[1] = 1;
+    week_len[2] = leafanchor_pack(-600, p1, 35, week[2], sizeof week[2]).bytes;
+    week_len[3] = leafanchor_pack_jobs(0, &late, 1, week[3], sizeof week[3]).bytes;
+    week_len[4] = leafanchor_pack(-600, p1, 35, week[4], sizeof week[4]).bytes;
+    for (size_t place = 0; place < WEEK; place++) {
+        stream_bytes[stream_len++] = 0;
+        stream_bytes[stream_len++] = (uint8_t)week_len[place];
+        memcpy(&stream_bytes[stream_len], week[place], week_len[place]);
+        stream_len += week_len[place];
+    }
+}
+
+/* The sheet of the orders from a place to before another. */
+static leafanchor_sheet sheet_of(size_t from, size_t to)
+{
+    leafanchor_sheet sheet = leafanchor_sheet_none();
+    for (size_t place = from; place < to; place++) {
+        CHECK(leafanchor_sheet_add_order(&sheet, week[place], week_len[place], work, LEAFANCHOR_WORK_AREA).refusal
+              == 0);
+    }
+    return sheet;
+}
+
+/* Whether two sheets are the same. */
+static int same(leafanchor_sheet one, leafanchor_sheet other) { return memcmp(&one, &other, sizeof one) == 0; }
+
+/* Whether a sheet's text is this. */
+static int tells(leafanchor_sheet sheet, uint32_t cut, const char *wanted)
+{
+    char text[LEAFANCHOR_SHEET_TEXT];
+    leafanchor_sheet_text_answer told = leafanchor_sheet_tell(&sheet, cut, text, sizeof text);
+    return told.refusal == 0 && told.bytes == strlen(wanted) && memcmp(text, wanted, told.bytes) == 0;
+}
+
+/* The sheet of the week by name and as text, and joined of two of its parts wherever it is parted. */
+static void sheets(void)
+{
+    const leafanchor_sheet whole = sheet_of(0, WEEK), none = leafanchor_sheet_none();
+    CHECK(whole.orders == 5 && whole.refused[0] == 1 && whole.refused[10] == 1 && whole.refused[18] == 0);
+    CHECK(whole.feasible == 3 && whole.offered_weight == 100 && whole.kept_weight == 70 && whole.jobs_kept == 8);
+    CHECK(whole.top == 15 && whole.place == 2);
+    CHECK(tells(whole, 0, week_text) && tells(none, 0, no_text));
+    for (size_t place = 0; place <= WEEK; place++) {
+        leafanchor_sheet front = sheet_of(0, place);
+        const leafanchor_sheet behind = sheet_of(place, WEEK);
+        CHECK(leafanchor_sheet_join_sheet(&front, &behind).refusal == 0 && same(front, whole));
+    }
+    leafanchor_sheet twice = whole;
+    CHECK(leafanchor_sheet_join_sheet(&twice, &twice).refusal == 0);
+    CHECK(twice.orders == 10 && twice.offered_weight == 200 && twice.top == 15 && twice.place == 2);
+    leafanchor_sheet wrong_sum = whole;
+    wrong_sum.feasible = 2;
+    leafanchor_sheet before = wrong_sum;
+    CHECK(leafanchor_sheet_add_order(&wrong_sum, week[0], 4, work, LEAFANCHOR_WORK_AREA).refusal == 18);
+    CHECK(leafanchor_sheet_join_sheet(&wrong_sum, &none).refusal == LEAFANCHOR_NO_SHEET && same(wrong_sum, before));
+}
+
+/* The stream of the week in two pieces, wherever it is cut, and ended there: at an entry's edge it is whole. */
+static void streams(void)
+{
+    static char text[LEAFANCHOR_SHEET_TEXT];
+    const leafanchor_sheet whole = sheet_of(0, WEEK);
+    int edges = 0;
+    for (size_t cut = 0; cut <= stream_len; cut++) {
+        leafanchor_sheet_stream stream = leafanchor_sheet_begin();
+        CHECK(leafanchor_sheet_feed_piece(&stream, stream_bytes, cut, work, LEAFANCHOR_WORK_AREA).refusal == 0);
+        leafanchor_sheet_text_answer told = leafanchor_sheet_tell_stream(&stream, text, sizeof text);
+        const int ends_whole = memcmp(&text[told.bytes - 7], "\nwhole\n", 7) == 0;
+        edges += ends_whole;
+        CHECK(told.refusal == 0 && ends_whole == (stream.known == 0));
+        CHECK(ends_whole || memcmp(&text[told.bytes - 5], "\ncut\n", 5) == 0);
+        CHECK(same(stream.sheet, sheet_of(0, stream.sheet.orders)));
+        CHECK(leafanchor_sheet_feed_piece(&stream, &stream_bytes[cut], stream_len - cut, work, LEAFANCHOR_WORK_AREA)
+                  .refusal == 0);
+        CHECK(same(stream.sheet, whole) && stream.known == 0 && stream.size == 0 && stream.got == 0);
+        told = leafanchor_sheet_tell_stream(&stream, text, sizeof text);
+        CHECK(told.bytes == strlen(week_text) && memcmp(text, week_text, told.bytes) == 0);
+    }
+    CHECK(edges == WEEK + 1);
+}
+
+/* 10,000 entries of no bytes and one more, and what then is refused. */
+static void full_sheets(void)
+{
+    static const uint8_t entries[2 * (LEAFANCHOR_SHEET_ORDERS + 1)] = {0};
+    static char text[LEAFANCHOR_SHEET_TEXT];
+    leafanchor_sheet_stream stream = leafanchor_sheet_begin();
+    CHECK(leafanchor_sheet_feed_piece(&stream, entries, 2 * LEAFANCHOR_SHEET_ORDERS, work, LEAFANCHOR_WORK_AREA).refusal
+          == 0);
+    leafanchor_sheet full = stream.sheet;
+    const leafanchor_sheet none = leafanchor_sheet_none(), one = sheet_of(0, 1), before = full;
+    CHECK(full.orders == LEAFANCHOR_SHEET_ORDERS && full.refused[0] == full.orders);
+    CHECK(leafanchor_sheet_add_order(&full, week[0], 4, work, LEAFANCHOR_WORK_AREA).refusal == LEAFANCHOR_NO_SHEET);
+    CHECK(leafanchor_sheet_join_sheet(&full, &one).refusal == LEAFANCHOR_NO_SHEET);
+    CHECK(leafanchor_sheet_join_sheet(&full, &none).refusal == 0 && same(full, before));
+    CHECK(leafanchor_sheet_feed_piece(&stream, entries, 1, work, LEAFANCHOR_WORK_AREA).refusal == 0);
+    CHECK(leafanchor_sheet_tell_stream(&stream, text, sizeof text).refusal == 0 && stream.known == 1);
+    for (int again = 0; again < 2; again++) {
+        CHECK(leafanchor_sheet_feed_piece(&stream, entries, 9, work, LEAFANCHOR_WORK_AREA).refusal == 18);
+        CHECK(stream.sheet.orders == LEAFANCHOR_SHEET_ORDERS + 1 && stream.known == 0);
+        CHECK(leafanchor_sheet_tell_stream(&stream, text, sizeof text).refusal == LEAFANCHOR_NO_SHEET);
+    }
+}
+
+/* The calls of sheets over plain numbers: with all the room that they need, and with one element less of each. */
+static void sheets_of_numbers(void)
+{
+    static uint32_t feed[LEAFANCHOR_SHEET_FEED], more[LEAFANCHOR_SHEET_FIGURES];
+    static uint8_t front[LEAFANCHOR_SHEET_FRONT], text[LEAFANCHOR_SHEET_TEXT];
+    const size_t figures = LEAFANCHOR_SHEET_FIGURES, feeds = sizeof feed / sizeof *feed, area = LEAFANCHOR_WORK_AREA;
+    CHECK(leafanchor_sheet_add(feed, figures - 1, week[0], 4, work, area).refusal == LEAFANCHOR_BUFFER_TOO_SHORT);
+    CHECK(leafanchor_sheet_add(feed, figures, week[0], 4, work, area - 1).refusal == LEAFANCHOR_BUFFER_TOO_SHORT);
+    CHECK(leafanchor_sheet_add(feed, figures, week[0], 4, work, area).refusal == 0 && feed[0] == 1 && feed[24] == 1);
+    CHECK(leafanchor_sheet_join(feed, figures - 1, more, figures).refusal == LEAFANCHOR_BUFFER_TOO_SHORT);
+    CHECK(leafanchor_sheet_join(feed, figures, more, figures - 1).refusal == LEAFANCHOR_BUFFER_TOO_SHORT);
+    CHECK(leafanchor_sheet_join(more, figures, feed, feeds).refusal == 0 && memcmp(more, feed, sizeof more) == 0);
+    CHECK(leafanchor_sheet_feed(feed, feeds - 1, front, sizeof front, front, 0, work, area).refusal == 10);
+    CHECK(leafanchor_sheet_feed(feed, feeds, front, sizeof front - 1, front, 0, work, area).refusal == 10);
+    CHECK(leafanchor_sheet_feed(feed, feeds, front, sizeof front, stream_bytes, 3, work, area - 1).refusal == 10);
+    CHECK(leafanchor_sheet_feed(feed, feeds, front, sizeof front, stream_bytes, 3, work, area).refusal == 0);
+    CHECK(feed[0] == 1 && feed[26] == 2 && feed[27] == 4 && feed[28] == 1);
+    CHECK(leafanchor_sheet_text(feed, figures - 1, 1, text, sizeof text).refusal == LEAFANCHOR_BUFFER_TOO_SHORT);
+    CHECK(leafanchor_sheet_text(feed, figures, 1, text, sizeof text - 1).refusal == LEAFANCHOR_BUFFER_TOO_SHORT);
+    leafanchor_sheet_text_answer told = leafanchor_sheet_text(feed, figures, feed[26], text, sizeof text);
+    CHECK(told.refusal == 0 && memcmp(&text[told.bytes - 17], "\n0\n0 0\n1/1\n-\ncut\n", 17) == 0);
+    feed[28] = 4;
+    CHECK(leafanchor_sheet_feed(feed, feeds, front, sizeof front, stream_bytes, 3, work, area).refusal == 18);
+    CHECK(feed[0] == 1 && feed[26] == 2 && feed[27] == 4 && feed[28] == 4);
 }
 
 /* The version's text is its figures. */
@@ -782,6 +925,11 @@ int main(void)
     frames();
     no_frames();
     two_frames();
+    make_week();
+    sheets();
+    streams();
+    full_sheets();
+    sheets_of_numbers();
     heat_up();
     version();
     puts(wrong ? "every call: differs" : "every call: as worked out");

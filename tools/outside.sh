@@ -159,6 +159,7 @@ hold_c() {
     compile_both choose_opening examples/choose_opening.c
     compile_both plan_tail examples/plan_tail.c
     compile_both make_frame examples/make_frame.c
+    compile_both week_sheet examples/week_sheet.c
     for made in c11 cxx17; do
         $emulator "$out/every_call.$made"
         $emulator "$out/phrases.$made" <include/phrases.txt
@@ -229,13 +230,17 @@ prints() {
 }
 
 hold_worked() {
-    say "the worked order of halves, the plans checked, the openings, the tail and the frame, from C and C++"
+    say "the worked order of halves, the plans checked, the openings, the tail, the frame and the sheet"
     prints plan_halves halves.expected
     prints check_plan check_plan.expected
     prints choose_opening choose_opening.expected
     prints plan_tail plan_tail.expected
     prints make_frame make_frame.expected
-    for lines in halves check_plan choose_opening plan_tail make_frame; do
+    prints week_sheet week_sheet.expected
+    in_cargo build --release -p leafanchor --example week_sheet
+    $emulator "$built/examples/week_sheet" >"$out/week_sheet.txt"
+    cmp "$out/week_sheet.txt" examples/week_sheet.expected || die "week_sheet.rs prints other lines"
+    for lines in halves check_plan choose_opening plan_tail make_frame week_sheet; do
         shown "examples/$lines.expected" docs/EXAMPLES.md
     done
 }

@@ -32,6 +32,10 @@ static leafanchor_repeating repeating[INPUTS][LEAFANCHOR_MOST_REPEATING];
 static leafanchor_job job_list[LEAFANCHOR_MOST_JOBS];
 static const leafanchor_profile bus_free = {2, {0, 0}};
 static leafanchor_profile long_profile, long_other, made;
+static leafanchor_sheet sheets[INPUTS], counted;
+static leafanchor_sheet_stream stream;
+static uint8_t entries[INPUTS][2 + LEAFANCHOR_ORDER_BYTES];
+static char text[LEAFANCHOR_SHEET_TEXT];
 
 /* One call on one of the inputs; it gives the refusal. */
 typedef uint32_t call(size_t input);
@@ -135,6 +139,49 @@ static uint32_t better_in_place(size_t i)
     return leafanchor_profile_better(&made, i % 2 == 0 ? &long_other : &made, &made).refusal;
 }
 static uint32_t profile_lookup(size_t i) { return leafanchor_profile_lookup(&long_profile, 500 * (int32_t)i).refusal; }
+static uint32_t sheet_add(size_t i)
+{
+    return leafanchor_sheet_add(&counted.orders, LEAFANCHOR_SHEET_FIGURES, orders[i], bytes[i], work,
+                                LEAFANCHOR_WORK_AREA).refusal;
+}
+static uint32_t sheet_join(size_t i)
+{
+    return leafanchor_sheet_join(&counted.orders, LEAFANCHOR_SHEET_FIGURES, &sheets[i].orders,
+                                 LEAFANCHOR_SHEET_FIGURES).refusal;
+}
+static uint32_t sheet_feed(size_t i)
+{
+    return leafanchor_sheet_feed(&stream.sheet.orders, LEAFANCHOR_SHEET_FEED, stream.front, LEAFANCHOR_SHEET_FRONT,
+                                 entries[i], 2 + bytes[i], work, LEAFANCHOR_WORK_AREA).refusal;
+}
+static uint32_t sheet_text(size_t i)
+{
+    return leafanchor_sheet_text(&sheets[i].orders, LEAFANCHOR_SHEET_FIGURES, 0, (uint8_t *)text, sizeof text).refusal;
+}
+static uint32_t sheet_none(size_t i)
+{
+    counted = leafanchor_sheet_none();
+    return (uint32_t)i;
+}
+static uint32_t sheet_add_order(size_t i)
+{
+    return leafanchor_sheet_add_order(&counted, orders[i], bytes[i], work, LEAFANCHOR_WORK_AREA).refusal;
+}
+static uint32_t sheet_join_sheet(size_t i) { return leafanchor_sheet_join_sheet(&counted, &sheets[i]).refusal; }
+static uint32_t sheet_tell(size_t i) { return leafanchor_sheet_tell(&sheets[i], 1, text, sizeof text).refusal; }
+static uint32_t sheet_begin(size_t i)
+{
+    stream = leafanchor_sheet_begin();
+    return (uint32_t)i;
+}
+static uint32_t sheet_feed_piece(size_t i)
+{
+    return leafanchor_sheet_feed_piece(&stream, entries[i], 2 + bytes[i], work, LEAFANCHOR_WORK_AREA).refusal;
+}
+static uint32_t sheet_tell_stream(size_t i)
+{
+    return leafanchor_sheet_tell_stream(&stream, text, sizeof text - (i == 0)).refusal;
+}
 
 static const struct { const char *name; call *run; } calls[] = {
     {"heat_up", heat_up}, {"unpack", unpack}, {"pack", pack}, {"frame", frame}, {"open", open}, {"step", step},
@@ -145,7 +192,10 @@ static const struct { const char *name; call *run; } calls[] = {
     {"profile_of_order", profile_of_order}, {"profile_extended", profile_extended},
     {"profile_extended in place", extended_in_place},
     {"profile_better", profile_better}, {"profile_better in place", better_in_place},
-    {"profile_lookup", profile_lookup}};
+    {"profile_lookup", profile_lookup}, {"sheet_add", sheet_add}, {"sheet_join", sheet_join},
+    {"sheet_feed", sheet_feed}, {"sheet_text", sheet_text}, {"sheet_none", sheet_none},
+    {"sheet_add_order", sheet_add_order}, {"sheet_join_sheet", sheet_join_sheet}, {"sheet_tell", sheet_tell},
+    {"sheet_begin", sheet_begin}, {"sheet_feed_piece", sheet_feed_piece}, {"sheet_tell_stream", sheet_tell_stream}};
 
 /* Ends the program where the system refuses something. */
 static void must(int result, const char *what)
@@ -254,6 +304,22 @@ static void make_inputs(void)
     memcpy(long_other.numbers, other, sizeof other);
 }
 
+/* The orders as entries of a stream, and sheets: of no order, of the most with the greatest figures, of as many that
+ * are refused, and figures that no sheet has. */
+static void make_sheets(void)
+{
+    static const leafanchor_sheet greatest = {
+        LEAFANCHOR_SHEET_ORDERS, {0}, LEAFANCHOR_SHEET_ORDERS, 2999999, 1, 480000, 14449, 9999};
+    for (size_t input = 0; input < INPUTS; input++) {
+        entries[input][0] = (uint8_t)(bytes[input] >> 8);
+        entries[input][1] = (uint8_t)(bytes[input] & 0xFF);
+        memcpy(&entries[input][2], orders[input], bytes[input]);
+    }
+    sheets[1] = greatest;
+    sheets[2].orders = sheets[2].refused[LEAFANCHOR_SHEET_REFUSALS - 1] = LEAFANCHOR_SHEET_ORDERS;
+    sheets[3].orders = 1; /* neither refused nor feasible */
+}
+
 int main(void)
 {
     int failed = 0;
@@ -261,6 +327,7 @@ int main(void)
     must(stack == NULL, "memory");
     make_inputs();
     make_repeating();
+    make_sheets();
     size_t empty = deepest(nothing);
     for (size_t i = 0; i < sizeof calls / sizeof calls[0]; i++) {
         size_t used = deepest(calls[i].run);

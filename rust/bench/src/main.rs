@@ -1,6 +1,6 @@
 //! Times the library's calls against plain Rust versions on the same bytes and buffers, after all answers and buffers
-//! were compared; ends with 1 where a limit is passed. `--picture FILE` only times how cost grows, and draws it;
-//! `--search TRIALS` looks for orders that are dear for the library.
+//! were compared; ends with 1 where a limit is passed. `--sheet` only times the sheet of a stream; `--picture FILE`
+//! only times how cost grows, and draws it; `--search TRIALS` looks for orders that are dear for the library.
 //! Times mean nothing under an emulator; tools/speed.sh runs this on the machine at hand.
 
 mod growth;
@@ -12,6 +12,7 @@ mod report;
 mod room;
 mod search;
 mod shapes;
+mod sheets;
 mod timing;
 
 use report::Report;
@@ -27,10 +28,13 @@ fn main() -> ExitCode {
     let random = &mut Random::new(SEED);
     match (&words[..], words.get(1).and_then(|trials| trials.parse().ok())) {
         ([], _) => return speed(random),
+        (["--sheet"], _) => return sheet(random),
         (["--picture", file], _) => draw(random, file),
         (["--search", _], Some(trials)) => search::search(random, trials),
         _ => {
-            eprintln!("bench: the words are --picture and a file, or --search and a number of trials");
+            eprintln!(
+                "bench: the words are --sheet, --picture and a file, or --search and a number of trials"
+            );
             return ExitCode::from(2);
         }
     }
@@ -44,11 +48,29 @@ fn speed(random: &mut Random) -> ExitCode {
         "{} inputs a measure; all answers and buffers are compared first, of damaged inputs too",
         planning::ORDERS
     );
-    report.head("plan, a family of orders each");
+    report.head("plan, a family of orders each", "plain Rust");
     planning::time_families(random, |line| report.tell(line));
-    report.head("other calls");
+    report.head("other calls", "plain Rust");
     others::time_others(random, |line| report.tell(line));
     growth::time_growth(random);
+    time_sheets(random, &mut report);
+    ended(&report)
+}
+
+/// The sheet of a stream alone.
+fn sheet(random: &mut Random) -> ExitCode {
+    let mut report = Report::default();
+    time_sheets(random, &mut report);
+    ended(&report)
+}
+
+fn time_sheets(random: &mut Random, report: &mut Report) {
+    report.head("sheet of a stream, an entry each", "the other");
+    sheets::time_sheets(random, |line| report.tell(line));
+}
+
+/// The goals and limits, and how the run ends.
+fn ended(report: &Report) -> ExitCode {
     if report.verdict() {
         ExitCode::SUCCESS
     } else {

@@ -18,9 +18,9 @@ pub struct Line {
 pub struct Report(Vec<Line>);
 
 impl Report {
-    /// Prints the table's head.
-    pub fn head(&self, about: &str) {
-        println!("\n{about:<42} points  leafanchor  plain Rust   ratio: median (least to greatest)");
+    /// Prints a table's head, with what the library is timed against.
+    pub fn head(&self, about: &str, against: &str) {
+        println!("\n{about:<42} points  leafanchor  {against:>10}   ratio: median (least to greatest)");
     }
 
     /// Prints a line, in nanoseconds a call.

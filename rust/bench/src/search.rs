@@ -29,7 +29,7 @@ pub fn search(random: &mut Random, trials: usize) {
     println!("{trials} trials a shape: the ratio of its first order, and the greatest after each of {STARTS} starts");
     let found = SHAPES.map(|shape| dearest(random, shape, trials));
     let mut report = Report::default();
-    report.head("the dearest of each shape");
+    report.head("the dearest of each shape", "plain Rust");
     let mut families = Vec::new();
     for ((name, _), order) in SHAPES.iter().zip(found) {
         let orders: Vec<Vec<u8>> = (0..ORDERS).map(|_| packed(&varied(random, &order))).collect();

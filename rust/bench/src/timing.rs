@@ -20,14 +20,24 @@ pub struct Measure {
     pub greatest: f64,
 }
 
-/// Times the library's version and the plain one; each goes first in every other round.
+/// Times the library's version and the plain one.
 pub fn measure<I, A>(calls: [Call<I, A>; 2], inputs: &[I]) -> Measure {
     let mut room = Room::new(0);
+    measure_rounds(|which| time(calls[which], inputs, &mut room))
+}
+
+/// Times two passes, each of which takes as long as it says over so many inputs.
+pub fn measure_passes(passes: [&dyn Fn() -> Duration; 2], inputs: usize) -> Measure {
+    measure_rounds(|which| passes[which]().as_nanos() as f64 / inputs as f64)
+}
+
+/// The measure of two versions by the nanoseconds of each in a round; each goes first in every other round.
+fn measure_rounds(mut time: impl FnMut(usize) -> f64) -> Measure {
     let rounds: Vec<[f64; 2]> = (0..=ROUNDS)
         .map(|round| {
             let mut times = [0.0; 2];
             for which in [round % 2, 1 - round % 2] {
-                times[which] = time(calls[which], inputs, &mut room);
+                times[which] = time(which);
             }
             times
         })

@@ -142,6 +142,14 @@ answers! {
         /// Their kind, 0 or 1; 0 if refused.
         kind: u32,
     }
+    /// The answer of [`sheet_add`](crate::calls::sheet_add), [`sheet_join`](crate::calls::sheet_join) and
+    /// [`sheet_feed`](crate::calls::sheet_feed).
+    SheetAnswer(refusal) {}
+    /// The answer of [`sheet_text`](crate::calls::sheet_text).
+    SheetTextAnswer(refusal) {
+        /// Bytes written.
+        bytes: usize,
+    }
 }
 
 /// Declares the answers that have a plan's figures, each with what it tells behind them.

@@ -9,7 +9,8 @@
 
 use crate::answers::{
     BetterAnswer, ChooseAnswer, ExtendAnswer, FrameAnswer, HalvesAnswer, HeatAnswer, LookupAnswer,
-    OpenAnswer, PackAnswer, PlanAnswer, Point, QuestionAnswer, StepAnswer, UnpackAnswer, VerdictAnswer,
+    OpenAnswer, PackAnswer, PlanAnswer, Point, QuestionAnswer, SheetAnswer, SheetTextAnswer, StepAnswer,
+    UnpackAnswer, VerdictAnswer,
 };
 
 #[rustfmt::skip]
@@ -69,6 +70,20 @@ extern "C" {
         first: *const u8, first_len: usize, second: *const u8, second_len: usize, t: i32,
         work: *mut i32, work_len: usize,
     ) -> ChooseAnswer;
+    fn leafanchor_sheet_add(
+        figures: *mut u32, figures_len: usize, order: *const u8, order_len: usize,
+        work: *mut i32, work_len: usize,
+    ) -> SheetAnswer;
+    fn leafanchor_sheet_join(
+        figures: *mut u32, figures_len: usize, more: *const u32, more_len: usize,
+    ) -> SheetAnswer;
+    fn leafanchor_sheet_feed(
+        feed: *mut u32, feed_len: usize, front: *mut u8, front_len: usize,
+        piece: *const u8, piece_len: usize, work: *mut i32, work_len: usize,
+    ) -> SheetAnswer;
+    fn leafanchor_sheet_text(
+        figures: *const u32, figures_len: usize, cut: u32, text: *mut u8, text_len: usize,
+    ) -> SheetTextAnswer;
 }
 
 /// The heat-up length for a byte of the sampler. Refusal 12.
@@ -253,6 +268,58 @@ pub fn choose(first: &[u8], second: &[u8], t: i32, work: &mut [i32]) -> ChooseAn
 pub fn choose_first(first: &[u8], second: &[u8], t: i32, work: &mut [i32]) -> ChooseAnswer {
     // SAFETY: as for `question`.
     unsafe { on_openings(leafanchor_choose_first, first, second, t, work) }
+}
+
+/// Counts one order more, whatever planning says of its bytes, in the sheet at the front of `figures`, which are
+/// [`SHEET_FIGURES`](crate::SHEET_FIGURES) numbers (R46); `work` has room for [`WORK_AREA`](crate::WORK_AREA).
+/// Refusals 10 and 18.
+pub fn sheet_add(figures: &mut [u32], order: &[u8], work: &mut [i32]) -> SheetAnswer {
+    // SAFETY: the bytes are only read; figures and work are each lent alone; the lengths are the slices' own.
+    unsafe {
+        leafanchor_sheet_add(
+            figures.as_mut_ptr(),
+            figures.len(),
+            order.as_ptr(),
+            order.len(),
+            work.as_mut_ptr(),
+            work.len(),
+        )
+    }
+}
+
+/// Joins the sheet at the front of `more` to that at the front of `figures`, both of
+/// [`SHEET_FIGURES`](crate::SHEET_FIGURES) numbers (R46). Refusals 10 and 18.
+pub fn sheet_join(figures: &mut [u32], more: &[u32]) -> SheetAnswer {
+    // SAFETY: more is only read; figures are lent alone; both lengths are the slices' own.
+    unsafe { leafanchor_sheet_join(figures.as_mut_ptr(), figures.len(), more.as_ptr(), more.len()) }
+}
+
+/// Feeds a stream's next piece (R48). What is held of the stream stands at the fronts of `feed`,
+/// [`SHEET_FEED`](crate::SHEET_FEED) numbers that are 0 at first, and of `front`, [`SHEET_FRONT`](crate::SHEET_FRONT)
+/// bytes; `work` has room for [`WORK_AREA`](crate::WORK_AREA). Refusals 10 and 18; the piece with the 10,001st whole
+/// entry is refused with 18 and counted up to it, and any piece behind it is refused.
+pub fn sheet_feed(feed: &mut [u32], front: &mut [u8], piece: &[u8], work: &mut [i32]) -> SheetAnswer {
+    // SAFETY: the piece is only read; feed, front and work are each lent alone; the lengths are the slices' own.
+    unsafe {
+        leafanchor_sheet_feed(
+            feed.as_mut_ptr(),
+            feed.len(),
+            front.as_mut_ptr(),
+            front.len(),
+            piece.as_ptr(),
+            piece.len(),
+            work.as_mut_ptr(),
+            work.len(),
+        )
+    }
+}
+
+/// Writes the text of the sheet at the front of `figures` into the front of `text`, which has room for
+/// [`SHEET_TEXT`](crate::SHEET_TEXT) bytes: 28 lines, the last of them `whole` where `cut` is 0, else `cut` (R47).
+/// Refusals 10 and 18.
+pub fn sheet_text(figures: &[u32], cut: u32, text: &mut [u8]) -> SheetTextAnswer {
+    // SAFETY: the figures are only read; the text is lent alone; both lengths are the slices' own.
+    unsafe { leafanchor_sheet_text(figures.as_ptr(), figures.len(), cut, text.as_mut_ptr(), text.len()) }
 }
 
 /// A cleared work area on the heap.

@@ -4,10 +4,10 @@
 //! An [`Order`] is packed bytes that the library has checked once, or that it has packed from [`Job`]s, or from
 //! [`Repeating`] jobs for one frame. It gives its jobs, its [`Plan`] and its [`Profile`], and where its checks are
 //! split into halves its [`HalvesPlan`]; profiles are extended, joined and looked up. It writes its plan in packed
-//! bytes, and says of another planner's bytes whether that plan is legal and whether it is best. Whatever is not in
-//! order is a [`Refusal`]. Nothing here allocates but [`WorkArea::boxed`] and [`OrderBuf`], an order that owns its
-//! bytes; planning works in the caller's [`WorkArea`]. Times are whole signed seconds, and weights are `u32` in every
-//! type.
+//! bytes, and says of another planner's bytes whether that plan is legal and whether it is best. A [`Sheet`] counts a
+//! week of orders, one by one or as a [`SheetStream`]. Whatever is not in order is a [`Refusal`]. Nothing here
+//! allocates but [`WorkArea::boxed`], collecting into a [`Sheet`], and [`OrderBuf`], an order that owns its bytes;
+//! planning works in the caller's [`WorkArea`]. Times are whole signed seconds, and weights are `u32` in every type.
 //!
 //! A job's finish is its start plus its length. The contactor rests 15 seconds after every job: the bus is
 //! free 15 seconds after the finish, and the next job kept starts then at the earliest. A deadline binds the
@@ -34,8 +34,8 @@
 //!
 //! docs/RULES.md has the exact rules; `R7` here cites one of them.
 //!
-//! Features: `alloc` (an order that owns its bytes, a work area on the heap) and `std` (a refusal is a
-//! `std::error::Error`), both on unless default features are off.
+//! Features: `alloc` (an order that owns its bytes, a work area on the heap, orders collected into a sheet) and `std`
+//! (a refusal is a `std::error::Error`), both on unless default features are off.
 
 #![no_std]
 #![deny(missing_docs)]
@@ -61,6 +61,8 @@ mod profile;
 mod reader;
 mod refusal;
 mod repeating;
+mod sheet;
+mod sheet_stream;
 mod work;
 
 pub use answers::Point;
@@ -77,13 +79,16 @@ pub use profile::Profile;
 pub use reader::Reader;
 pub use refusal::Refusal;
 pub use repeating::Repeating;
+pub use sheet::Sheet;
+pub use sheet_stream::SheetStream;
 pub use work::WorkArea;
 
 /// The library's calls as they stand, for those who lend their own buffers: they take any bytes and any
 /// numbers, and answer in figures as in C (R25 to R30). `accepted` turns an answer into a [`Result`].
 ///
-/// A refusal writes nothing, save that 11 leaves the work area cleared. What lies past the part that a call
-/// writes stays as it was. Later versions may add figures to an answer.
+/// A refusal writes nothing, save that 11 leaves the work area cleared, and that 18 comes behind the entries of a
+/// stream that were counted. What lies past the part that a call writes stays as it was. Later versions may add
+/// figures to an answer.
 ///
 /// ```
 /// use leafanchor::{calls, MOST_JOBS, WORK_AREA};
@@ -97,11 +102,13 @@ pub use work::WorkArea;
 pub mod calls {
     pub use crate::answers::{
         BetterAnswer, ChooseAnswer, ExtendAnswer, FrameAnswer, HalvesAnswer, HeatAnswer, LookupAnswer,
-        OpenAnswer, PackAnswer, PlanAnswer, Point, QuestionAnswer, StepAnswer, UnpackAnswer, VerdictAnswer,
+        OpenAnswer, PackAnswer, PlanAnswer, Point, QuestionAnswer, SheetAnswer, SheetTextAnswer, StepAnswer,
+        UnpackAnswer, VerdictAnswer,
     };
     pub use crate::ffi::{
         best, better_of, choose, choose_first, extend, frame, heat_up, legal, lookup, lookup_records, open,
-        pack, plan, plan_halves, question, question_first, step, unpack, write_plan,
+        pack, plan, plan_halves, question, question_first, sheet_add, sheet_feed, sheet_join, sheet_text,
+        step, unpack, write_plan,
     };
 }
 
@@ -144,6 +151,18 @@ pub const HIGHEST_HALF: i32 = 31;
 pub const HALVES_APART: i32 = 32;
 /// Seconds that an optional half takes for each weight.
 pub const SECONDS_PER_WEIGHT: i32 = 60;
+/// Numbers of a sheet.
+pub const SHEET_FIGURES: usize = SHEET_REFUSALS + 7;
+/// Those of them that count refusals, 1 to 19.
+pub const SHEET_REFUSALS: usize = 19;
+/// Orders of one sheet, at most.
+pub const SHEET_ORDERS: u32 = 10_000;
+/// Bytes that a sheet's text asks room for, however short it is.
+pub const SHEET_TEXT: usize = 336;
+/// Numbers held of a stream: its sheet's, and three of the entry begun.
+pub const SHEET_FEED: usize = SHEET_FIGURES + 3;
+/// Bytes held of a stream: the longest order's, and one more.
+pub const SHEET_FRONT: usize = ORDER_BYTES + 1;
 
 /// The seconds of heating for the sampler's byte, which is a signed number of degrees (R19, R20).
 ///

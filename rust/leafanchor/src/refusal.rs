@@ -139,6 +139,7 @@ refusals! {
         "a repeating job's field is out of range, or its deadline late"
         | "job at place {place}: out of range, or its deadline late",
     17 FrameTooLong "the frame is longer than 86,400 seconds",
+    18 NoSheet "there are more than 10,000 orders, or figures that no sheet has",
     19 EveryPackZero "the records are of kind 1 and every pack is 0",
 }
 
@@ -165,7 +166,7 @@ mod tests {
 
     #[test]
     fn refusals_6_7_13_and_16_have_a_place_and_6_alone_a_field() {
-        for number in (1..=17).chain([19]) {
+        for number in 1..=19 {
             let place = if [6, 7, 13, 16].contains(&number) { Some(3) } else { None };
             let field = if number == 6 { Some(Field::Length) } else { None };
             assert_eq!((refused(number).place(), refused(number).field()), (place, field));

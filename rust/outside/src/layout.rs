@@ -3,7 +3,8 @@
 
 use leafanchor::calls::{
     BetterAnswer, ChooseAnswer, ExtendAnswer, FrameAnswer, HalvesAnswer, HeatAnswer, LookupAnswer,
-    OpenAnswer, PackAnswer, PlanAnswer, Point, QuestionAnswer, StepAnswer, UnpackAnswer, VerdictAnswer,
+    OpenAnswer, PackAnswer, PlanAnswer, Point, QuestionAnswer, SheetAnswer, SheetTextAnswer, StepAnswer,
+    UnpackAnswer, VerdictAnswer,
 };
 use std::mem::{align_of, size_of};
 
@@ -74,4 +75,6 @@ pub fn print() {
     layout!(VerdictAnswer, "verdict_answer", refusal, place, field, yes);
     layout!(QuestionAnswer, "question_answer", refusal, field, winner, kind);
     layout!(ChooseAnswer, "choose_answer", refusal, field, winner, offset, length, kind);
+    layout!(SheetAnswer, "sheet_answer", refusal);
+    layout!(SheetTextAnswer, "sheet_text_answer", refusal, bytes);
 }

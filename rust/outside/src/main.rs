@@ -10,6 +10,8 @@ mod layout;
 mod lent;
 mod plans;
 mod reference;
+mod sheet_inputs;
+mod sheets;
 mod tally;
 mod verdicts;
 
@@ -32,6 +34,10 @@ const ROUNDS_OF_PLANS: usize = 4_200;
 /// Rounds with repeating jobs; one in EVERY_ROOM tries a frame with every room beside the rest.
 const ROUNDS_OF_FRAMES: usize = 24_000;
 const EVERY_ROOM: usize = 400;
+
+/// Rounds with sheets; one in EVERY_PIECE feeds a stream in pieces of every kind beside the rest.
+const ROUNDS_OF_SHEETS: usize = 20_000;
+const EVERY_PIECE: usize = 150;
 
 fn main() -> ExitCode {
     if std::env::args().nth(1).as_deref() == Some("layout") {
@@ -82,6 +88,19 @@ fn main() -> ExitCode {
             trial.frame_rooms();
         }
     }
+    for round in 0..ROUNDS_OF_SHEETS {
+        trial.sheet_add();
+        trial.sheet_join();
+        trial.sheet_text();
+        trial.sheet_feed();
+        if round % LONG == 0 {
+            trial.sheet_past_10_000();
+        }
+        if round % EVERY_PIECE == 0 {
+            trial.sheet_pieces();
+        }
+    }
+    trial.sheet_of_10_000();
     if trial.tally.report() {
         ExitCode::SUCCESS
     } else {

@@ -2,6 +2,7 @@
 
 use crate::frames::Frames;
 use crate::kinds::Kinds;
+use crate::sheets::Sheets;
 use crate::verdicts::Verdicts;
 use std::cmp::Ordering;
 use std::collections::{BTreeMap, BTreeSet};
@@ -30,9 +31,8 @@ impl Held {
 /// Some order has more points than this, 200 a prefix.
 const MANY_POINTS: u32 = 48 * 200;
 
-/// Refusals are numbered below this; 0 is none, and no call gives 18.
+/// Refusals are numbered below this; 0 is none.
 const NUMBERS: usize = 20;
-const NOT_GIVEN: usize = 18;
 
 /// Counts by refusal number.
 type Counts = [usize; NUMBERS];
@@ -69,6 +69,8 @@ pub struct Tally {
     pub verdicts: Verdicts,
     /// What frames of repeating jobs turned on.
     pub frames: Frames,
+    /// What sheets and streams turned on.
+    pub sheets: Sheets,
 }
 
 /// How often the inputs came to an edge of the contactor's rest.
@@ -235,8 +237,8 @@ impl Tally {
         }
     }
 
-    /// Prints the counts; true if nothing differed, every refusal 1 to 17 and 19 was seen over the C boundary, and so
-    /// was every edge of the rest, of halves, of ties, of verdicts, of frames and of kinds and every field of refusal 6.
+    /// Prints the counts; true if nothing differed, every refusal was seen over the C boundary, and so was every edge
+    /// of the rest, of halves, of ties, of verdicts, of frames, of sheets and of kinds and every field of refusal 6.
     pub fn report(&self) -> bool {
         print!("{:>18}", "refusal");
         (0..NUMBERS).for_each(|number| print!("{number:>8}"));
@@ -263,9 +265,10 @@ impl Tally {
         let ties_met = self.ties.report();
         let verdicts_met = self.verdicts.report();
         let frames_met = self.frames.report();
+        let sheets_met = self.sheets.report();
         let fields_named = self.fields.report();
         let kinds_met = self.kinds.report();
-        let is_unseen = |&number: &usize| of_calls[number] == 0 && number != NOT_GIVEN;
+        let is_unseen = |&number: &usize| of_calls[number] == 0;
         let unseen: Vec<usize> = (0..NUMBERS).filter(is_unseen).collect();
         if !unseen.is_empty() {
             println!("never seen: refusals {unseen:?}");
@@ -279,6 +282,7 @@ impl Tally {
             && ties_met
             && verdicts_met
             && frames_met
+            && sheets_met
             && fields_named
             && kinds_met
             && self.most_points > MANY_POINTS

@@ -11,6 +11,7 @@ mod plan;
 mod plans;
 mod question;
 mod rows;
+mod sheet;
 
 pub use extend::extend;
 pub use lookup::lookup;
@@ -18,3 +19,4 @@ pub use packing::{pack, unpack};
 pub use plan::plan;
 pub use plans::{best, legal, write_plan};
 pub use question::question;
+pub use sheet::sheet_feed;

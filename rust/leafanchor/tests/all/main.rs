@@ -4,5 +4,6 @@ mod checking;
 mod frames;
 mod halves;
 mod rest;
+mod sheets;
 mod types;
 mod worked;

@@ -10,6 +10,7 @@ mod openings;
 mod packing;
 mod planning;
 mod profiles;
+mod sheets;
 mod types;
 
 use crate::lent::Work;

@@ -197,7 +197,7 @@ impl Trial {
     }
 
     /// Compares what a type gave with what the reference wants, unless that is refusal 10.
-    fn compare_types<A: PartialEq + Debug>(
+    pub(super) fn compare_types<A: PartialEq + Debug>(
         &mut self,
         name: &'static str,
         given: Result<A, Refusal>,

@@ -7,6 +7,7 @@ mod openings;
 mod packing;
 mod plans;
 mod profiles;
+mod sheets;
 
 pub use checking::{is_legal, keeps_critical, sent, spare, weight_of, Condition, Kept};
 pub use frames::{frame, repeating_job, spare_seconds, two_frames};
@@ -15,6 +16,10 @@ pub use openings::{tied, winner};
 pub use packing::{bad_fields, header, job_of, judged, judged_numbers, reader_job};
 pub use plans::{best_by_all_choices, best_forward, point_total, Best, Keep, MOST_JOBS_OF_ALL_CHOICES};
 pub use profiles::{better_of, extended, is_valid, lookup, point_at, Point};
+pub use sheets::{
+    entries, faults, joined, lines, part_faults, said, sheet_of, text, Figures, Held, Said, FEED, FIGURES,
+    FRONT, MOST_ORDERS,
+};
 
 /// The seconds that the contactor rests after every job: the bus is free that long after its finish.
 pub const REST: i32 = 15;
