@@ -1,7 +1,7 @@
 #!/bin/sh
 # Tries the shell's command, ./leafanchor, and the gate's place, .ci/run, sentence by sentence: output, what is said and the
-# status. Plans are made by the program as built. Builds and gates go through a stand-in for rt over a checkout of three
-# crates, so that they take a second or two.
+# status. Plans and sheets are made by the programs as built. Builds and gates go through a stand-in for rt over a checkout of a
+# few crates, so that they take a second or two.
 # A line for each case; ends with 0 if every one is as it should be.
 # shellcheck disable=SC2016,SC2034
 set -u
@@ -14,8 +14,10 @@ room=$(mktemp -d) || exit 1
 trap 'rm -rf "$room"' EXIT
 trap 'exit 1' HUP INT TERM
 chmod 755 "$room"
-built=$root/target/bin/plan_order
-[ -x "$built" ] || { echo "shell: $built is missing: build it with ./leafanchor plan"; exit 1; }
+built=$root/target/bin
+for program in plan_order week_sheet; do
+    [ -x "$built/$program" ] || { echo "shell: $built/$program is missing: build it with rt check $program"; exit 1; }
+done
 
 # ---- cases
 
@@ -68,7 +70,9 @@ packed_job() {
 
 cp examples/p1.order "$room/p1"
 cp examples/refused.order "$room/refused"
+cp examples/week.stream "$room/week"
 p1=$(cat examples/p1.expected)
+week=$(cat examples/week.expected)
 
 # ---- checkouts, and a stand-in for rt
 
@@ -96,16 +100,19 @@ fi
 echo 'rt: first proved (1 s)' | tee target/log/first.out
 [ ! -f "\$ABOVE/mood" ] || . "\$ABOVE/mood"
 echo 'rt: second proved (unchanged since it was last proved)'
-echo 'rt: plan_order proved (2 s)'
-[ -f target/bin/plan_order ] || { mkdir -p target/bin && cp "$built" target/bin/plan_order; }
-echo "rt: plan_order ran, and wrote what its file 'stdout' has (0 s)"
+echo "rt: \${2-plan_order} proved (2 s)"
+mkdir -p target/bin
+for program in \${2-plan_order week_sheet}; do
+    [ -f "target/bin/\$program" ] || cp "$built/\$program" target/bin
+done
+echo "rt: \${2-plan_order} ran, and wrote what its file 'stdout' has (0 s)"
 echo ended >>"\$ABOVE/builds"
 [ "\$1" = check ] || echo '3 passed, 0 failed'
 END
 chmod 755 "$room/bin/rt"
 PATH=$room/bin:$PATH
 
-# checkout NAME: a checkout of its own that is not built. The program is made of three of its four crates.
+# checkout NAME: a checkout of its own that is not built. plan_order is made of three of its five crates, week_sheet of two.
 checkout() {
     export ABOVE="$room/$1"
     here=$ABOVE/stand
@@ -114,8 +121,8 @@ checkout() {
     cp "$root/include/leafanchor.h" "$root/include/phrases.txt" "$here/include"
     cp "$root/tools/build_lock.sh" "$here/tools"
     cp "$root/.ci/run" "$here/.ci"
-    printf '# crates\nfirst:\nsecond: first io\nplan_order: second libc # the program\nother: first\n' >"$here/crates.txt"
-    for crate in first second plan_order other; do
+    printf '# crates\nfirst:\nsecond: first io\nplan_order: second libc # a program\nweek_sheet: first io\nother: first\n' >"$here/crates.txt"
+    for crate in first second plan_order week_sheet other; do
         mkdir -p "$here/crates/$crate/src" "$here/crates/$crate/must-fail"
         echo '// a source' >"$here/crates/$crate/src/lib.rt"
     done
@@ -124,7 +131,7 @@ checkout() {
 built_checkout() {
     checkout "$1"
     mkdir -p "$here/target/bin"
-    cp "$built" "$here/target/bin/plan_order"
+    cp "$built/plan_order" "$built/week_sheet" "$here/target/bin"
 }
 builds() { grep -c '^check' "$ABOVE/builds" 2>/dev/null; }
 
@@ -146,9 +153,9 @@ mood() {
     esac >"$ABOVE/mood"
 }
 
-# program TEXT: the program of this checkout does this.
+# program TEXT [NAME]: a program of this checkout, plan_order where none is named, does this.
 program() {
-    printf '#!/bin/sh\n%s\n' "$1" >"$here/target/bin/plan_order"
+    printf '#!/bin/sh\n%s\n' "$1" >"$here/target/bin/${2-plan_order}"
 }
 
 # Root may read and write everything: where we are root, nobody tries what is not allowed.
@@ -160,6 +167,8 @@ plainly() {
 
 try ./leafanchor plan examples/p1.order
 gives "plan FILE, in this checkout" 0 "$p1" ''
+try ./leafanchor sheet examples/week.stream
+gives "sheet FILE, in this checkout" 0 "$week" ''
 built_checkout plans
 leafanchor=$here/leafanchor
 try "$leafanchor" plan <"$room/p1"
@@ -217,7 +226,7 @@ gives "a file that is not there" 3 '' "leafanchor: there is no file 'no/such/fil
 try "$leafanchor" plan ''
 gives "a file with no name" 3 '' "leafanchor: there is no file ''"
 try "$leafanchor" plan "$room"
-gives "a directory" 3 '' "leafanchor: '$room' is a directory, and a packed order is a file"
+gives "a directory" 3 '' "leafanchor: '$room' is a directory and not a file"
 cp p1 closed && chmod 0 closed
 try plainly "$leafanchor" plan closed
 gives "a file that may not be read" 3 '' "leafanchor: the file 'closed' may not be read: there is no permission"
@@ -232,10 +241,11 @@ gives "a file, with standard input closed" 0 "$p1" ''
 
 # ---- other words
 
-for word in --help -h help 'plan --help' 'plan -h' 'plan p1 --help' 'test --help' '-- help'; do
+for word in --help -h help 'plan --help' 'plan -h' 'plan p1 --help' 'sheet -h' 'sheet --words --help' 'test --help' '-- help'; do
     # shellcheck disable=SC2086
     try "$leafanchor" $word
-    holds "$word" '[ "$status" = 0 ] && [ ! -s "$err" ] && grep -q "^usage: ./leafanchor plan \[FILE\]" "$out" && grep -q "^Status: 0 planned; 1 refused; 2 " "$out"'
+    holds "$word" '[ "$status" = 0 ] && [ ! -s "$err" ] && grep -q "^usage: ./leafanchor plan \[FILE\]" "$out" && grep -q "^ *./leafanchor sheet \[--words\] \[FILE\]" "$out" &&
+        grep -q "^Status: 0 planned, or a sheet; 1 refused; 2 " "$out"'
 done
 try "$leafanchor"
 gives "no word" 2 '' 'usage: *'
@@ -267,7 +277,7 @@ done
 
 mkdir alone
 cp "$root/leafanchor" alone/leafanchor
-for word in 'plan p1' test --version -V; do
+for word in 'plan p1' 'sheet week' test --version -V; do
     # shellcheck disable=SC2086
     try alone/leafanchor $word
     gives "a copy of the script alone: $word" 3 '' "leafanchor: this script is without its checkout: there is no $room/alone/crates.txt (*)"
@@ -385,8 +395,12 @@ emulated() {
 }
 for given in "$root"/tools/program/*.in; do
     name=${given##*/}
-    try emulated "$built" <"$given"
-    gives "the program on ${name%.in}" 0 "$(cat "${given%.in}.out")" ''
+    case $name in
+    week_*) of_it=week_sheet ;;
+    *) of_it=plan_order ;;
+    esac
+    try emulated "$built/$of_it" <"$given"
+    gives "the program $of_it on ${name%.in}" 0 "$(cat "${given%.in}.out")" ''
 done
 
 # ---- text instead of a packed order
@@ -431,6 +445,220 @@ try piped_text
 gives "text, piped" 1 '2 0 0' "leafanchor: refusal 2: *
 leafanchor: the input is text and not a packed order: *"
 
+# ---- a sheet: words, files and standard input
+
+here=$room/plans/stand
+for words in '' - -- '-- -' '- --'; do
+    # shellcheck disable=SC2086
+    try "$leafanchor" sheet $words <week
+    gives "sheet $words, from standard input" 0 "$week" ''
+done
+cp week "a * week"
+try "$leafanchor" sheet "a * week"
+gives "sheet: a file whose name has spaces" 0 "$week" ''
+cp week "$here/-w"
+cp week "$here/--words"
+cd "$here" || exit 1
+for words in ./-w '-- -w' '-- --words' ./--words; do
+    # shellcheck disable=SC2086
+    try ./leafanchor sheet $words
+    gives "sheet $words" 0 "$week" ''
+done
+for word in -w --wordy; do
+    try ./leafanchor sheet "$word"
+    gives "an option that sheet has not: $word" 2 '' "leafanchor: sheet has no option '$word' (the file of that name is ./$word, or $word behind --)"
+done
+try ./leafanchor plan --words "$room/p1"
+gives "plan has no --words" 2 '' "leafanchor: plan has no option '--words' (*"
+try ./leafanchor test --words
+gives "nor has test" 2 '' "leafanchor: test has no option '--words': *"
+cd "$room" || exit 1
+for words in 'week week' '--words week -- week'; do
+    # shellcheck disable=SC2086
+    try "$leafanchor" sheet $words
+    gives "two files: sheet $words" 2 '' "leafanchor: 'sheet' takes one file at most: *"
+done
+try "$leafanchor" sheet no/such/file
+gives "sheet: a file that is not there" 3 '' "leafanchor: there is no file 'no/such/file'"
+try "$leafanchor" sheet "$room"
+gives "sheet: a directory" 3 '' "leafanchor: '$room' is a directory and not a file"
+try plainly "$leafanchor" sheet closed
+gives "sheet: a file that may not be read" 3 '' "leafanchor: the file 'closed' may not be read: there is no permission"
+try "$leafanchor" sheet <"$room"
+gives "sheet: where reading fails there is none" 3 '' "leafanchor: standard input cannot be read to its end, so there is no sheet"
+closed_sheet() { "$leafanchor" sheet "$@" <&-; }
+try closed_sheet
+gives "sheet: standard input closed" 3 '' "leafanchor: standard input cannot be read: it is closed"
+try closed_sheet week
+gives "sheet: a file, with standard input closed" 0 "$week" ''
+for shell in dash 'bash --posix' 'busybox sh'; do
+    command -v "${shell%% *}" >/dev/null || continue
+    # shellcheck disable=SC2086
+    try $shell "$leafanchor" sheet week
+    gives "sheet by $shell" 0 "$week" ''
+done
+try "$leafanchor" sheet --words week
+holds "the README shows the words, but for refusals that did not occur" \
+    '[ "$(grep -v " 0  " "$out" | grep -cvxFf "$root/README.md")" = 0 ]'
+try "$leafanchor" sheet <"$root/crates/week_sheet/stdin"
+gives "the program's stored stream" 0 "$(cat "$root/crates/week_sheet/stdout")" ''
+
+# ---- streams: cut ones, pieces, long ones. What they should give is the model's
+
+model() { python3 "$root/tools/model/week.py"; }
+zeros() { head -c "$1" /dev/zero; }
+# entries FILE ...: a stream of these orders, written as the README says.
+entries() {
+    for order in "$@"; do
+        size=$(wc -c <"$order")
+        # shellcheck disable=SC2059
+        printf "\\$(printf %03o $((size / 256)))\\$(printf %03o $((size % 256)))"
+        cat "$order"
+    done
+}
+# counted NAME: the stream in the file 'stream' has the model's sheet.
+counted() {
+    try "$leafanchor" sheet stream
+    gives "$1" 0 "$(model <stream)" ''
+}
+entries p1 refused p1 >stream
+counted "a stream written from files of orders"
+
+given=$root/tools/program/week_cut.in
+head -c 46 "$given" >stream
+counted "a stream up to the edge of an order"
+cut=$(model <stream | sed 's/whole/cut/')
+other='' size=47
+while [ "$size" -lt 68 ]; do
+    [ "$(head -c "$size" "$given" | emulated "$built/week_sheet")" = "$cut" ] || other="$other $size"
+    size=$((size + 1))
+done
+holds "cut at any byte of the next length and order it has the same figures${other:+, but not at$other}" '[ -z "$other" ]'
+head -c 68 "$given" >stream
+counted "and with that order's last byte it has one order more"
+cut_note='leafanchor: the stream ends inside an order or its length; whole orders before that:'
+for size in 47 67; do
+    head -c "$size" "$given" >stream
+    try "$leafanchor" sheet stream
+    gives "cut, it is said, and there is a sheet: $size bytes" 0 "$cut" "$cut_note 1"
+done
+
+# in_pieces SIZE FILE: writes the file in pieces of so many bytes, a moment apart.
+in_pieces() {
+    python3 -c '
+import sys, time
+with open(sys.argv[2], "rb") as given:
+    data, size = given.read(), int(sys.argv[1])
+for at in range(0, len(data), size):
+    sys.stdout.buffer.write(data[at:at + size])
+    sys.stdout.buffer.flush()
+    time.sleep(0.001)' "$@"
+}
+pieces() { in_pieces "$@" | "$leafanchor" sheet; }
+for size in 1 2 3 7; do
+    try pieces "$size" week
+    gives "through a pipe in pieces of $size" 0 "$week" ''
+done
+# Orders of the greatest length, which their headers have refused with 2, 3 and 4, between others.
+{
+    entries p1
+    for head in '\000\000\000\002' '\304\000\000\000' '\300\000\000\000' '\377\377\377\377'; do
+        # shellcheck disable=SC2059
+        printf "\\377\\377$head"
+        zeros 65531
+    done
+    entries p1
+} >stream
+counted "orders of 65,535 bytes"
+long=$(model <stream)
+for size in 65537 65536 40000; do
+    try pieces "$size" stream
+    gives "the same in pieces of $size" 0 "$long" ''
+done
+
+zeros 19998 >stream
+counted "9,999 orders"
+entries p1 >>stream
+counted "10,000 orders, the last the only one with a plan"
+zeros 20000 >stream
+counted "10,000 orders of no bytes"
+python3 -c 'import sys; sys.stdout.buffer.write((b"\0\54" + open("p1", "rb").read()) * 10000)' >stream
+try "$leafanchor" sheet stream
+gives "10,000 orders with plans" 0 "10000
+$(yes 0 | head -n 19)
+10000
+500000
+350000
+40000
+14 0
+1/1
+3/10
+whole" ''
+# broken NAME: 10,000 orders of no bytes and then what comes on standard input is cut.
+broken() {
+    { zeros 20000; cat; } >stream
+    try "$leafanchor" sheet stream
+    gives "10,000 orders and $1" 0 "$(model <stream)" "$cut_note 10000"
+}
+zeros 1 | broken "half a length"
+printf '\000\005abcd' | broken "one that is cut"
+too_many="leafanchor: refusal 18: $(listed 18)"
+for size in 20002 20003; do
+    zeros "$size" >stream
+    try "$leafanchor" sheet stream
+    gives "10,001 orders: $size bytes" 1 '18 0 0' "$too_many"
+    try "$leafanchor" sheet --words <stream
+    gives "the same, with --words: $size bytes" 1 '18 0 0' "$too_many"
+done
+{ zeros 20000; entries p1 p1; } >stream
+try "$leafanchor" sheet stream
+gives "10,002 orders, the last two with plans" 1 '18 0 0' "$too_many"
+endless_stream() { timeout 10 "$leafanchor" sheet </dev/zero; }
+try endless_stream
+gives "an endless stream is not read to its end" 1 '18 0 0' "$too_many"
+
+# ---- a sheet in words
+
+# The lines of the week's sheet in words: refusals 6 and 11 have one order each.
+week_in_words() {
+    echo 'orders                    6'
+    for number in 1 2 3 4 5 6 7 8 9 10 11 12 13 14 15 16 17 18 19; do
+        case $number in
+        6 | 11) figure=1 ;;
+        *) figure=0 ;;
+        esac
+        printf '%-20s  %5s  %s\n' "refused with $number" "$figure" "$(listed "$number")"
+    done
+    cat <<'END'
+feasible orders           4
+weight offered          190
+weight kept             165
+jobs kept                16
+greatest point total     28  at place 1
+scheduling ability      4/5  80.0 %
+loss                   5/38  13.2 %
+the stream is         whole  no order is cut off
+END
+}
+for words in '--words week' 'week --words' '--words --words -- week'; do
+    # shellcheck disable=SC2086
+    try "$leafanchor" sheet $words
+    gives "sheet $words" 0 "$(week_in_words)" ''
+done
+try "$leafanchor" sheet --words <"$root/tools/program/week_one_byte.in"
+gives "in words: half a length" 0 "$(cat "$out")" "$cut_note 0"
+holds "with what is said where there is no figure" '[ "$(tail -n 4 "$out")" = "greatest point total    -  no order is feasible
+scheduling ability      -  no order is feasible or refused with 11
+loss                    -  no weight was offered
+the stream is         cut  it ends inside an order or its length" ]'
+other=''
+for given in "$root"/tools/program/week_*.in; do
+    "$leafanchor" sheet --words "$given" 2>/dev/null | cut -c 21- | sed 's/  at place/ /' >"$room/written"
+    # The figures behind the names; of the greatest total also the place.
+    [ "$(awk '{ print NR == 25 && $1 != "-" ? $1 " " $2 : $1 }' "$room/written")" = "$(cat "${given%.in}.out")" ] || other="$other ${given##*/}"
+done
+holds "in words every figure of every stored sheet is there${other:+, but not of$other}" '[ -z "$other" ]'
+
 # ---- every phrase of the list
 
 # Stand-ins for the program are for every machine, so the machine calls itself x86-64 here.
@@ -442,7 +670,7 @@ built_checkout stand_ins
 cp p1 order
 leafanchor=$here/leafanchor
 numbers=$(sed -n 's/^\([0-9][0-9]*\) .*/\1/p' "$list" | tr '\n' ' ')
-holds "the list has every refusal, 1 to 17 and 19" '[ "$numbers" = "1 2 3 4 5 6 7 8 9 10 11 12 13 14 15 16 17 19 " ]'
+holds "the list has every refusal, 1 to 19" '[ "$numbers" = "1 2 3 4 5 6 7 8 9 10 11 12 13 14 15 16 17 18 19 " ]'
 for number in $numbers; do
     set -- "$number"
     ! grep -q "^$number .* | " "$list" || set -- "$number" 47 3
@@ -461,9 +689,9 @@ done
 program 'echo 6 2 9'
 try env PATH="$machine:$PATH" "$leafanchor" plan order
 gives "a field with no name: no place is told" 1 '6 2 9' "leafanchor: refusal 6: $(listed 6)"
-program 'echo 18 0 0'
+program 'echo 20 0 0'
 try env PATH="$machine:$PATH" "$leafanchor" plan order
-gives "a number that the list has not" 1 '18 0 0' "leafanchor: refusal 18: there is no phrase for it"
+gives "a number that the list has not" 1 '20 0 0' "leafanchor: refusal 20: there is no phrase for it"
 program 'echo 0 0 0 0 0 7 0'
 printf 'text' >order
 try env PATH="$machine:$PATH" "$leafanchor" plan order
@@ -474,6 +702,30 @@ gives "a program that fails" 3 '' "leafanchor: the program $here/target/bin/plan
 program ''
 try env PATH="$machine:$PATH" "$leafanchor" plan p1
 gives "a program that says nothing" 3 '' "leafanchor: the program $here/target/bin/plan_order gave no answer"
+
+# sheet_is ABILITY LOSS: the program's sheet has these.
+sheet_is() { program "yes 0 | head -n 24; printf '%s\n' - $1 $2 whole" week_sheet; }
+for figures in '1/1 100.0' '0/1 0.0' '2/3 66.7' '1/3 33.3' '1/2000 0.1' '1/2001 0.0' '1999/2000 100.0' '1998/2000 99.9' '2999999/3000000 100.0'; do
+    sheet_is "${figures% *}" "${figures% *}"
+    try env PATH="$machine:$PATH" "$leafanchor" sheet --words week
+    holds "in words ${figures% *} is ${figures#* } %" '[ "$(tail -n 3 "$out" | head -n 2 | tr -s " ")" = "scheduling ability ${figures% *} ${figures#* } %
+loss ${figures% *} ${figures#* } %" ]'
+done
+for does in 'exit 5' 'kill -s KILL "$$"'; do
+    program "$does" week_sheet
+    try env PATH="$machine:$PATH" "$leafanchor" sheet week
+    gives "a program of sheets that fails: $does" 3 '' "*leafanchor: the program $here/target/bin/week_sheet cannot be run here: it ended with status [0-9]*"
+done
+for does in 'echo a sentence >&2' 'exit 1'; do
+    program "$does" week_sheet
+    try env PATH="$machine:$PATH" "$leafanchor" sheet week
+    gives "one that writes nothing, since it could not read: $does" 3 '' "leafanchor: the file 'week' cannot be read to its end, so there is no sheet"
+done
+for does in 'echo 7' 'echo whole' 'echo 18'; do
+    program "$does" week_sheet
+    try env PATH="$machine:$PATH" "$leafanchor" sheet week
+    gives "one that writes no sheet: $does" 3 '' "leafanchor: the program $here/target/bin/week_sheet gave no answer"
+done
 
 # ---- standard output that cannot be written
 
@@ -486,7 +738,7 @@ gone() {
     return "$(cat "$room/ended")"
 }
 for output in full shut gone; do
-    for word in 'plan p1' '--help' '--version'; do
+    for word in 'plan p1' 'sheet week' 'sheet --words week' '--help' '--version'; do
         # shellcheck disable=SC2086
         try "$output" $word
         gives "standard output $output: $word" 3 '' "$unwritten"
@@ -500,6 +752,13 @@ try mute plan order
 gives "standard error closed: a refused order" 1 '4 0 0' ''
 try mute plan p1 p1
 gives "standard error closed: two files" 2 '' ''
+zeros 20002 >stream
+try full sheet stream
+gives "standard output full: too many orders" 3 '' "$unwritten"
+try mute sheet stream
+gives "standard error closed: too many orders" 1 '18 0 0' ''
+try mute sheet week
+gives "standard error closed: a sheet" 0 "$week" ''
 
 # ---- at a terminal
 
@@ -514,6 +773,35 @@ gives "at a terminal it says what it waits for" 1 '1 0 0' 'leafanchor: waiting f
 leafanchor: refusal 1: *'
 at_terminal "$leafanchor plan p1 2>$err"
 holds "at a terminal, with a file, it waits for nothing" '[ "$status" = 0 ] && [ ! -s "$err" ] && [ "$(tr -d "\r" <"$out")" = "$p1" ]'
+at_terminal "$leafanchor sheet >$room/written 2>$err"
+mv "$room/written" "$out"
+gives "at a terminal it says that it waits for a stream" 0 "$(cat "$root/tools/program/week_no_input.out")" \
+    'leafanchor: waiting for a stream of packed orders on standard input, up to its end (Ctrl-D)'
+at_terminal "$leafanchor sheet week >$room/written"
+holds "at a terminal a short stream shows no progress" '[ "$status" = 0 ] && [ -z "$(tr -d "\r " <"$out")" ] && [ "$(cat "$room/written")" = "$week" ]'
+# renewed WORDS: how often the progress was shown.
+renewed() { tr '\r' '\n' <"$out" | grep -c "^leafanchor: $1 *$"; }
+reading='reading the stream: [0-9]* [kM]B, [0-9]* s'
+{ soon '[ "$(renewed "$reading")" -ge 2 ]' && touch go; } &
+at_terminal "{ cat week; until [ -f go ]; do sleep 0.1; done; } | $leafanchor sheet >$room/written"
+holds "a long one does: from the second second on one line that renews itself, and is gone at the end" '[ "$status" = 0 ] &&
+    [ "$(cat "$room/written")" = "$week" ] && [ "$(renewed "$reading")" -ge 2 ] && [ "$(wc -l <"$out")" = 0 ] &&
+    [ -z "$(tr "\r" "\n" <"$out" | tail -n 1 | tr -d " ")" ]'
+slow_pipe() { { cat week; sleep 1.2; } | "$leafanchor" sheet; }
+try slow_pipe
+gives "without a terminal it does not" 0 "$week" ''
+
+# Stand-ins for the program again: one that fails, and one that does not end.
+beside="PATH=$room/x86-64:\$PATH $room/stand_ins/stand/leafanchor sheet week"
+program 'exit 5' week_sheet
+at_terminal "$beside 2>$err"
+holds "without a line of progress its status is kept" '[ "$status" = 3 ] && grep -q "it ended with status 5$" "$err"'
+at_terminal "$beside"
+holds "and with one" '[ "$status" = 3 ] && grep -q "it ended with status 5.$" "$out"'
+program "echo \$\$ >$room/pid; exec sleep 30" week_sheet
+stopped() { { soon '[ -s "$room/pid" ]' && sleep 1.2 && printf '\003'; } | timeout 60 script -qec "$beside" /dev/null; }
+try stopped
+holds "Ctrl-C ends the program, and us" '[ "$status" = 130 ] && ! kill -0 "$(cat "$room/pid")" 2>/dev/null'
 
 # ---- building
 
@@ -548,13 +836,29 @@ rm "$ABOVE/mood"
 try "$here/leafanchor" plan p1
 holds "what is edited during a build is built again" '[ "$status" = 0 ] && [ "$(builds)" = 5 ]'
 
+checkout sheet_first
+try "$here/leafanchor" sheet week
+gives "the first sheet builds its own program" 0 "$week" 'leafanchor: building the program: *
+leafanchor: built in [0-9]* s'
+holds "and no other" '[ "$(cat "$ABOVE/builds")" = "check week_sheet
+ended" ] && [ ! -e "$here/target/bin/plan_order" ]'
+echo '// another' >"$here/crates/second/src/lib.rt"
+try "$here/leafanchor" sheet week
+gives "a crate that only the other program has does not make it" 0 "$week" ''
+echo '// another' >"$here/crates/week_sheet/src/lib.rt"
+try "$here/leafanchor" sheet week
+holds "its own does" '[ "$status" = 0 ] && [ "$(builds)" = 2 ]'
+try "$here/leafanchor" plan p1
+holds "a plan then builds its own" '[ "$status" = 0 ] && [ "$(tail -n 2 "$ABOVE/builds")" = "check plan_order
+ended" ]'
+
 checkout at_terminal
 mood wait
-renewed() { tr '\r' '\n' <"$out" | grep -c "^leafanchor: building: crate $1 of 3, [0-9]* s$"; }
-{ soon '[ "$(renewed 1)" -ge 2 ]' && touch "$ABOVE/go"; } &
+steps() { renewed "building: crate $1 of 3, [0-9]* s"; }
+{ soon '[ "$(steps 1)" -ge 2 ]' && touch "$ABOVE/go"; } &
 at_terminal "$here/leafanchor plan p1 >$room/written"
 holds "at a terminal the progress is one line that renews itself" '[ "$status" = 0 ] && [ "$(cat "$room/written")" = "$p1" ] &&
-    [ "$(renewed 1)" -ge 2 ] && [ "$(renewed 3)" = 1 ] && [ "$(wc -l <"$out")" = 3 ]'
+    [ "$(steps 1)" -ge 2 ] && [ "$(steps 3)" = 1 ] && [ "$(wc -l <"$out")" = 3 ]'
 
 checkout failing
 mood 'echo "rt: second NOT PROVED (exit 1, 3 s)"; exit 1'
@@ -724,7 +1028,7 @@ holds "what is edited during the tests is built again" '[ "$status" = 0 ] && [ "
 
 gate_checkout stopped_gate
 mkdir -p "$here/target/bin"
-cp "$built" "$here/target/bin/plan_order"
+cp "$built/plan_order" "$here/target/bin"
 before=$(state)
 mood 'sleep 30'
 for signal in TERM HUP; do
@@ -787,6 +1091,8 @@ gives "--version, and no rt on PATH" 0 "leafanchor $version" "leafanchor: the ki
 if [ "$(uname -m)" = x86_64 ]; then
     try env PATH="$room/tools" "$room/plans/stand/leafanchor" plan p1
     gives "built, and no rt on PATH" 0 "$p1" ''
+    try env PATH="$room/tools" "$room/plans/stand/leafanchor" sheet --words week
+    gives "the same: sheet --words" 0 "$(week_in_words)" ''
 fi
 
 # A machine of another kind: its kit's emulator is a stand-in that says what it is given.
@@ -795,15 +1101,25 @@ machine=$room/other
 mkdir -p "$kit/docs" "$kit/on/other/toolchain/bin" "$machine"
 printf '#!/bin/sh\n[ "$1" = doc ] && echo "%s/docs/START-HERE.md"\n' "$kit" >"$machine/rt"
 printf '#!/bin/sh\necho other\n' >"$machine/uname"
-printf '#!/bin/sh\n[ "$*" = "%s" ] && echo 0 0 0 0 0 7 0\n' \
-    "$kit/on/other/toolchain/lib/ld-linux-x86-64.so.2 --library-path $kit/on/other/toolchain/lib $room/plans/stand/target/bin/plan_order" \
-    >"$kit/on/other/toolchain/bin/qemu-x86_64"
+for of_it in plan_order week_sheet; do
+    printf '[ "$*" != "%s" ] || exec cat "%s"\n' \
+        "$kit/on/other/toolchain/lib/ld-linux-x86-64.so.2 --library-path $kit/on/other/toolchain/lib $room/plans/stand/target/bin/$of_it" \
+        "$room/$of_it.text"
+done | sed '1i #!/bin/sh' >"$kit/on/other/toolchain/bin/qemu-x86_64"
+echo 0 0 0 0 0 7 0 >plan_order.text
+printf '%s\n' 0 whole >week_sheet.text
 chmod 755 "$machine/rt" "$machine/uname" "$kit/on/other/toolchain/bin/qemu-x86_64"
 try env PATH="$machine:$PATH" "$room/plans/stand/leafanchor" plan p1
 gives "on another machine the kit's emulator runs the program" 0 '0 0 0 0 0 7 0' ''
+try env PATH="$machine:$PATH" "$room/plans/stand/leafanchor" sheet week
+gives "and that of sheets" 0 '0
+whole' ''
 rm "$machine/rt"
-try env PATH="$machine:$room/tools" "$room/plans/stand/leafanchor" plan p1
-gives "on another machine, and no rt on PATH" 3 '' "leafanchor: on this machine the program runs under the kit's emulator, and rt, *"
+for words in 'plan p1' 'sheet week'; do
+    # shellcheck disable=SC2086
+    try env PATH="$machine:$room/tools" "$room/plans/stand/leafanchor" $words
+    gives "on another machine, and no rt on PATH: $words" 3 '' "leafanchor: on this machine the program runs under the kit's emulator, and rt, *"
+done
 
 # ---- nothing is left behind
 
