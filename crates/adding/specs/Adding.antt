@@ -8,6 +8,8 @@ use lib.ListN.{length, drop}
 use Rattle.packed.specs.declared.Refusal.{Refusal}
 use Rattle.area.specs.Area.{area, cleared}
 use Rattle.planner.specs.declared.Figures.{Figures}
+use Rattle.planner.specs.declared.Planned.{Planned}
+use Rattle.planner.specs.declared.Planned.the-variants.{Refused, Made}
 use Rattle.sheet.specs.Sheet.{figureCount, mostOrders, orders, sheetIn, sheetOver, fits}
 use Rattle.sheet.specs.Answered.{withOrder}
 
@@ -34,3 +36,8 @@ pub record Numbered (r : Refusal) : Type 0 where
 pub record Light (f : Figures) : Type 0 where
   pub weights : f .«kept_weight» + f .«lost_weight» ≤ 300
   pub points : f .points ≤ 14448
+
+-- An answer of planning that can be counted.
+abbrev pub Countable : Planned → Type 0
+Countable (Refused r) = Numbered r
+Countable (Made f) = Light f

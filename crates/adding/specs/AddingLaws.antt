@@ -22,17 +22,21 @@ use Rattle.planner.specs.Calls.{planVerdict, plannedBy, plannedOf, planWorkAfte
 use Rattle.planner.specs.declared.Figures.{Figures}
 use Rattle.planner.specs.declared.Planned.{Planned}
 use Rattle.planner.specs.declared.Planned.the-variants.{Refused, Made}
-use Rattle.sheet.specs.Sheet.{Sheet, mostOrders, orders, oneOrder, join, numbersOf, sheetIn, sheetOver, isSheet}
+use Rattle.sheet.specs.Sheet.{Sheet, mostOrders, orders, feasible, oneOrder, join, numbersOf, sheetIn, sheetOver, isSheet}
 use Rattle.sheet.specs.Answered.{answered, withOrder}
 use Rattle.sheet.specs.Joining.{CanJoin}
 use Rattle.sheet.specs.SheetLaws.{one-tidy, one-orders, join-orders}
 use Rattle.sheet.specs.NumbersLaws.{sheet-long, sheet-in-front}
-use Rattle.sheet.specs.FitsLaws.{fits-says, fitting-passes, fitting-small, join-fits, sheet-says}
+use Rattle.sheet.specs.FitsLaws.{TopFitting, without, with-one, fits-says, fitting-passes, fitting-small, join-fits, sheet-says}
 use Rattle.sheet.specs.AnsweredLaws.{Tame, refused-tame, made-tame, answered-tame, answer-fits}
 use Rattle.adding.specs.Calls.{takesOne, addRefusal, addAfter, addWorkAfter, AddCall}
-use Rattle.adding.specs.Adding.{CanAdd, Added, Numbered, Light}
+use Rattle.adding.specs.Adding.{CanAdd, Added, Numbered, Countable}
 
 -- ---- an answer's figures as numbers
+
+refused-top : (r : Refusal) → oneOrder (Refused r) .top ≡ 0
+unfolding oneOrder
+refused-top r = refl
 
 -- The figures of a refusal, as they are set.
 pub refused-numbers : (r : Refusal) → Numbered r
@@ -40,20 +44,31 @@ pub refused-numbers : (r : Refusal) → Numbered r
 unfolding oneOrder
 refused-numbers r h = set-append-left (1 ∷ replicate 23 0) (0 ∷ 0 ∷ []) (r .number) 1 (omega (arith, h .high))
 
--- What is known of an answer's numbers.
-pub refusal-numbered : (bytes : List ℕ) (r : Refusal) → Refused r ≡ answered bytes → Numbered r
-refusal-numbered bytes r is = go (Refused r) (rw (← is) at (answered-tame bytes)) refl
+-- An answer for bytes can be counted.
+pub answer-countable : (bytes : List ℕ) → Countable (answered bytes)
+answer-countable bytes = go (answered bytes) (answered-tame bytes)
   where
-    go : (p : Planned) → Tame p → p ≡ Refused r → Numbered r
-    go (Refused s) (refused-tame low high) e = let same : s ≡ r = cc in rw (← same) (record { low = low; high = high })
-    go (Made f) t e = let z : _≡_ {A = ℕ} 0 1 = cc in absurd (omega arith)
+    go : (p : Planned) → Tame p → Countable p
+    go (Refused r) (refused-tame low high) = record { low = low; high = high }
+    go (Made f) (made-tame weights jobs points) = record { weights = weights; points = points }
 
-pub plan-light : (bytes : List ℕ) (f : Figures) → Made f ≡ answered bytes → Light f
-plan-light bytes f is = go (Made f) (rw (← is) at (answered-tame bytes)) refl
-  where
-    go : (p : Planned) → Tame p → p ≡ Made f → Light f
-    go (Made g) (made-tame weights jobs points) e = let same : g ≡ f = cc in rw (← same) (record { weights = weights; points = points })
-    go (Refused r) t e = let z : _≡_ {A = ℕ} 0 1 = cc in absurd (omega arith)
+-- ---- the work area
+
+module _ (bytes : List ℕ) (starts work : List ℤ) where
+  pub plan-behind : drop area (planWorkAfter bytes starts work) ≡ drop area work
+  plan-behind = go (planVerdict bytes starts work)
+    where
+      go : (v : Verdict) → drop area (workBy v work) ≡ drop area work
+      go fine = cleared-behind work
+      go (refused r) = refl
+
+  -- A plan leaves it cleared.
+  pub made-clears : (f : Figures) → Made f ≡ plannedOf bytes starts work → planWorkAfter bytes starts work ≡ cleared work
+  made-clears f is = go (planVerdict bytes starts work) (planAnswer (orderOf bytes)) is
+    where
+      go : (v : Verdict) (o : Option Answer) → Made f ≡ plannedBy v o → workBy v work ≡ cleared work
+      go fine o e = refl
+      go (refused r) o e = let z : _≡_ {A = ℕ} 0 1 = cc in absurd (omega arith)
 
 -- ---- joined
 
@@ -81,6 +96,20 @@ module _ (figures : List ℕ) (bytes : List ℕ) (work : List ℤ) (can : CanAdd
   same-long : length (sheetIn figures .sums) ≡ length (entry .sums)
   same-long = sheet-long figures (can .long) ∙ sym (one-tidy (answered bytes) .long)
 
+  -- An order that is feasible has a plan, and planning has cleared the work area.
+  pub one-clears : (starts : List ℤ) (p : Planned) → p ≡ plannedOf bytes starts work → p ≡ answered bytes → getD one 20 0 ≡ 1
+      → planWorkAfter bytes starts work ≡ cleared work
+  one-clears starts (Made f) is same can-be = made-clears bytes starts work f is
+  one-clears starts (Refused r) is same can-be =
+      absurd (none (answer-fits bytes .top-fitting) (ap (λ (p : Planned). oneOrder p .top) (sym same) ∙ refused-top r))
+    where
+      feasible-one : feasible entry ≡ 1
+      feasible-one = sym (ap feasible one-in) ∙ getD-take 24 one 20 0 (omega arith) ∙ can-be
+
+      none : TopFitting (orders entry) (feasible entry) (entry .top) (entry .place) → entry .top ≡ 0 → ⊥
+      none (without c t p) e = omega (arith, feasible-one)
+      none (with-one c t m p) e = omega arith
+
   -- Once joined the order is counted.
   pub one-counted : (figures′ : List ℕ) → figures′ ≡ sheetOver (join (sheetIn figures) (sheetIn one)) figures
       → (work′ : List ℤ) (clean : Bool) → drop area work′ ≡ drop area work → (clean ≡ true → work′ ≡ cleared work)
@@ -96,24 +125,6 @@ module _ (figures : List ℕ) (bytes : List ℕ) (work : List ℤ) (can : CanAdd
         behind = behind;
         clean = cleans;
       }
-
--- ---- the work area
-
-module _ (bytes : List ℕ) (starts work : List ℤ) where
-  pub plan-behind : drop area (planWorkAfter bytes starts work) ≡ drop area work
-  plan-behind = go (planVerdict bytes starts work)
-    where
-      go : (v : Verdict) → drop area (workBy v work) ≡ drop area work
-      go fine = cleared-behind work
-      go (refused r) = refl
-
-  -- A plan leaves it cleared.
-  pub made-clears : (f : Figures) → Made f ≡ plannedOf bytes starts work → planWorkAfter bytes starts work ≡ cleared work
-  made-clears f is = go (planVerdict bytes starts work) (planAnswer (orderOf bytes)) is
-    where
-      go : (v : Verdict) (o : Option Answer) → Made f ≡ plannedBy v o → workBy v work ≡ cleared work
-      go fine o e = refl
-      go (refused r) o e = let z : _≡_ {A = ℕ} 0 1 = cc in absurd (omega arith)
 
 -- ---- the call
 

@@ -24,7 +24,7 @@ ghost use Rattle.planner.specs.declared.Planned.the-variants.{Refused, Made};
 ghost use Rattle.sheet.specs.Sheet.{figureCount, oneOrder, numbersOf, sheetIn, sheetOver};
 ghost use Rattle.sheet.specs.Answered.{withOrder};
 ghost use Rattle.adding.specs.Calls.{takesOne, AddCall};
-ghost use Rattle.adding.specs.Adding.{CanAdd, Added, Numbered, Light};
+ghost use Rattle.adding.specs.Adding.{CanAdd, Added, Numbered, Light, Countable};
 
 // The most jobs of an order.
 const MOST_JOBS: usize = 48;
@@ -55,6 +55,17 @@ fn one_made(figures: Figures) -> [u32; FIGURES]
     one
 }
 
+// The sheet of one order, by what planning says of it.
+fn one_order(planned: Planned) -> [u32; FIGURES]
+    requires { ⌜ Countable planned ⌝ }
+    ensures { λ r. ⌜ r ≡ numbersOf (oneOrder planned) ⌝ }
+{
+    match planned {
+        Planned::Refused(refusal) => one_refused(refusal),
+        Planned::Made(figures) => one_made(figures),
+    }
+}
+
 // One order more, by its bytes. Returns whether the work area is cleared: it is where there is a plan.
 pub fn add_into(figures: &mut [u32], bytes: &[u8], work: &mut [i32]) -> bool
     requires { ⌜ CanAdd (now figures) (now work) ⌝ }
@@ -62,18 +73,9 @@ pub fn add_into(figures: &mut [u32], bytes: &[u8], work: &mut [i32]) -> bool
         Added (now (figures .entry)) (now (bytes .entry)) (now (work .entry)) r (now (figures .exit)) (now (work .exit)) ⌝ }
 {
     let mut starts = [0i32; MOST_JOBS];
-    match plan(bytes, &mut starts, work) {
-        Planned::Refused(refusal) => {
-            let one = one_refused(refusal);
-            join_into(figures, &one);
-            false
-        }
-        Planned::Made(made) => {
-            let one = one_made(made);
-            join_into(figures, &one);
-            true
-        }
-    }
+    let one = one_order(plan(bytes, &mut starts, work));
+    join_into(figures, &one);
+    one[FEASIBLE] == 1
 }
 
 // The same, and the work area is cleared in any case.

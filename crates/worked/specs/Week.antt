@@ -1,4 +1,4 @@
--- A week of three entries, from the bytes of its stream to those of its text (R46 to R48, R50): P1, an entry of no bytes, and the infeasible
+-- A week of three entries, from the bytes of its stream to those of its text (R46 to R48): P1, an entry of no bytes, and the infeasible
 -- order of P5. Its entries, its sheet and its text; the same without the last byte; and the same fed in two pieces. By computation.
 use Prim.Native.Nat.{ℕ}
 use mathlib.Core.Path.{_≡_, refl}
@@ -21,7 +21,6 @@ use Rattle.sheet.specs.Answered.{answered, withOrder, weekOf}
 use Rattle.streams.specs.Entries.{partsBy, partsOf, isCut, streamSheet}
 use Rattle.streams.specs.Stream.{frontRoom, feedCount, State, over, byte, run, stateIn, feedOver}
 use Rattle.sheet_text.specs.SheetText.{topLine, fractionLine, lastLine, sheetText}
-use Rattle.week_report.specs.WeekText.{weekText}
 
 -- ---- the stream
 
@@ -72,11 +71,11 @@ pub record AsRuled : Type 0 where
   pub entries : partsOf week ≡ record { whole = morningBytes ∷ [] ∷ lateBytes ∷ []; rest = [] }
   pub whole : isCut week ≡ false
   pub sheet : figuresOf (streamSheet week) ≡ weekFigures
-  pub text : weekText week ≡ weekLines
+  pub text : sheetText (streamSheet week) (isCut week) ≡ weekLines
   -- without the last byte the last entry is left, with its length
   pub cut-entries : partsOf cutWeek ≡ record { whole = morningBytes ∷ [] ∷ []; rest = 0 ∷ 12 ∷ take 11 lateBytes }
   pub cut : isCut cutWeek ≡ true
-  pub cut-text : weekText cutWeek ≡ cutLines
+  pub cut-text : sheetText (streamSheet cutWeek) (isCut cutWeek) ≡ cutLines
   -- fed in two pieces: after 20 bytes 18 of P1's 44 have come; after both it is as fed at once
   pub first-piece : numbers (run begun (take 20 week)) ≡ replicate figureCount 0 ++ (2 ∷ 44 ∷ 18 ∷ [])
   pub both-pieces : numbers (run (run begun (take 20 week)) (drop 20 week)) ≡ weekFigures ++ (0 ∷ 0 ∷ 0 ∷ [])
@@ -86,7 +85,7 @@ pub week-holds : AsRuled
 unfolding rest bitsTo decode numberOf part flat each first headerWord headerOf countOf t0Of kindOf recordBytes recordAt jobWord jobFields
     numbersOf jobCount fieldsAt jobOf jobsOf orderOf fieldsWithin firstBad numberAt firstRepeat headerChecks jobChecks weightChecks
     noSheet oneOrder join sheetOf answered withOrder weekOf partsBy partsOf over byte feedOver gcdIn gcd digitsIn digits lowestOf topLine
-    fractionLine lastLine sheetText weekText
+    fractionLine lastLine sheetText
 week-holds =
     record {
       entries = refl;
