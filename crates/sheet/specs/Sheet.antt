@@ -117,10 +117,11 @@ abbrev pub weightsFit : ℕ → ℕ → ℕ → ℕ → Bool
 weightsFit can weight some jobs =
     leb weight (mostWeight * can) && (leb some weight && leb jobs (mostJobs * can))
 
--- The greatest total's figures: none without a feasible order, else from 1 on, and at the place of an order.
+-- The greatest point total of an order, and 1.
 abbrev pub greatestTop : ℕ
 greatestTop = mostPoints * mostJobs + 1
 
+-- The greatest total's figures: none without a feasible order, else from 1 on, and at the place of an order.
 abbrev pub topFits : ℕ → ℕ → ℕ → ℕ → Bool
 topFits many can top place =
     cond (eqb can 0)
