@@ -1,5 +1,7 @@
 // One order more on a sheet: it is planned, and what planning says of it is joined. Any numbers, bytes and buffers have an answer.
 // Assumes nothing.
+#![tactic(auto)]
+
 ghost use Rattle.std.specs.Prelude.{◌≡◌, ◌≤◌, length};
 ghost use Rattle.area.specs.Area.{cleared};
 ghost use Rattle.planner.specs.declared.Planned.TheVariants.{Refused, Made};

@@ -1,4 +1,6 @@
 // The lent work area: how long it is, and its clearing. Assumes nothing.
+#![tactic(auto)]
+
 ghost use Rattle.std.specs.Prelude.{◌≡◌, ◌≤◌, length};
 ghost use Rattle.area.specs.Area.{area, cleared};
 

@@ -1,5 +1,7 @@
 // Better-of: two profiles, held as alternating numbers, joined to the shortest profile that gives at
 // each time the greater of both weights. Any numbers and any room have an answer. Assumes nothing.
+#![tactic(auto)]
+
 ghost use Rattle.std.specs.Prelude.{◌≡◌};
 ghost use Rattle.profiles.specs.Places.{AtPoint};
 ghost use Rattle.better.specs.Answer.{joined_of, out_after};

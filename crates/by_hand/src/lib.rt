@@ -3,6 +3,8 @@
 // uses nothing of the library. A choice's lowest bit is place 0; an order is seven numbers a job, of at most
 // ten jobs; outcomes and profiles are alternating numbers, time and weight. Every function is safe and ends.
 // Assumes nothing.
+#![tactic(auto)]
+
 mod choices;
 mod partners;
 mod plans;

@@ -1,5 +1,7 @@
 // Numbers read, written, cut short and added with an answer for every place and every number, so that
 // trial programs carry no bounds of their own. Every function is safe and ends. Assumes nothing.
+#![tactic(auto)]
+
 ghost use Rattle.std.specs.Prelude.{◌≤◌};
 
 // The numbers of a sum are no less than the first and no greater than the second.

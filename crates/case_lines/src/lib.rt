@@ -1,5 +1,7 @@
 // Cases as lines of text, for programs that run calls on their edges: the parts of a line, the orders and
 // profiles that they tell, and answers as text. Every text has an answer. Assumes nothing.
+#![tactic(auto)]
+
 mod given;
 mod lines;
 mod told;

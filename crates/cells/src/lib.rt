@@ -1,5 +1,7 @@
 // A list of points as cells by weight: for each weight up to the heaviest the number of the earliest time at which at least that
 // weight is kept, and past it a number past all. Loops over cells do not wait for each other. Assumes nothing.
+#![tactic(auto)]
+
 ghost use Rattle.std.specs.Prelude.{◌≡◌, cond, [], ◌+◌, ◌-◌, ◌≤◌, pos, ◌+ℤ◌, ◌-ℤ◌, ◌≤ℤ◌, length};
 ghost use Rattle.codes.specs.Code.{at0, lightness, points_at, past_all};
 ghost use Rattle.cells.specs.Cells.{wide, Cells, Put, CanCount, CanRun, CanSpread};

@@ -1,5 +1,7 @@
 // Choosing between two openings at a time, by a tie: which of two packed orders keeps more weight by then, and of equal ones which
 // reaches it sooner, or the first. Any bytes, time and work area have an answer. Assumes nothing.
+#![tactic(auto)]
+
 ghost use Rattle.std.specs.Prelude.{◌≡◌};
 ghost use Rattle.ties.specs.Winning.{winner_by, rule_of};
 ghost use Rattle.choosing.specs.Choosing.{Asked};

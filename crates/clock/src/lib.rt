@@ -1,4 +1,6 @@
 // Times of the stand: the lesser and the greater of two, and when the bus is free again after a job. Assumes nothing.
+#![tactic(auto)]
+
 ghost use Rattle.std.specs.Prelude.{◌≡◌, pos, ◌+ℤ◌};
 ghost use Rattle.seconds.specs.Limits.{rest};
 ghost use Rattle.seconds.specs.Ranges.{InTime, min_z, max_z};

@@ -1,5 +1,7 @@
 // Scheduling points in the lent work area, a point as one number: SECOND for each second since the earliest, and LIGHTEST less
 // the weight. The smaller number is the earlier point and, at one time, the heavier. Assumes nothing.
+#![tactic(auto)]
+
 ghost use Rattle.std.specs.Prelude.{◌≡◌, ◌≤◌, pos, ◌≤ℤ◌};
 ghost use Rattle.seconds.specs.Ranges.{InFree};
 ghost use Rattle.seconds.specs.Limits.{most_weight};

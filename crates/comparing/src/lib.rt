@@ -1,5 +1,7 @@
 // What the programs share that compare calls with a reference: an order's bytes, marks that show what a call
 // wrote, and counts of what was met. Every function is safe and ends.
+#![tactic(auto)]
+
 use careful::{all_are, at, front};
 use pack::Packed;
 use packed::Refusal;

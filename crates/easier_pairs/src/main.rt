@@ -1,5 +1,7 @@
 // Makes drawn orders easier, plans and extends by both, and writes what became of it, a count to a line. An
 // easier order never has a worse plan or profile.
+#![tactic(auto)]
+
 mod counts;
 mod extended;
 mod pairs;

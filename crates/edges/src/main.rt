@@ -2,6 +2,8 @@
 // lent and the time, the place or the byte, and behind bars what the call is given. The answer is the name,
 // what the call answered, and behind bars all that the lent buffers hold after it. A call more is a function
 // that takes a case's line and the bytes that its parts tell, and a word in the `run` of its file.
+#![tactic(auto)]
+
 mod choices;
 mod orders;
 mod packed_plans;

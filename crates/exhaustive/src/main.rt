@@ -1,5 +1,7 @@
 // Compares the library's calls with a planner by trial on many drawn orders and profiles, and writes
 // what was met and compared, a count to a line. No answer may differ.
+#![tactic(auto)]
+
 mod choices;
 mod counts;
 mod extended;

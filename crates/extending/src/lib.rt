@@ -1,5 +1,7 @@
 // The call that extends a profile by a packed order. Any numbers, bytes and buffers have an answer. Assumes
 // nothing.
+#![tactic(auto)]
+
 ghost use Rattle.std.specs.Prelude.{◌≡◌, ◌++◌};
 ghost use Rattle.packed.specs.Judge.{fine, judge};
 ghost use Rattle.packed.specs.Packed.{numbers_of};

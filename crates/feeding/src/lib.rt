@@ -1,5 +1,7 @@
 // Feeding a stream of orders in pieces of any size: whole entries are counted, and of the next one is held what has come. The call that
 // takes numbers has an answer for any numbers and buffers. Assumes nothing.
+#![tactic(auto)]
+
 ghost use Rattle.std.specs.Prelude.{◌≡◌, ◌+◌, ◌≤◌, ◌<◌, min, length};
 ghost use Rattle.sheet.specs.Sheet.{figure_count, sheet_in};
 ghost use Rattle.streams.specs.Stream.{front_room, feed_count, over, state_in, part_fits, is_state};

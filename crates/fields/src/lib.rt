@@ -1,5 +1,7 @@
 // One job of an order, from and to its bytes and seven numbers, and the header from and to four bytes.
 // A record is read and written by its kind, in the nesting of its layout. Assumes nothing.
+#![tactic(auto)]
+
 ghost use Rattle.std.specs.Prelude.{◌≡◌, true, ◌++◌, ◌+◌, ◌*◌, ◌%◌, ◌^◌, ◌≤◌, ◌<◌, pos, nat_abs, length, take, drop, ◌≤ℤ◌};
 ghost use Rattle.seconds.specs.Ranges.{InTime};
 ghost use Rattle.seconds.specs.Twos.{bits_to, to_bits};

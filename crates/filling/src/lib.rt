@@ -1,5 +1,7 @@
 // The lists of an order in the lent work area: the list of points before its first job, from a bus-free time or a profile, and
 // behind it the list after each job of a packed order. Assumes nothing.
+#![tactic(auto)]
+
 ghost use Rattle.std.specs.Prelude.{◌≡◌, true, false, cond, [], ◌∷◌, length, get_or};
 ghost use Rattle.profile.specs.Profile.{last_weight, start_point};
 ghost use Rattle.profiles.specs.Numbers.{holds_profile};

@@ -1,4 +1,6 @@
 // Fractions in lowest terms. Assumes nothing.
+#![tactic(auto)]
+
 ghost use Rattle.std.specs.Prelude.{◌≡◌, ◌≤◌};
 ghost use Rattle.fractions.specs.Fractions.{lowest_of};
 

@@ -1,5 +1,7 @@
 // One frame of repeating jobs, written as a packed order of kind 0 to the front of a lent buffer (R41 to R43). Any numbers and any room have
 // an answer. Assumes nothing.
+#![tactic(auto)]
+
 ghost use Rattle.std.specs.Prelude.{◌≡◌, length};
 ghost use Rattle.repeating.specs.Repeating.{CanCount};
 ghost use Rattle.framing.specs.Answer.{framed_of, order_after};

@@ -1,5 +1,7 @@
 // The list of points of cells, written at the front of the lent work area: a cell is a point where it is less than the next one. A
 // number that is no point is overwritten by the next, so no turn branches on what it reads. Assumes nothing.
+#![tactic(auto)]
+
 ghost use Rattle.std.specs.Prelude.{◌≡◌, cond, ◌+◌, ◌<◌, length, set};
 ghost use Rattle.cells.specs.Laying.{is_point};
 ghost use Rattle.gathering.specs.Points.{CanGather, Gathered};

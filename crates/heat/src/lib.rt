@@ -1,5 +1,7 @@
 // Heat-up lengths: the seconds of heating for the byte that the sampler gives, by the two slopes of the
 // rule. Every byte has an answer; below -30 degrees it is a refusal. Assumes nothing.
+#![tactic(auto)]
+
 ghost use Rattle.std.specs.Prelude.{◌≡◌, ◌≤◌, pos, ◌-ℤ◌, nat_abs, ◌≤ℤ◌};
 ghost use Rattle.seconds.specs.Limits.{coldest};
 ghost use Rattle.heat.specs.Heat.{degree_of, heat_at};

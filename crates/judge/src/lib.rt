@@ -1,5 +1,7 @@
 // The refusals of an order, in packed bytes and in numbers: checks 1 to 7 and 9 of R24, the lowest that
 // applies (R25). Assumes nothing.
+#![tactic(auto)]
+
 ghost use Rattle.std.specs.Prelude.{◌≡◌, ◌++◌, ◌/◌, ◌≤◌, length};
 ghost use Rattle.packed.specs.Packed.{numbers_of};
 ghost use Rattle.packed.specs.Judge.{fine, judge, or_else};

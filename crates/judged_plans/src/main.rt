@@ -1,5 +1,7 @@
 // Compares the calls on packed plans with a judge by trial, on drawn orders with our own plans and drawn
 // ones for each, and writes what was judged, a count to a line. No answer may differ.
+#![tactic(auto)]
+
 mod changes;
 mod checks;
 mod counts;

@@ -2,6 +2,8 @@
 // numbers and rooms have an answer. What the caller owes, and no call checks: a pointer is never null, also where its
 // length is 0; it points to as many elements as the length beside it says; a buffer that a call writes overlaps no other
 // buffer of that call (those that it only reads may overlap).
+#![tactic(auto)]
+
 ghost use Rattle.std.specs.Prelude.{◌≡◌, length};
 ghost use Rattle.heat.specs.Answer.{heating_of};
 ghost use Rattle.unpack.specs.Answer.{unpack_of, numbers_after};

@@ -1,4 +1,6 @@
 // A job's numbers and a bus-free time against their limits (R2, R3), and which field of a job is out of range (R36). Assumes nothing.
+#![tactic(auto)]
+
 ghost use Rattle.std.specs.Prelude.{◌≡◌, cond};
 ghost use Rattle.seconds.specs.Ranges.{is_between, is_time};
 ghost use Rattle.packed.specs.Refusals.{weight_test, bad_field};

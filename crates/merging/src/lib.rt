@@ -1,5 +1,7 @@
 // Two lists of points in the lent work area, merged behind the part in use: taken in turn, each kept where it is heavier
 // than all before. Only what stands behind the part in use is written, so the lists before it stay. Assumes nothing.
+#![tactic(auto)]
+
 ghost use Rattle.std.specs.Prelude.{◌≡◌, cond, min, ltb};
 ghost use Rattle.merging.specs.Turns.{CanMerge, Merged};
 ghost use Rattle.merging.specs.Joins.{CanCopyFour, CanCopy, Copied, CanLay, Laid, CanWeigh, light_before, CanJoin, Joined};

@@ -1,5 +1,6 @@
 // The greatest common divisor and the least common multiple of numbers: their definitions and laws, and the code that finds
 // them.
+#![tactic(auto)]
 
 ghost use Rattle.std.specs.Prelude.{◌≡◌};
 ghost use Rattle.multiples.specs.Multiples.{BothPositive, gcd as gcd_of, lcm as lcm_of};

@@ -1,5 +1,7 @@
 // The answers on openings as structs with C's layout: the refusal, the winner, where its records stand, and their kind. Every
 // answer has its struct. Assumes nothing.
+#![tactic(auto)]
+
 ghost use Rattle.std.specs.Prelude.{◌≡◌, ◌-◌};
 ghost use Rattle.packed.specs.Layout.{header_bytes};
 ghost use Rattle.opening_answers.specs.Numbers.{question_numbers, choose_numbers};

@@ -1,6 +1,8 @@
 // The calls on two openings at a time: which of them wins, with the kind of the winner's records, and these records. Of equal
 // weights the opening wins that reaches it sooner, and by name always the first. Any bytes, time and work area have an answer.
 // Assumes nothing.
+#![tactic(auto)]
+
 ghost use Rattle.std.specs.Prelude.{◌≡◌, ◌<◌};
 ghost use Rattle.ties.specs.Winning.{rule_of, sooner, to_first};
 ghost use Rattle.choosing.specs.Choosing.{Handed, winner_of, kind_won};

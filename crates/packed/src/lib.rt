@@ -1,5 +1,7 @@
 // Packed orders: the record layouts, the refusals and both round trips, as definitions and laws that
 // the code which packs, unpacks and reads orders is proved against; and the refusal as one value.
+#![tactic(auto)]
+
 ghost use Rattle.std.specs.Prelude.{◌≡◌};
 ghost use Rattle.packed.specs.Judge.{plainly as only_number, at_place, in_field, without_place};
 

@@ -1,5 +1,7 @@
 // The answers on packed orders, and on the sampler's byte, as structs with C's layout: the refusal and the values of the rules
 // for each case. Every answer has its struct. Assumes nothing.
+#![tactic(auto)]
+
 ghost use Rattle.std.specs.Prelude.{◌≡◌};
 ghost use Rattle.packed_answers.specs.Numbers.{heat_numbers, unpack_numbers, pack_numbers, framed_numbers};
 ghost use Rattle.packed_answers.specs.Numbers.{open_numbers, no_job, step_numbers};

@@ -1,5 +1,7 @@
 // The repeats of a frame, picked one by one in their sequence and written as the jobs of a packed order of kind 0 behind its header
 // (R42). Assumes nothing.
+#![tactic(auto)]
+
 ghost use Rattle.std.specs.Prelude.{◌≡◌, ◌++◌, ◌+◌, ◌*◌, take, drop};
 ghost use Rattle.packed.specs.Layout.{encode, bytes_of, job_layout};
 ghost use Rattle.fields.specs.Fields.{fields_of};

@@ -1,5 +1,7 @@
 // The answers on profiles and plans as structs with C's layout: the refusal and the values of the rules for each
 // case. Every answer has its struct. Assumes nothing.
+#![tactic(auto)]
+
 ghost use Rattle.std.specs.Prelude.{◌≡◌};
 ghost use Rattle.plan_answers.specs.Numbers.{lookup_numbers, better_numbers, extend_numbers};
 ghost use Rattle.plan_answers.specs.Numbers.{plan_figures, beside, halves_figures};

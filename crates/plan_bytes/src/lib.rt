@@ -1,5 +1,7 @@
 // Packed plans in bytes: a start is read from the three bytes that it ends in, and a plan is written start by start, each behind
 // those before it. Assumes nothing.
+#![tactic(auto)]
+
 ghost use Rattle.std.specs.Prelude.{◌≡◌, cond, ◌++◌, suc, ◌-◌, ◌%◌, ◌^◌, ◌≤◌, ◌<◌, eqb, length, drop, get_or};
 ghost use Rattle.std.specs.Int.Signed.{lt_z};
 ghost use Rattle.seconds.specs.Limits.{left_out};

@@ -1,5 +1,7 @@
 // The program: it reads a packed order from standard input and writes the order's text to standard output. All that matters
 // is in `report`; only reading and writing are the kit's.
+#![tactic(auto)]
+
 ghost use Rattle.std.specs.Prelude.{◌≡◌, ◌<◌, length, take};
 ghost use Rattle.planner.specs.Calls.{longest_order};
 ghost use Rattle.report.specs.Report.{report_of};

@@ -1,5 +1,7 @@
 // The writer of an order's own plan: the plan that planning makes, as a packed plan. Any bytes and buffers have an answer.
 // Assumes nothing.
+#![tactic(auto)]
+
 ghost use Rattle.std.specs.Prelude.{◌≡◌};
 ghost use Rattle.packed.specs.Judge.{fine, judge};
 ghost use Rattle.packed.specs.Refusals.{order_checks};

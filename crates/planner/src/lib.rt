@@ -1,4 +1,6 @@
 // The call that plans: the plan of a packed order. Any bytes and buffers have an answer. Assumes nothing.
+#![tactic(auto)]
+
 ghost use Rattle.std.specs.Prelude.{◌≡◌};
 ghost use Rattle.packed.specs.Judge.{fine, judge};
 ghost use Rattle.packed.specs.Refusals.{order_checks};

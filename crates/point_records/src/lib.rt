@@ -1,6 +1,8 @@
 // Lookup over a lent list of point records: the weight of the last point at or before a time. The records
 // are copied, laid out as alternating numbers, and looked up there. Any records and any time have an
 // answer. Assumes nothing.
+#![tactic(auto)]
+
 ghost use Rattle.std.specs.Prelude.{◌≡◌, ◌≤◌, min, take};
 ghost use Rattle.profiles.specs.Answer.{lookup_of};
 ghost use Rattle.point_records.specs.Records.{most_read, most_passed, flattened};

@@ -1,6 +1,8 @@
 // The calls over profiles held as alternating numbers (time, weight, time, weight, ..): whether they
 // are a valid profile, and lookup at a time. Any numbers and any time have an answer.
 // Assumes nothing.
+#![tactic(auto)]
+
 ghost use Rattle.std.specs.Prelude.{◌≡◌};
 ghost use Rattle.profiles.specs.Numbers.{holds_profile};
 ghost use Rattle.profiles.specs.Answer.{lookup_of};

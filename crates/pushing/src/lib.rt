@@ -1,4 +1,6 @@
 // The list of points pushed by a job at one rate, written to a lent buffer from the back. Assumes nothing.
+#![tactic(auto)]
+
 ghost use Rattle.std.specs.Prelude.{◌≡◌, ◌+ℤ◌};
 ghost use Rattle.seconds.specs.Ranges.{InTime};
 ghost use Rattle.pushing.specs.Pushes.{Coded, Delta, RateFits, delta_of, waited_as, CanPush, Pushed};

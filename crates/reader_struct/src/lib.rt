@@ -2,6 +2,8 @@
 // checker covers no function over such a struct, so `open`, `step` and `read_at` are proved by hand;
 // each takes the struct apart and leaves the work to a covered function over the slice and the place.
 // Assumes nothing.
+#![tactic(auto)]
+
 ghost use Rattle.std.specs.Prelude.{◌≡◌};
 ghost use Rattle.reader.specs.Reading.{open_of};
 ghost use Rattle.reader_struct.specs.Standing.{kept_bytes, seen, begun_over, stepped_of, read_at};

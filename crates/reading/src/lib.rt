@@ -1,5 +1,7 @@
 // What is read off a list of points in the lent work area: the last point by a time, and the list as the alternating numbers
 // of a profile. Assumes nothing.
+#![tactic(auto)]
+
 ghost use Rattle.std.specs.Prelude.{◌≡◌, ◌+◌, ◌*◌, ◌<◌, length, set};
 ghost use Rattle.profile.specs.Profile.{lookup};
 ghost use Rattle.profiles.specs.Numbers.{alternating, written_over};

@@ -1,5 +1,7 @@
 // Repeating jobs, as numbers: whether each may repeat, the frame of their periods, and how many repeats the frame has and what
 // they weigh, before any of them is made (R41 to R43). Assumes nothing.
+#![tactic(auto)]
+
 ghost use Rattle.std.specs.Prelude.{◌≡◌, true, ◌+◌, ◌*◌, ◌≤◌, pos, nat_abs, ◌≤ℤ◌, length, take, drop};
 ghost use Rattle.multiples.specs.Multiples.{BothPositive, lcm as lcm_of};
 ghost use Rattle.packed.specs.Places.{first};

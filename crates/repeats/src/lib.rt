@@ -1,5 +1,7 @@
 // The first number of a list that stood earlier in it, for check 7 of R24: one pass sees whether all numbers differ, and where they do
 // not a nested search finds the first that is repeated. Assumes nothing.
+#![tactic(auto)]
+
 ghost use Rattle.std.specs.Prelude.{◌≡◌, true, length};
 ghost use Rattle.repeats.specs.Repeats.{first_again};
 

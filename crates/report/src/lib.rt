@@ -1,5 +1,7 @@
 // The text that the program prints: the plan of the bytes that it read, or why there is none, written into
 // a lent buffer. Assumes nothing.
+#![tactic(auto)]
+
 ghost use Rattle.std.specs.Prelude.{◌+◌, ◌≤◌, take};
 ghost use Rattle.text.specs.Buffer.{Room, Wrote};
 ghost use Rattle.report.specs.Report.{refusal_line, plan_line, start_word, job_line, report_of, Reported};

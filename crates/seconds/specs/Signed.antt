@@ -290,4 +290,4 @@ same_bits {w} f g e = sym (to_z-of_z f) ∙ ap (to_z w) e ∙ to_z-of_z g
 
 -- A number of 32 bits, as the code reads it back from its bits.
 pub read_back_lem : (z : ℤ) → mag z < 2 ^ hbits w32 → to_z w32 (of_z w32 z) ≡ z
-read_back_lem z h = to_z-of_z (record { sfits = h })
+read_back_lem z h = to_z-of_z {w = w32} (record { sfits = h })

@@ -1,5 +1,7 @@
 // Sheets over orders: which numbers are a sheet's, and two sheets joined. A sheet is 26 numbers, 24 of them sums, in the sequence of its
 // lines. Any numbers have an answer. Assumes nothing.
+#![tactic(auto)]
+
 ghost use Rattle.std.specs.Prelude.{◌≡◌, ◌≤◌, length, take, drop};
 ghost use Rattle.sheet.specs.Sheet.{numbers_of, no_sheet, sum_all, weights_fit, top_fits, is_sheet, sheet_in, sheet_over, join as join_of};
 ghost use Rattle.sheet.specs.Sheet.{figure_count, joins, JoinCall};

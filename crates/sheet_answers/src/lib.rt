@@ -1,4 +1,6 @@
 // The answers of the calls on sheets as structs with C's layout. Assumes nothing.
+#![tactic(auto)]
+
 ghost use Rattle.std.specs.Prelude.{◌≡◌};
 ghost use Rattle.sheet_answers.specs.Numbers.{sheet_numbers, text_numbers};
 

@@ -1,5 +1,7 @@
 // Answers the cases of sheets on standard input, one a line, in the form of `edges`: the case's name, what the
 // call answered, and behind bars all that the lent buffers hold after it: figures, bytes and the work area.
+#![tactic(auto)]
+
 mod calls;
 mod told;
 

@@ -1,4 +1,6 @@
 // The text of a sheet over orders, written into a lent buffer. Any numbers and any buffer have an answer. Assumes nothing.
+#![tactic(auto)]
+
 ghost use Rattle.std.specs.Prelude.{◌+◌, ◌≤◌, true, false, take};
 ghost use Rattle.text.specs.Buffer.{Room, Wrote};
 ghost use Rattle.sheet.specs.Sheet.{sum_count, sheet_in};

@@ -1,4 +1,6 @@
 // From a mask to the plan: the starts of the jobs that the mask keeps, and the number of them. Assumes nothing.
+#![tactic(auto)]
+
 ghost use Rattle.std.specs.Prelude.{◌≡◌};
 ghost use Rattle.order.specs.Choice.{number_kept};
 ghost use Rattle.fields.specs.Fields.{as_job};

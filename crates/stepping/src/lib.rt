@@ -1,5 +1,7 @@
 // From the list of points before a job to the list after it, in the lent work area: the three cases. Only what stands behind
 // the part in use is written, so the lists before stay; a list always ends where the part in use ends. Assumes nothing.
+#![tactic(auto)]
+
 ghost use Rattle.std.specs.Prelude.{◌≡◌, pos, ◌≤ℤ◌};
 ghost use Rattle.points.specs.Steps.{too_late};
 ghost use Rattle.codes.specs.Code.{point_of};

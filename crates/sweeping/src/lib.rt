@@ -1,6 +1,8 @@
 // From the list of points before a job to the list after it by cells, for lists with many points past a job's ready time: a row with
 // the cells of the list is stepped, and the work area gets its cells, whose last one by any time is the list's last point by it.
 // Assumes nothing.
+#![tactic(auto)]
+
 ghost use Rattle.std.specs.Prelude.{◌≡◌, cond, ◌-◌, max, pos, length, ◌≤ℤ◌};
 ghost use Rattle.codes.specs.Code.{lightness};
 ghost use Rattle.cells.specs.Cells.{wide};

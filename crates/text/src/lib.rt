@@ -1,5 +1,7 @@
 // Numbers as text: figures written as bytes into a lent buffer. Each call wants room and returns the
 // place behind what it wrote. Assumes nothing.
+#![tactic(auto)]
+
 ghost use Rattle.std.specs.Prelude.{◌≡◌, [], ◌∷◌, ◌++◌, ◌+◌, ◌≤◌, nat_abs, length};
 ghost use Rattle.text.specs.Decimal.{digits, figure};
 ghost use Rattle.text.specs.Buffer.{Room, Wrote};

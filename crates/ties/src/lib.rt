@@ -1,5 +1,7 @@
 // Which of two openings wins, by the point that was found for each and a tie: the heavier, and of equal ones the one that reaches
 // it sooner, or the first. Assumes nothing.
+#![tactic(auto)]
+
 ghost use Rattle.std.specs.Prelude.{◌≡◌};
 ghost use Rattle.reading.specs.Reading.{point_in};
 ghost use Rattle.reading.specs.declared.Found.TheVariants.{At};

@@ -2,6 +2,8 @@
 // machine. Every order is well formed; one profile in sixteen may be spoiled, an order of halves may be
 // damaged so that it is none, and any order may be made easier. A seed is a value, and what is drawn comes
 // with the seed after it: numbers that are lent cost proof. Assumes nothing.
+#![tactic(auto)]
+
 mod damages;
 mod easing;
 mod jobs;

@@ -1,4 +1,6 @@
 // The answers of checking a plan as a struct with C's layout: the refusal and whether the plan is what was asked. Assumes nothing.
+#![tactic(auto)]
+
 ghost use Rattle.std.specs.Prelude.{◌≡◌};
 ghost use Rattle.verdict_answers.specs.Numbers.{verdict_numbers};
 

@@ -1,5 +1,7 @@
 // From the lists of all prefixes to the plan: the walk back from the last job to the first, which gives the mask of the jobs
 // kept. Assumes nothing.
+#![tactic(auto)]
+
 ghost use Rattle.std.specs.Prelude.{◌≡◌, cond, ◌-◌, ◌^◌, ◌<◌};
 ghost use Rattle.std.proofs.Math.Option.{some};
 ghost use Rattle.seconds.specs.Limits.{most_jobs};

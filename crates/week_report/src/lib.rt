@@ -1,4 +1,6 @@
 // What the program says of a stream: the text of its sheet, or that there are too many orders. Assumes nothing.
+#![tactic(auto)]
+
 ghost use Rattle.text.specs.Buffer.{Wrote};
 ghost use Rattle.sheet.specs.Sheet.{sheet_in};
 ghost use Rattle.week_report.specs.WeekText.{held_text};

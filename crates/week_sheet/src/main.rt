@@ -1,6 +1,8 @@
 // The program: it reads a stream of packed orders from standard input, in pieces, and writes the text of its sheet to standard output.
 // What it does with each piece is `feeding`'s, and the text `week_report`'s; only reading and writing are the kit's. A read that fails
 // leaves no sheet.
+#![tactic(auto)]
+
 ghost use Rattle.std.specs.Prelude.{◌≡◌, ◌≤◌, length, take};
 ghost use Rattle.streams.specs.Stream.{front_room};
 ghost use Rattle.feeding.specs.Feeding.{CanFeed, Fed};

@@ -1,5 +1,7 @@
 // Where an order stands at a time: the last point of its profile by then, from the lists of all its jobs.
 // Assumes nothing.
+#![tactic(auto)]
+
 ghost use Rattle.std.specs.Prelude.{◌≡◌};
 ghost use Rattle.profile.specs.Profile.{lookup, order_profile};
 ghost use Rattle.packed.specs.Packed.{order_of};

@@ -17,7 +17,7 @@ decreases-loop a b x₀ y₀ x y = y
 loop-holds : tie.Need-loop-init invariant-loop decreases-loop
 loop-holds c = refl
 
-rem-z : tie.Need-nonzero-rem-z invariant-loop decreases-loop
+rem-z : tie.Need-nonzero_rem-z invariant-loop decreases-loop
 rem-z c = omega arith
 
 loop-less : tie.Need-loop-smaller invariant-loop decreases-loop

@@ -13,13 +13,13 @@ use Rattle.multiples.proofs.lcm.Tie as tie
 gcd-requires : tie.Need-gcd-requires
 gcd-requires c κs = search rules
 
-div-result : tie.Need-nonzero-div-result
+div-result : tie.Need-nonzero_div-result
 div-result c = rw c.gcd.ensures (gcd-positive c.before.args.a _ c.before.requires.first)
 
-cast-result : tie.Need-overflow-cast-result
+cast-result : tie.Need-overflow_cast-result
 cast-result c = omega (arith, div-le_self c.before.args.a c.gcd.result)
 
-mul-result : tie.Need-overflow-mul-result
+mul-result : tie.Need-overflow_mul-result
 mul-result c =
     let a = c.before.args.a in
     let b = c.before.args.b in

@@ -18,7 +18,7 @@ decreases-loop value rest₀ count₀ rest count = rest
 loop-holds : tie.Need-loop-init invariant-loop decreases-loop
 loop-holds c = omega arith
 
-add-count : tie.Need-overflow-add-count invariant-loop decreases-loop
+add-count : tie.Need-overflow_add-count invariant-loop decreases-loop
 add-count c = omega (arith, digits-word c.before.before.args.value c.before.before.ranges.value.fits)
 
 loop-less : tie.Need-loop-smaller invariant-loop decreases-loop

@@ -8,7 +8,7 @@ use Rattle.text.proofs.put_byte.Tie as tie
 slice-write-out : tie.Need-slice-write-out
 slice-write-out c = search rules
 
-add-result : tie.Need-overflow-add-result
+add-result : tie.Need-overflow_add-result
 add-result c = search rules
 
 same_length : tie.Need-same-length

@@ -18,28 +18,28 @@ invariant-loop out₀ at value next place₀ left₀ out place left = Filling ou
 abbrev decreases-loop : tie.decreases-loop
 decreases-loop out₀ at value next place₀ left₀ out place left = left
 
-figure-count-requires : tie.Need-figure-count-requires invariant-loop decreases-loop
+figure-count-requires : tie.Need-figure_count-requires invariant-loop decreases-loop
 figure-count-requires c κs = search rules
 
 -- There are from 1 to 10 figures.
-some-figures : (c : tie.After-figure-count invariant-loop decreases-loop) → (0 < c.figure-count.result) × (c.figure-count.result ≤ 10)
+some-figures : (c : tie.After-figure_count invariant-loop decreases-loop) → (0 < c.figure-count.result) × (c.figure-count.result ≤ 10)
 some-figures c =
     let value : ℕ = c.before.before.args.value in
     omega (arith, digits-some value, digits-word value c.before.before.ranges.value.fits)
 
-add-next : tie.Need-overflow-add-next invariant-loop decreases-loop
+add-next : tie.Need-overflow_add-next invariant-loop decreases-loop
 add-next c = omega (arith, some-figures c)
 
-sub-place : tie.Need-overflow-sub-place invariant-loop decreases-loop
+sub-place : tie.Need-overflow_sub-place invariant-loop decreases-loop
 sub-place c = omega (arith, some-figures c)
 
 loop-holds : tie.Need-loop-init invariant-loop decreases-loop
 loop-holds c = filling-none (omega (arith, some-figures c)) (omega (arith, some-figures c))
 
-cast-out : tie.Need-overflow-cast-out invariant-loop decreases-loop
+cast-out : tie.Need-overflow_cast-out invariant-loop decreases-loop
 cast-out c = omega arith
 
-add-out : tie.Need-overflow-add-out invariant-loop decreases-loop
+add-out : tie.Need-overflow_add-out invariant-loop decreases-loop
 add-out c = omega arith
 
 slice-write-out : tie.Need-slice-write-out invariant-loop decreases-loop
@@ -55,10 +55,10 @@ loop-less c = omega arith
 loop-again : tie.Need-loop-preserved invariant-loop decreases-loop
 loop-again c = filling-more c.before.loop.invariant c.loop-test.true
 
-cast-out-2 : tie.Need-overflow-cast-out-2 invariant-loop decreases-loop
+cast-out-2 : tie.Need-overflow_cast-out-2 invariant-loop decreases-loop
 cast-out-2 c = omega arith
 
-add-out-2 : tie.Need-overflow-add-out-2 invariant-loop decreases-loop
+add-out-2 : tie.Need-overflow_add-out-2 invariant-loop decreases-loop
 add-out-2 c = omega arith
 
 slice-write-out-2 : tie.Need-slice-write-out-2 invariant-loop decreases-loop

@@ -8,7 +8,7 @@ use Rattle.text.proofs.put_figure.Tie as tie
 put-count-requires : tie.Need-put-count-requires
 put-count-requires c κs = search rules
 
-put-byte-requires : tie.Need-put-byte-requires
+put-byte-requires : tie.Need-put_byte-requires
 put-byte-requires c κs = search rules
 
 same_length : tie.Need-same-length

@@ -48,7 +48,7 @@ text-above c =
 put-byte-requires : tie.Need-put-byte-requires
 put-byte-requires c κs = search rules
 
-put-count-requires : tie.Need-put-count-requires
+put-count-requires : tie.Need-put_count-requires
 put-count-requires c κs = search rules
 
 same_length : tie.Need-same-length
@@ -61,7 +61,7 @@ returns c =
     rw (text-below then1)
     (wrote-more sign.ensures c.before.before.put_count.ensures.0, omega (arith, sign.ensures.behind))
 
-put-count-requires-2 : tie.Need-put-count-requires-2
+put-count-requires-2 : tie.Need-put_count-requires-2
 put-count-requires-2 c κs = search rules
 
 same-length-2 : tie.Need-same-length-2

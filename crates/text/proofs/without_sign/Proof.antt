@@ -37,15 +37,15 @@ module _ (c : tie.Then1) where
       let v : ℤ = c.before.args.value in
       omega (signed, value-is c.before, abs_is v, abs_is (negsuc 0 -ℤ v), sub_is (negsuc 0) v)
 
-sub-result : tie.Need-overflow-sub-result
+sub-result : tie.Need-overflow_sub-result
 sub-result c = under-fits c
 
-cast-result : tie.Need-overflow-cast-result
+cast-result : tie.Need-overflow_cast-result
 cast-result c =
     let v : ℤ = c.before.args.value in
     rw (under-is c) (omega (signed, value-is c.before, sub_is (negsuc 0) v, under-size c, small c.before))
 
-add-result : tie.Need-overflow-add-result
+add-result : tie.Need-overflow_add-result
 add-result c = rw (under-is c, under-size c) (omega (arith, small c.before))
 
 cast-result-2 : tie.Need-overflow-cast-result-2
