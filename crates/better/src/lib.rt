@@ -11,7 +11,7 @@ use profiles::{MOST_NUMBERS, valid};
 
 // What joining two profiles gives: one of them not valid (refusal 8), too little room (refusal 10), or
 // the number of points written.
-#[derive(Drop)]
+#[derive(Clone, Copy)]
 pub enum Joined {
     NotValid,
     NoRoom,

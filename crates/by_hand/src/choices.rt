@@ -25,7 +25,7 @@ pub const LEFT_OUT: i32 = 200_000;
 
 // What running a choice comes to: whether it may be run at all, when the bus is free after it, and the
 // weight kept.
-#[derive(Drop)]
+#[derive(Clone, Copy)]
 pub struct Outcome {
     pub feasible: bool,
     pub free: i32,
@@ -33,7 +33,7 @@ pub struct Outcome {
 }
 
 // The best choice so far, if there is one, and whether another has the same weight and bus-free time.
-#[derive(Drop)]
+#[derive(Clone, Copy)]
 pub struct Best {
     pub found: bool,
     pub choice: u32,
@@ -44,7 +44,7 @@ pub struct Best {
 
 // A choice's mask, the highest bit for place 0, how many jobs it keeps, the weight it loses and the optional
 // seconds: the lengths of the non-critical jobs that it leaves out.
-#[derive(Drop)]
+#[derive(Clone, Copy)]
 pub struct Tally {
     pub mask: u64,
     pub kept: u64,

@@ -32,7 +32,7 @@ const CRITICAL_OUT: usize = 5;
 
 // What a plan comes to: its refusal and the first rule that it breaks, each 0 for none, whether a job
 // waits that could have started, the weight kept, and when the rests of all its jobs are over.
-#[derive(Drop)]
+#[derive(Clone, Copy)]
 pub struct Judged {
     pub refusal: u32,
     pub broken: usize,
@@ -42,7 +42,7 @@ pub struct Judged {
 }
 
 // What a plan is held to of a job.
-#[derive(Drop)]
+#[derive(Clone, Copy)]
 struct Job {
     critical: bool,
     weight: i32,

@@ -22,7 +22,7 @@ const HEAVIEST: i32 = 300;
 
 // What is reached by a time: the greatest weight of the outcomes or points at or before it, -1 where there
 // is none, and the earliest time of those that have it.
-#[derive(Drop)]
+#[derive(Clone, Copy)]
 pub struct Reached {
     pub weight: i32,
     pub time: i32,

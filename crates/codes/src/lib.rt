@@ -20,7 +20,7 @@ const BEFORE_ZERO: i32 = 100_000;
 pub const PAST: i32 = 1_073_741_824;
 
 // A list of points in the work area or in a buffer: where it begins, and how many they are.
-#[derive(Drop)]
+#[derive(Clone, Copy)]
 pub struct Prefix {
     pub place: usize,
     pub count: usize,

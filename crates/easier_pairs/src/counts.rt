@@ -6,7 +6,7 @@ use comparing::write_count;
 // How a run stands: pairs of orders, how much is eased, and whether the kind of records is another; plans
 // feasible, and what they keep; profiles and tails, and what they keep; lookups; what an easier order does not
 // promise, where both are feasible; and what must not be.
-#[derive(Drop)]
+#[derive(Clone, Copy)]
 pub struct Run {
     pub seed: u64,
     pub pairs: u64,

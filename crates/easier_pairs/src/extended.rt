@@ -19,7 +19,7 @@ const POINTS: usize = 301;
 
 // What was seen of two extended profiles: their refusals, 0 for none, the lookups, and those that find more and
 // less in the second.
-#[derive(Drop)]
+#[derive(Clone, Copy)]
 pub struct Seen {
     pub refusal: u32,
     pub refusal_after: u32,
@@ -29,7 +29,7 @@ pub struct Seen {
 }
 
 // What extending wrote: a refusal, 0 for none, and how many numbers.
-#[derive(Drop)]
+#[derive(Clone, Copy)]
 struct Wrote {
     refusal: u32,
     size: usize,

@@ -17,7 +17,7 @@ const NOTHING: Figures = Figures {
 };
 
 // What planning tells: a refusal, 0 for none, and the figures of the plan.
-#[derive(Drop)]
+#[derive(Clone, Copy)]
 pub struct Told {
     pub refusal: u32,
     pub figures: Figures,

@@ -7,7 +7,7 @@ use ties::Chosen;
 
 // The calls on two openings: the question and the choice by the usual rule, and by the rule that gives a tie
 // to the first.
-#[derive(Drop)]
+#[derive(Clone, Copy)]
 enum Call {
     Question,
     QuestionFirst,

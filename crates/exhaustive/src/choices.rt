@@ -9,7 +9,7 @@ use ties::Chosen;
 
 // Which of two openings of the same weight must win: the one that reaches it sooner, of both at once the
 // first; or always the first.
-#[derive(Drop)]
+#[derive(Clone, Copy)]
 enum Rule {
     Sooner,
     First,

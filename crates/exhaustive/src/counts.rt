@@ -4,7 +4,7 @@ use careful::more;
 use comparing::write_count;
 
 // How a run stands.
-#[derive(Drop)]
+#[derive(Clone, Copy)]
 pub struct Run {
     pub seed: u64,
     pub halves_seed: u64,

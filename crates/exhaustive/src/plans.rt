@@ -9,7 +9,7 @@ use planner::{Figures, Planned};
 
 // What planning must answer: a refusal and its place, 0 for none, or else the figures of the best choice, and
 // what the work area holds then.
-#[derive(Drop)]
+#[derive(Clone, Copy)]
 struct Wanted {
     refusal: u32,
     place: usize,

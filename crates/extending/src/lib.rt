@@ -18,7 +18,7 @@ use profiles::{MOST_NUMBERS, valid};
 use reading::write_list;
 
 // What extending answers: a refusal, or how many points were written.
-#[derive(Drop)]
+#[derive(Clone, Copy)]
 pub enum Extended {
     Refused(Refusal),
     Points(usize),

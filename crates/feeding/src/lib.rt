@@ -27,7 +27,7 @@ const SIZE: usize = 27;
 const GOT: usize = 28;
 
 // What has come of the next entry: how many bytes of its length, the number that they say, and how many of its bytes.
-#[derive(Drop)]
+#[derive(Clone, Copy)]
 pub struct Part {
     pub known: u32,
     pub size: usize,
@@ -35,7 +35,7 @@ pub struct Part {
 }
 
 // A part, and the place in the piece behind what it has taken.
-#[derive(Drop)]
+#[derive(Clone, Copy)]
 struct Turn {
     part: Part,
     next: usize,

@@ -14,7 +14,7 @@ ghost use Rattle.fields.specs.Asked.{front_of, back_of, WordIn, WordIs, HeadBits
 ghost use Rattle.fields.specs.Asked.{WordRoom, RecordIn, RecordBy, HeadFits, JobFor, JobRoom, HeaderRoom};
 
 // A job's seven numbers.
-#[derive(Drop)]
+#[derive(Clone, Copy)]
 pub struct Job {
     pub number: i32,
     pub pack: i32,
@@ -26,7 +26,7 @@ pub struct Job {
 }
 
 // What a header says.
-#[derive(Drop)]
+#[derive(Clone, Copy)]
 pub struct Header {
     pub count: usize,
     pub t0: i32,

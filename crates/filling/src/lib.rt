@@ -20,7 +20,7 @@ use stepping::{Terms, step};
 use sweeping::{Stretch, many_late, settle, sweep};
 
 // A job as it steps a list: on what terms it runs, the seconds that it takes, and the weight that it counts.
-#[derive(Drop)]
+#[derive(Clone, Copy)]
 struct Task {
     critical: bool,
     ready: i32,
@@ -30,7 +30,7 @@ struct Task {
 }
 
 // The list after one more job, the weight of the job, and whether many points of the list are past the job's ready time.
-#[derive(Drop)]
+#[derive(Clone, Copy)]
 struct NextList {
     place: usize,
     count: usize,
@@ -39,7 +39,7 @@ struct NextList {
 }
 
 // The same where a stretch says the list: its numbers, the list's points, and the weight of the job.
-#[derive(Drop)]
+#[derive(Clone, Copy)]
 struct NextCells {
     place: usize,
     count: usize,
@@ -48,7 +48,7 @@ struct NextCells {
 }
 
 // How far the lists are filled as lists: after so many jobs, the list after them, the points of all lists and the weight of all jobs.
-#[derive(Drop)]
+#[derive(Clone, Copy)]
 struct Sofar {
     jobs: usize,
     place: usize,
@@ -58,7 +58,7 @@ struct Sofar {
 }
 
 // What all lists after a job have in points, and all jobs in weight.
-#[derive(Drop)]
+#[derive(Clone, Copy)]
 pub struct Totals {
     pub points: usize,
     pub weight: usize,

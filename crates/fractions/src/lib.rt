@@ -7,7 +7,7 @@ ghost use Rattle.fractions.specs.Fractions.{lowest_of};
 use multiples::gcd;
 
 // A fraction: its upper and its lower number.
-#[derive(Drop)]
+#[derive(Clone, Copy)]
 pub struct Fraction {
     pub upper: u32,
     pub lower: u32,

@@ -11,14 +11,14 @@ use packed::{Refusal, plainly};
 use repeating::LONGEST_FRAME;
 
 // An order of one frame: its bytes, and the frame in seconds.
-#[derive(Drop)]
+#[derive(Clone, Copy)]
 pub struct FrameOrder {
     pub bytes: usize,
     pub frame: u32,
 }
 
 // What framing gives: a refusal, or the order that was written.
-#[derive(Drop)]
+#[derive(Clone, Copy)]
 pub enum Framed {
     Refused(Refusal),
     Made(FrameOrder),

@@ -8,7 +8,7 @@ ghost use Rattle.heat.specs.Heat.{degree_of, heat_at};
 ghost use Rattle.heat.specs.Answer.{heating_of};
 
 // The heating that a cell wants: so many seconds, or none since it is too cold (refusal 12).
-#[derive(Drop)]
+#[derive(Clone, Copy)]
 pub enum Heating {
     Seconds(u32),
     TooCold,

@@ -14,7 +14,7 @@ use packed::{Refusal, at_place, in_field, plainly};
 use repeats::repeat_in;
 
 // Not refused; or refused, with what R24 says.
-#[derive(Drop)]
+#[derive(Clone, Copy)]
 pub enum Verdict {
     Fine,
     Refused(Refusal),
@@ -23,7 +23,7 @@ pub enum Verdict {
 // What is gathered of so many jobs: those before a place are within their limits, and their weights are
 // summed. The search goes on up to the end, which is the place where the job there is out of range; the field
 // is then the first of that job that is.
-#[derive(Drop)]
+#[derive(Clone, Copy)]
 struct Gathered {
     count: usize,
     place: usize,

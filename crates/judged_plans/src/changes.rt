@@ -19,7 +19,7 @@ const LONGEST: usize = 114;
 const NO_BYTE: usize = 200;
 
 // A plan drawn: how many bytes it has, and the last seed that it was drawn by.
-#[derive(Drop)]
+#[derive(Clone, Copy)]
 pub struct Plan {
     pub size: usize,
     pub seed: u64,

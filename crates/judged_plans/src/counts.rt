@@ -7,7 +7,7 @@ use comparing::write_count;
 // How a run stands: orders; plans of ours and all plans; those refused by their length or their bits, and accepted;
 // the legal and the best of these, and those that let the bus wait; and plans of ours with one start a second
 // off, by the rule that they break.
-#[derive(Drop)]
+#[derive(Clone, Copy)]
 pub struct Run {
     pub seed: u64,
     pub orders: u64,

@@ -19,7 +19,7 @@ const HEADER: usize = 4;
 
 // The question: the winner, 1 or 2, and the kind of its records (both 0 if refused).
 #[repr(C)]
-#[derive(Drop)]
+#[derive(Clone, Copy)]
 pub struct QuestionAnswer {
     pub refusal: u32,
     pub field: u32,
@@ -29,7 +29,7 @@ pub struct QuestionAnswer {
 
 // The choice: the winner, which of its bytes are the records, from the offset on so many, and their kind.
 #[repr(C)]
-#[derive(Drop)]
+#[derive(Clone, Copy)]
 pub struct ChooseAnswer {
     pub refusal: u32,
     pub field: u32,

@@ -15,7 +15,7 @@ use ties::{Chosen, Tie};
 
 // What the question answers: which opening wins, or the refusal; and the kind of the winner's records, 0 if refused. The kind says
 // how many bytes each record has that the choice hands back.
-#[derive(Drop)]
+#[derive(Clone, Copy)]
 pub struct Answer {
     pub chosen: Chosen,
     pub kind: u32,

@@ -7,7 +7,7 @@ ghost use Rattle.packed.specs.Judge.{plainly as only_number, at_place, in_field,
 
 // A refusal: its number, the place of the job that it is about, and the field of that job that is out of
 // range (R24); 0 where it names none. Every answer that can refuse with a place or a field holds one.
-#[derive(Drop)]
+#[derive(Clone, Copy)]
 pub struct Refusal {
     pub number: u32,
     pub place: usize,

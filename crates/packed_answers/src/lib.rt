@@ -15,7 +15,7 @@ use unpack::Unpacked;
 
 // Heating up: the length in seconds.
 #[repr(C)]
-#[derive(Drop)]
+#[derive(Clone, Copy)]
 pub struct HeatAnswer {
     pub refusal: u32,
     pub seconds: u32,
@@ -23,7 +23,7 @@ pub struct HeatAnswer {
 
 // Unpacking: how many jobs, and the bus-free time.
 #[repr(C)]
-#[derive(Drop)]
+#[derive(Clone, Copy)]
 pub struct UnpackAnswer {
     pub refusal: u32,
     pub place: usize,
@@ -34,7 +34,7 @@ pub struct UnpackAnswer {
 
 // Packing: the bytes written.
 #[repr(C)]
-#[derive(Drop)]
+#[derive(Clone, Copy)]
 pub struct PackAnswer {
     pub refusal: u32,
     pub place: usize,
@@ -44,7 +44,7 @@ pub struct PackAnswer {
 
 // Framing: the bytes written, and the frame in seconds.
 #[repr(C)]
-#[derive(Drop)]
+#[derive(Clone, Copy)]
 pub struct FrameAnswer {
     pub refusal: u32,
     pub place: usize,
@@ -54,7 +54,7 @@ pub struct FrameAnswer {
 
 // Opening: the count of jobs of bytes that the reader accepts.
 #[repr(C)]
-#[derive(Drop)]
+#[derive(Clone, Copy)]
 pub struct OpenAnswer {
     pub refusal: u32,
     pub jobs: usize,
@@ -63,7 +63,7 @@ pub struct OpenAnswer {
 // A step of the reader: the end (1, else 0) or the numbers of a job (all 0 where none is given), and the place at which it
 // then stands. The first place is that of the refusal, and the field is that of the job there.
 #[repr(C)]
-#[derive(Drop)]
+#[derive(Clone, Copy)]
 pub struct StepAnswer {
     pub refusal: u32,
     pub place: usize,

@@ -14,7 +14,7 @@ use profiles::Finding;
 
 // A lookup: found (1 or 0), and the weight.
 #[repr(C)]
-#[derive(Drop)]
+#[derive(Clone, Copy)]
 pub struct LookupAnswer {
     pub refusal: u32,
     pub found: u32,
@@ -23,7 +23,7 @@ pub struct LookupAnswer {
 
 // Better-of: the points written.
 #[repr(C)]
-#[derive(Drop)]
+#[derive(Clone, Copy)]
 pub struct BetterAnswer {
     pub refusal: u32,
     pub points: usize,
@@ -31,7 +31,7 @@ pub struct BetterAnswer {
 
 // Extending: the points written.
 #[repr(C)]
-#[derive(Drop)]
+#[derive(Clone, Copy)]
 pub struct ExtendAnswer {
     pub refusal: u32,
     pub place: usize,
@@ -41,7 +41,7 @@ pub struct ExtendAnswer {
 
 // Planning: the figures of the plan.
 #[repr(C)]
-#[derive(Drop)]
+#[derive(Clone, Copy)]
 pub struct PlanAnswer {
     pub refusal: u32,
     pub place: usize,
@@ -56,7 +56,7 @@ pub struct PlanAnswer {
 
 // Planning halves: the figures of the plan, and the optional seconds lost.
 #[repr(C)]
-#[derive(Drop)]
+#[derive(Clone, Copy)]
 pub struct HalvesAnswer {
     pub refusal: u32,
     pub place: usize,

@@ -19,7 +19,7 @@ use walking::{End, walk};
 
 // A plan's numbers: the mask of the jobs kept, how many they are, the weight kept and the weight lost,
 // when the bus is free after it, and the points of the profiles on the way.
-#[derive(Drop)]
+#[derive(Clone, Copy)]
 pub struct Figures {
     pub mask: u64,
     pub kept: u32,
@@ -30,7 +30,7 @@ pub struct Figures {
 }
 
 // What planning answers: a refusal, or a plan.
-#[derive(Drop)]
+#[derive(Clone, Copy)]
 pub enum Planned {
     Refused(Refusal),
     Made(Figures),

@@ -11,7 +11,7 @@ use profiles::Finding;
 
 // A point of a profile. Its layout is C's, so that a list of them can be lent from outside.
 #[repr(C)]
-#[derive(Drop)]
+#[derive(Clone, Copy)]
 pub struct Point {
     pub time: i32,
     pub weight: i32,

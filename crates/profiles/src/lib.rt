@@ -9,7 +9,7 @@ ghost use Rattle.profiles.specs.Answer.{lookup_of};
 ghost use Rattle.profiles.specs.ByTime.{count_by};
 
 // What a lookup gives: no valid profile (refusal 8), the weight found, or no point by that time.
-#[derive(Drop)]
+#[derive(Clone, Copy)]
 pub enum Finding {
     NotValid,
     Found(u32),

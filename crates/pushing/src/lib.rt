@@ -12,7 +12,7 @@ use profiles::REST;
 const TOP: usize = 302;
 
 // A rate at which a job may run: the seconds that it then takes, and the weight that it then counts.
-#[derive(Drop)]
+#[derive(Clone, Copy)]
 pub struct Rate {
     pub takes: usize,
     pub gain: usize,

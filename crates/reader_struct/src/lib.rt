@@ -11,28 +11,28 @@ ghost use Rattle.reader_struct.specs.Standing.{kept_bytes, seen, begun_over, ste
 use reader::{Moved, Opened, Read};
 
 // The caller's bytes, and the place of the job that the next step gives.
-#[derive(Drop)]
+#[derive(Clone, Copy)]
 pub struct Reader<'a> {
     pub bytes: &'a [u8],
     pub place: usize,
 }
 
 // What opening gives: the reader, and whether the bytes were accepted.
-#[derive(Drop)]
+#[derive(Clone, Copy)]
 pub struct Begun<'a> {
     pub reader: Reader<'a>,
     pub answer: Opened,
 }
 
 // What a step gives: the reader where it then stands, and the answer.
-#[derive(Drop)]
+#[derive(Clone, Copy)]
 pub struct Stepped<'a> {
     pub reader: Reader<'a>,
     pub answer: Read,
 }
 
 // What opening said, and what a step said and the place after it.
-#[derive(Drop)]
+#[derive(Clone, Copy)]
 pub struct Reading {
     pub opened: Opened,
     pub moved: Moved,

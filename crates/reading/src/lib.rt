@@ -16,7 +16,7 @@ use profiles::LATEST;
 const EARLIEST: i32 = -100_000;
 
 // What a search of a list finds: nothing, or a point, its weight and time.
-#[derive(Drop)]
+#[derive(Clone, Copy)]
 pub enum Found {
     Nothing,
     At(usize, i32),

@@ -16,7 +16,7 @@ use packed::{at_place, plainly};
 use profiles::REST;
 
 // A repeating job's six numbers. The deadline counts from the ready time of each repeat.
-#[derive(Drop)]
+#[derive(Clone, Copy)]
 pub struct Repeating {
     pub critical: i32,
     pub weight: i32,
@@ -27,7 +27,7 @@ pub struct Repeating {
 }
 
 // How many repeats a frame has, and what they weigh together.
-#[derive(Drop)]
+#[derive(Clone, Copy)]
 pub struct Totals {
     pub count: u32,
     pub weight: u32,

@@ -8,14 +8,14 @@ use sheet_text::Told;
 
 // One order more, joining, feeding: the refusal, 0 for none.
 #[repr(C)]
-#[derive(Drop)]
+#[derive(Clone, Copy)]
 pub struct SheetAnswer {
     pub refusal: u32,
 }
 
 // The text: the refusal, and how many bytes were written.
 #[repr(C)]
-#[derive(Drop)]
+#[derive(Clone, Copy)]
 pub struct SheetTextAnswer {
     pub refusal: u32,
     pub bytes: usize,

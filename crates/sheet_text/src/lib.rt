@@ -27,7 +27,7 @@ const NO_PLAN: usize = 11;
 pub const ROOM: usize = 336;
 
 // What the call answers: a refusal's number, 0 for none, and how many bytes were written.
-#[derive(Drop)]
+#[derive(Clone, Copy)]
 pub struct Told {
     pub refusal: u32,
     pub bytes: usize,

@@ -16,7 +16,7 @@ const HIGHEST: u64 = 0x8000_0000_0000_0000;
 pub const LEFT_OUT: i32 = 200_000;
 
 // A job's start, and when the bus is free after it.
-#[derive(Drop)]
+#[derive(Clone, Copy)]
 struct Turn {
     start: i32,
     free: i32,

@@ -15,7 +15,7 @@ use merging::{join, lay};
 use pushing::{Rate, delta_of, push, waits};
 
 // On what terms a job runs, at whichever rate: whether it must, from when on, and by when it must be done.
-#[derive(Drop)]
+#[derive(Clone, Copy)]
 pub struct Terms {
     pub critical: bool,
     pub ready: i32,
@@ -23,7 +23,7 @@ pub struct Terms {
 }
 
 // A pushed list in the buffer: where it begins, how many points it has, and the place up to which the list goes before all of it.
-#[derive(Drop)]
+#[derive(Clone, Copy)]
 struct Moved {
     place: usize,
     count: usize,

@@ -19,7 +19,7 @@ use stepping::{Terms, last_start, startable_to};
 const MANY: usize = 20;
 
 // A stretch of the work area that says a list: where it begins, how many numbers it has, and how many points the list has.
-#[derive(Drop)]
+#[derive(Clone, Copy)]
 pub struct Stretch {
     pub place: usize,
     pub count: usize,

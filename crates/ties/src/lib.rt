@@ -12,7 +12,7 @@ use reading::Found;
 
 // Which of two openings of the same weight wins: the one that reaches it sooner, and the first if both do at once; or always
 // the first.
-#[derive(Drop)]
+#[derive(Clone, Copy)]
 pub enum Tie {
     Sooner,
     First,
@@ -20,7 +20,7 @@ pub enum Tie {
 
 // What the question answers: a refusal, without its place since it does not say of which opening it would be; or which of the
 // two openings wins.
-#[derive(Drop)]
+#[derive(Clone, Copy)]
 pub enum Chosen {
     Refused(Refusal),
     First,

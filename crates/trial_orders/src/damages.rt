@@ -16,7 +16,7 @@ const EXCHANGE: u64 = 3;
 const EXCHANGE_BEFORE: u64 = 4;
 
 // What a damage changes of a job; its pack and its window stay.
-#[derive(Drop)]
+#[derive(Clone, Copy)]
 struct Half {
     number: i32,
     critical: i32,
@@ -78,7 +78,7 @@ fn exchanged(way: u64, job: u8, other: u8, lag: u8) -> u8 {
 }
 
 // What is drawn of a damage: the job, the one that it is exchanged with, the way and the last seed.
-#[derive(Drop)]
+#[derive(Clone, Copy)]
 struct Damage {
     job: u8,
     place: u8,

@@ -21,7 +21,7 @@ const MOST: u64 = 10_000;
 
 // What is eased of an order: one job or all, one field or all, each by less than so many seconds. Packs are
 // drawn from so many. The last seed that it was drawn by comes with it.
-#[derive(Drop)]
+#[derive(Clone, Copy)]
 struct Easing {
     job: u64,
     field: u8,
@@ -31,14 +31,14 @@ struct Easing {
 }
 
 // An order eased: when the bus is free, and the seed after it.
-#[derive(Drop)]
+#[derive(Clone, Copy)]
 pub struct Eased {
     pub t0: i32,
     pub seed: u64,
 }
 
 // How an order was changed: whether it is easier by the rule, and how many of its times and lengths are others.
-#[derive(Drop)]
+#[derive(Clone, Copy)]
 pub struct Change {
     pub easier: bool,
     pub eased: u64,

@@ -24,7 +24,7 @@ const APART: i32 = 32;
 const PER_WEIGHT: u64 = 60;
 
 // A job drawn, and the last seed that it was drawn by. One that weighs nothing is critical.
-#[derive(Drop)]
+#[derive(Clone, Copy)]
 pub struct Job {
     pub number: i32,
     pub weight: i32,
@@ -35,7 +35,7 @@ pub struct Job {
 }
 
 // What is drawn of a job first, and the last seed for it.
-#[derive(Drop)]
+#[derive(Clone, Copy)]
 struct Head {
     number: i32,
     weight: i32,

@@ -5,7 +5,7 @@
 // job is ready within `spread` seconds from `base` on, each later one within as many from `pace` seconds
 // later on; it is due within `slack` seconds from `least` seconds after its earliest finish on. In orders of
 // halves an optional half stands `lag` jobs behind its partner; 0 is for orders of any jobs.
-#[derive(Drop)]
+#[derive(Clone, Copy)]
 pub struct Kind {
     pub counts: u64,
     pub critical: u64,

@@ -26,7 +26,7 @@ const EARLIEST: i32 = -100_000;
 const LATEST: i32 = 100_000;
 
 // An order drawn: when the bus is free, how many numbers its jobs have, seven each, and the seed after it.
-#[derive(Drop)]
+#[derive(Clone, Copy)]
 pub struct Order {
     pub t0: i32,
     pub size: usize,
@@ -34,14 +34,14 @@ pub struct Order {
 }
 
 // A profile drawn: how many numbers it has, two for each point, and the seed after it.
-#[derive(Drop)]
+#[derive(Clone, Copy)]
 pub struct Profile {
     pub size: usize,
     pub seed: u64,
 }
 
 // A point of a profile, and the last seed that it was drawn by.
-#[derive(Drop)]
+#[derive(Clone, Copy)]
 struct Point {
     time: i32,
     weight: i32,

@@ -8,7 +8,7 @@ use checking::Checked;
 
 // Checking: whether the plan is what was asked (1 or 0).
 #[repr(C)]
-#[derive(Drop)]
+#[derive(Clone, Copy)]
 pub struct VerdictAnswer {
     pub refusal: u32,
     pub place: usize,

@@ -17,7 +17,7 @@ use reading::{Found, last_by};
 
 // Where the walk back stands: the mask of the jobs kept so far, the weight that the jobs before have to keep, and the time by
 // which they have to leave the bus free.
-#[derive(Drop)]
+#[derive(Clone, Copy)]
 struct Trail {
     mask: u64,
     weight: usize,
@@ -25,7 +25,7 @@ struct Trail {
 }
 
 // The end of a plan: the weight that it keeps, and when the bus is free after it.
-#[derive(Drop)]
+#[derive(Clone, Copy)]
 pub struct End {
     pub weight: usize,
     pub finish: i32,

@@ -16,7 +16,7 @@ use sheet_text::ROOM;
 use week_report::tell_held;
 
 // What a read leaves: what has come of the next entry, how many bytes came, and whether the read failed.
-#[derive(Drop)]
+#[derive(Clone, Copy)]
 struct Read {
     part: Part,
     count: usize,
