@@ -1,0 +1,15 @@
+-- `adding::one_refused` meets its contract: one order, and one refused by its number. Assumes nothing.
+use mathlib.Core.Path.{ap, ◌∙◌}
+use mathlib.Core.List.{List}
+use Prim.Native.Nat.{ℕ}
+use lib.ListN.{set}
+use Rattle.sheet.specs.Sheet.{no_sheet}
+use Rattle.adding.specs.AddingLaws.{refused-numbers}
+use borrow.Author.Rules.{rules}
+use Rattle.adding.proofs.one_refused.Goals as goal
+
+pub returns : goal.returns
+unfolding no_sheet
+returns c =
+    let s = c.before.before in
+    ap (λ (l : List ℕ). set (set l 0 1) s.args.refusal.number 1) c.none-one.ensures ∙ refused-numbers s.args.refusal s.requires

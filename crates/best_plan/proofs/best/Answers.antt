@@ -1,0 +1,26 @@
+-- `best_plan::best` meets its contract: an order or a plan that its checks refuse is answered so, any other is weighed.
+-- Assumes nothing.
+use mathlib.Core.Path.{sym, ◌∙◌}
+use borrow.Author.Rules.{rules}
+use Rattle.judge.specs.Told.{told-fine}
+use Rattle.checking.specs.Calls.{legal_checks}
+use Rattle.best_plan.specs.CallLaws.{best-stopped}
+use Rattle.best_plan.proofs.best.Goals as goal
+use Rattle.best_plan.proofs.best.Goals.{After-judge_sent}
+
+pub best_within-requires : goal.best_within-requires
+best_within-requires c =
+    let e = c.before in
+    let j : After-judge_sent = e.before.before in
+    let a = j.args in
+    told-fine (legal_checks a.order.now a.plan.now) (sym j.judge_sent.ensures ∙ e.in-Fine.is)
+
+pub returns-in-Refused : goal.returns-in-Refused
+returns-in-Refused c =
+    let j : After-judge_sent = c.before.before.before in
+    let a = j.args in
+    let r = c.refusal-1.given in
+    best-stopped a.order.now a.plan.now a.work-1.now r.0.0 (sym j.judge_sent.ensures ∙ r.1)
+
+pub returns-in-Fine : goal.returns-in-Fine
+returns-in-Fine c = c.best_within.ensures

@@ -1,0 +1,19 @@
+-- `best_plan::is_best` meets its contract: a plan that is legal is best by its weight, and no other is. Assumes nothing.
+use borrow.Author.Rules.{rules}
+use Rattle.best_plan.specs.CallLaws.{legal-then, not-legal}
+use Rattle.best_plan.proofs.is_best.Goals as goal
+use Rattle.best_plan.proofs.is_best.Goals.{Then-is_legal}
+
+pub returns-then-is_legal : goal.returns-then-is_legal
+returns-then-is_legal c =
+    let m = c.before in
+    let t : Then-is_legal = m.before.before in
+    let l = t.before in
+    let a = l.args in
+    legal-then a.order.now a.plan.now l.is_legal.ensures t.if-is_legal.true m.keeps_most.ensures
+
+pub returns : goal.returns
+returns c =
+    let l = c.before in
+    let a = l.args in
+    not-legal a.order.now a.plan.now l.is_legal.ensures c.if-is_legal.false

@@ -1,0 +1,21 @@
+-- `best_plan::weight_of` meets its contract: a job that is kept counts its weight. Assumes nothing.
+use mir.Facts.{to_z-of_z}
+use borrow.Author.Rules.{rules}
+use Rattle.seconds.specs.Signed.{signed, abs_is}
+use Rattle.fields.specs.Facts.{job-facts, facts-fit}
+use Rattle.best_plan.specs.WeightLaws.{weight-kept}
+use Rattle.best_plan.proofs.weight_of.Goals as goal
+use Rattle.best_plan.proofs.weight_of.Goals.{Start}
+
+pub overflow_cast-result : goal.overflow_cast-result
+overflow_cast-result c =
+    let a : Start = c.before.before.before in
+    let f = (job-facts a.args.job).0 a.requires in
+    rw (to_z-of_z (facts-fit a.args.job f).weight)
+    (omega (signed, f.weight), omega (signed, f.weight, abs_is a.args.job.weight))
+
+pub returns-then-kept : goal.returns-then-kept
+returns-then-kept c =
+    let t = c.before.before in
+    let a = t.before in
+    rw t.if-kept.true (weight-kept a.args.job a.requires)

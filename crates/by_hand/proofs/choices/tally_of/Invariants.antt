@@ -1,0 +1,11 @@
+-- `by_hand::choices::tally_of` is safe and ends: each turn leaves fewer jobs.
+-- Assumes nothing.
+use Prim.Native.Nat.{◌-◌}
+use native.Mathlib.Omega.{arith}
+use Rattle.by_hand.proofs.choices.tally_of.Given as goal
+
+abbrev pub invariant-loop-place : goal.invariant-loop-place
+invariant-loop-place l = Unit {0}
+
+abbrev pub decreases-loop-place : goal.decreases-loop-place
+decreases-loop-place l = l.jobs - l.place

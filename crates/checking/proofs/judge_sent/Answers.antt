@@ -1,0 +1,60 @@
+-- `checking::judge_sent` meets its contract: the order's own verdict, or that of the plan where it is fine.
+-- Assumes nothing.
+use mathlib.Core.Path.{◌≡◌, sym, ◌∙◌}
+use native.Mathlib.Omega.{arith}
+use borrow.Author.Rules.{rules}
+use Rattle.packed.specs.Judge.{fine, judge}
+use Rattle.packed.specs.Packed.{count_of}
+use Rattle.packed.specs.Refusals.{order_checks}
+use Rattle.packed.specs.Accepted.{OrderFine, order-fine}
+use Rattle.fields.specs.Facts.{header_read}
+use Rattle.judge.specs.Told.{told-fine}
+use Rattle.checking.specs.CallLaws.{stopped-by-order, judged-by-plan}
+use Rattle.checking.proofs.judge_sent.Goals as goal
+use Rattle.checking.proofs.judge_sent.Goals.{After-header_at-header, After-judge_order, In-Fine, Start}
+
+-- Where the code starts.
+abbrev start : In-Fine → Start
+start c = c.before.before.before.before.before
+
+-- Past the order's own checks.
+module _ (c : In-Fine) where
+  passed : let s = start c in
+      judge (order_checks s.args.order.now) ≡ fine
+  passed =
+      let s = start c in
+      told-fine (order_checks s.args.order.now)
+      (sym c.judge_order.ensures ∙ c.in-Fine.is)
+
+  accepted : let s = start c in
+      OrderFine s.args.order.now
+  accepted =
+      let s = start c in
+      (order-fine s.args.order.now).0 passed
+
+pub header_at-header-requires : goal.header_at-header-requires
+header_at-header-requires c = (accepted c).header.long
+
+-- The header's count is that of the jobs.
+counted : (c : After-header_at-header) → let e = c.before in
+    let s = start e in
+    c.header_at-header.result.count ≡ count_of s.args.order.now
+counted c =
+    let s = start c.before in
+    (header_read s.args.order.now c.header_at-header.result c.header_at-header.ensures).count
+
+pub judge_plan-requires : goal.judge_plan-requires
+judge_plan-requires c = omega (arith, counted c, (accepted c.before).header.few)
+
+pub returns-in-Refused : goal.returns-in-Refused
+returns-in-Refused c =
+    let r = c.refusal-1.given in
+    let j : After-judge_order = c.before.before.before in
+    let a = j.args in
+    stopped-by-order a.order.now a.plan.now r.0.0 (sym j.judge_order.ensures ∙ r.1)
+
+pub returns-in-Fine : goal.returns-in-Fine
+returns-in-Fine c =
+    let h = c.before in
+    let a = h.args in
+    judged-by-plan a.order.now a.plan.now (passed h.before) (counted h) c.judge_plan.ensures

@@ -1,0 +1,16 @@
+-- `choosing::weigh_both` meets its contract: the winner is told by the point of each opening. Assumes nothing.
+use mathlib.Core.Path.{ap₂, ◌∙◌}
+use mir.Facts.{to_z-of_z}
+use borrow.Author.Rules.{rules}
+use Rattle.ties.specs.Winning.{by_points, rule_of}
+use Rattle.choosing.proofs.weigh_both.Goals as goal
+use Rattle.choosing.proofs.weigh_both.Goals.{After-weigh-one, After-weigh-other, Start}
+
+pub returns : goal.returns
+returns c =
+    let other : After-weigh-other = c.before.before in
+    let one : After-weigh-one = other.before.before.before in
+    let start : Start = one.before.before.before.before in
+    let kept = to_z-of_z start.ranges.t in
+    c.winner.ensures
+    ∙ ap₂ (by_points (rule_of start.args.tie)) (rw kept at one.weigh-one.ensures) (rw kept at other.weigh-other.ensures)

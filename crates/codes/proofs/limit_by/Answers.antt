@@ -1,0 +1,34 @@
+-- `codes::limit_by` meets its contract. Assumes nothing.
+use Prim.Native.Nat.{ℕ, ◌+◌, ◌*◌, ◌≤◌}
+use mathlib.Core.Path.{◌≡◌, ap, ◌∙◌}
+use native.Mathlib.Omega.{arith}
+use lib.IntN.{pos}
+use mir.Syntax.{w32}
+use mir.Facts.{to_z-of_z, to_z_pos}
+use borrow.Author.Rules.{rules}
+use Rattle.seconds.specs.Signed.{signed}
+use Rattle.codes.specs.Code.{since, per_second, most_light}
+use Rattle.codes.specs.CodeLaws.{since-few}
+use Rattle.codes.proofs.limit_by.Goals as goal
+use Rattle.codes.proofs.limit_by.Goals.{After-since}
+
+module _ (c : After-since) where
+  is : c.since.result ≡ since c.args.time
+  is = c.since.ensures ∙ ap since (to_z-of_z c.ranges.time)
+
+  few : c.since.result ≤ 201000
+  few = omega (arith, is, since-few c.requires)
+
+pub overflow_mul-result : goal.overflow_mul-result
+overflow_mul-result c = omega (arith, few c)
+
+pub overflow_add-result : goal.overflow_add-result
+overflow_add-result c = omega (arith, few c)
+
+pub overflow_cast-result : goal.overflow_cast-result
+overflow_cast-result c = let h = few c in omega signed
+
+pub returns : goal.returns
+returns c =
+    let h = few c in
+    to_z_pos w32 (omega signed) ∙ ap (λ (n : ℕ). pos (n * per_second + most_light)) (is c)

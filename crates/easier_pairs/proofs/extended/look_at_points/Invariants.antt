@@ -1,0 +1,12 @@
+-- `easier_pairs::extended::look_at_points` is safe and ends: each turn leaves fewer numbers.
+-- Assumes nothing.
+use Prim.Native.Nat.{◌-◌}
+use native.Mathlib.Omega.{arith}
+use lib.ListN.{length}
+use Rattle.easier_pairs.proofs.extended.look_at_points.Given as goal
+
+abbrev pub invariant-loop-i : goal.invariant-loop-i
+invariant-loop-i l = Unit {0}
+
+abbrev pub decreases-loop-i : goal.decreases-loop-i
+decreases-loop-i l = length l.points - l.i

@@ -1,0 +1,25 @@
+-- `extending::extend` meets its contract: bytes that 1 to 7 refuse are answered so, any others are gone on with.
+-- Assumes nothing.
+use mathlib.Core.Path.{sym, ◌∙◌}
+use borrow.Author.Rules.{rules}
+use Rattle.judge.specs.Told.{told-fine}
+use Rattle.extending.specs.CallLaws.{seven, extend-stopped}
+use Rattle.extending.proofs.extend.Goals as goal
+use Rattle.extending.proofs.extend.Goals.{After-judge_jobs, In-Fine}
+
+pub extend_profile-requires : goal.extend_profile-requires
+extend_profile-requires c =
+    let e : In-Fine = c.before.before in
+    let a = e.args in
+    told-fine (seven a.profile.now a.bytes.now) (sym e.judge_jobs.ensures ∙ e.in-Fine.is)
+
+pub returns-in-Refused : goal.returns-in-Refused
+returns-in-Refused c =
+    let j : After-judge_jobs = c.before.before.before in
+    let a = j.args in
+    let r = c.refusal-1.given in
+    extend-stopped a.profile.now a.bytes.now a.out-1.now a.work-1.now r.0.0
+    (sym j.judge_jobs.ensures ∙ r.1)
+
+pub returns-in-Fine : goal.returns-in-Fine
+returns-in-Fine c = c.extend_profile.ensures

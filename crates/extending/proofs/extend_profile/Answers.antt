@@ -1,0 +1,61 @@
+-- `extending::extend_profile` meets its contract: the profile is judged, then the weights together.
+-- Assumes nothing.
+use mathlib.Core.Path.{◌≡◌, sym, ◌∙◌}
+use mathlib.Core.Bool.{true}
+use native.Mathlib.Omega.{arith}
+use borrow.Author.Rules.{rules}
+use borrow.Author.Tests.{not-true, not-false}
+use Rattle.profiles.specs.Numbers.{holds_profile}
+use Rattle.filling.specs.BeginLaws.{last-light}
+use Rattle.extending.specs.CallLaws.{extend-passed, extend-not-valid, extend-too-heavy}
+use Rattle.extending.proofs.extend_profile.Goals as goal
+use Rattle.extending.proofs.extend_profile.Goals.{After-judge_weight, After-last_weight-before, Else-not-valid, In-Fine, Start}
+
+-- Where the code starts.
+abbrev start : Else-not-valid → Start
+start c = c.before.before.before
+
+pub returns-then-not-valid : goal.returns-then-not-valid
+returns-then-not-valid c =
+    let t = c.before in
+    let s : Start = t.before.before.before in
+    rw c.plainly.ensures
+    (extend-not-valid s.args.profile.now s.args.bytes.now s.args.out.now s.args.work.now s.requires
+    (sym t.valid.ensures ∙ not-true _ t.if-not-valid.true))
+
+-- Past the test the profile is valid.
+is-valid : (c : Else-not-valid) → let s = start c in
+    holds_profile s.args.profile.now ≡ true
+is-valid c = sym c.valid.ensures ∙ not-false _ c.if-not-valid.false
+
+pub last_weight-before-requires : goal.last_weight-before-requires
+last_weight-before-requires c = is-valid c
+
+pub overflow_cast-before : goal.overflow_cast-before
+overflow_cast-before c =
+    let v = c.before in
+    let s = start v in
+    omega (arith, c.last_weight-before.ensures, last-light s.args.profile.now (is-valid v))
+
+pub extend_with_room-requires : goal.extend_with_room-requires
+extend_with_room-requires c =
+    let e : In-Fine = c.before.before in
+    let w : After-last_weight-before = e.before.before.before in
+    let v = w.before in
+    let s = start v in
+    extend-passed s.args.profile.now s.args.bytes.now s.requires (is-valid v) w.last_weight-before.ensures
+    (sym e.judge_weight.ensures ∙ e.in-Fine.is)
+
+pub returns-in-Refused : goal.returns-in-Refused
+returns-in-Refused c =
+    let after-judge-weight : After-judge_weight = c.before.before.before in
+    let r = c.refusal-1.given in
+    let w : After-last_weight-before = c.before.before.before.before in
+    let v = w.before in
+    let s = start v in
+    extend-too-heavy s.args.profile.now s.args.bytes.now s.args.out.now s.args.work.now s.requires
+    r.0.0 (is-valid v) w.last_weight-before.ensures
+    (sym after-judge-weight.judge_weight.ensures ∙ r.1)
+
+pub returns-in-Fine : goal.returns-in-Fine
+returns-in-Fine c = c.extend_with_room.ensures

@@ -1,0 +1,40 @@
+-- `feeding::copy` meets its contract: so many bytes of the piece are kept. Assumes nothing.
+use Prim.Native.Nat.{◌-◌, ◌≤◌}
+use mathlib.Core.Path.{◌≡◌, refl, ap, ◌∙◌}
+use native.Mathlib.Omega.{arith}
+use lib.ListN.{length, take, drop}
+use Rattle.streams.specs.Kept.{kept_in, kept-length}
+use Rattle.feeding.specs.FeedingLaws.{copy_step}
+use Rattle.feeding.proofs.copy.Goals as goal
+
+pub loop-i-init : goal.loop-i-init
+loop-i-init c = (omega arith, refl)
+
+pub bounds-front-got : goal.bounds-front-got
+bounds-front-got c =
+    let l = c.before.before in
+    let a = l.args in
+    let same : length l.loop-i.front ≡ length a.front.now =
+    ap length l.loop-i.invariant.1 ∙ kept-length a.front.now a.got (take l.loop-i.i (drop a.at a.piece.now)) in
+    omega arith
+
+pub loop-i-preserved : goal.loop-i-preserved
+loop-i-preserved c =
+    let l = c.before.before in
+    let a = l.args in (
+      omega arith,
+      copy_step a.front.now a.got a.piece.now a.at l.loop-i.i l.loop-i.front l.loop-i.invariant.1 (omega arith) (omega arith),
+    )
+
+pub shape_of-front : goal.shape_of-front
+shape_of-front c =
+    let l = c.before in
+    let a = l.args in
+    ap length l.loop-i.invariant.1 ∙ kept-length a.front.now a.got (take l.loop-i.i (drop a.at a.piece.now))
+
+pub returns : goal.returns
+returns c =
+    let l = c.before in
+    let a = l.args in
+    let end : l.loop-i.i ≡ a.n = omega arith in
+    l.loop-i.invariant.1 ∙ ap (λ k. kept_in a.front.now a.got (take k (drop a.at a.piece.now))) end

@@ -1,0 +1,105 @@
+-- `feeding::feed_piece` meets its contract: what is still to come of the piece, fed to the state so far, is the whole. Assumes nothing.
+use Prim.Native.Nat.{◌+◌, ◌-◌, ◌≤◌, min}
+use mathlib.Core.Path.{◌≡◌, refl, sym, ap, ◌∙◌}
+use mathlib.Core.List.{[]}
+use native.Mathlib.Omega.{arith}
+use lib.ListN.{length, drop, drop_of_length-le}
+use Rattle.area.specs.Area.{area}
+use Rattle.sheet.specs.Sheet.{figure_count}
+use Rattle.streams.specs.Stream.{run}
+use Rattle.streams.specs.StreamLaws.{run-over}
+use Rattle.feeding.specs.Feeding.{seen, Sound, left}
+use Rattle.feeding.specs.FeedingLaws.{left_over, left-some, less-again}
+use Rattle.feeding.proofs.feed_piece.Goals as goal
+
+pub loop-at-init : goal.loop-at-init
+loop-at-init c = (omega arith, c.requires.sound, omega arith, refl, refl, refl, refl, refl, refl)
+
+pub is_over-requires : goal.is_over-requires
+is_over-requires c = c.loop-at.invariant.1.long
+
+pub shape_of-figures-then-is_over : goal.shape_of-figures-then-is_over
+shape_of-figures-then-is_over c = c.loop-at.invariant.6
+
+pub shape_of-front-then-is_over : goal.shape_of-front-then-is_over
+shape_of-front-then-is_over c = c.loop-at.invariant.7
+
+pub shape_of-work-then-is_over : goal.shape_of-work-then-is_over
+shape_of-work-then-is_over c = c.loop-at.invariant.8
+
+pub returns-then-is_over : goal.returns-then-is_over
+returns-then-is_over c =
+    let l = c.before.before.before.before in
+    let s = l.before.before.before.before in
+    let a = s.args in
+    let over = sym c.is_over.ensures ∙ c.if-is_over.true in
+    record {
+      sound = l.loop-at.invariant.1;
+      state =
+          sym (run-over (seen l.loop-at.state l.loop-at.figures l.loop-at.front) (drop l.loop-at.at a.piece.now) over) ∙ l.loop-at.invariant.3;
+      less =
+          λ begun. omega
+          (arith, left_over l.loop-at.state l.loop-at.figures over, left-some a.begun a.figures-1.now a.front-1.now s.requires.sound begun);
+      behind = l.loop-at.invariant.4;
+      beyond = l.loop-at.invariant.5;
+    }
+
+pub one_turn-t-requires : goal.one_turn-t-requires
+one_turn-t-requires c =
+    let if = c.before.before.before in
+    let l = if.before.before.before.before in
+    let s = l.before.before.before.before in
+    record {
+      space = omega (arith, s.requires.space, l.loop-at.invariant.8);
+      sound = l.loop-at.invariant.1;
+      more = sym if.is_over.ensures ∙ if.if-is_over.false;
+      here = omega arith;
+    }
+
+pub loop-at-smaller : goal.loop-at-smaller
+loop-at-smaller c =
+    let t = c.one_turn-t in
+    omega (arith, t.ensures.on, t.ensures.inside)
+
+pub loop-at-preserved : goal.loop-at-preserved
+loop-at-preserved c =
+    let r = c.before.before.before.before.before.before in
+    let t = r.one_turn-t in
+    let l = r.before.before.before.before.before.before.before.before in
+    let piece = l.args.piece.now in
+    let rest : run (seen t.result.part t.new.1.0 t.new.1.1.0) (drop t.result.next piece)
+    ≡ run (seen l.loop-at.state l.loop-at.figures l.loop-at.front) (drop l.loop-at.at piece) =
+    t.ensures.rest in (
+      t.ensures.inside,
+      t.ensures.sound,
+      less-again (left l.loop-at.state l.loop-at.figures) (left t.result.part t.new.1.0) l.loop-at.at t.result.next _ t.ensures.less
+          t.ensures.on l.loop-at.invariant.2,
+      rest ∙ l.loop-at.invariant.3,
+      t.ensures.behind ∙ l.loop-at.invariant.4,
+      t.ensures.beyond ∙ l.loop-at.invariant.5,
+      t.auto.1.0 ∙ l.loop-at.invariant.6,
+      t.auto.1.1.0 ∙ l.loop-at.invariant.7,
+      t.auto.1.1.1.1.1.0 ∙ l.loop-at.invariant.8,
+    )
+
+pub shape_of-figures : goal.shape_of-figures
+shape_of-figures c = c.loop-at.invariant.6
+
+pub shape_of-front : goal.shape_of-front
+shape_of-front c = c.loop-at.invariant.7
+
+pub shape_of-work : goal.shape_of-work
+shape_of-work c = c.loop-at.invariant.8
+
+pub returns : goal.returns
+returns c =
+    let l = c.before in
+    let a = l.args in
+    let end : drop l.loop-at.at a.piece.now ≡ [] = drop_of_length-le a.piece.now {i = l.loop-at.at} (omega arith) in
+    record {
+      sound = l.loop-at.invariant.1;
+      state = ap (run (seen l.loop-at.state l.loop-at.figures l.loop-at.front)) (sym end) ∙ l.loop-at.invariant.3;
+      less = λ begun. omega (arith, l.loop-at.invariant.2);
+      behind = l.loop-at.invariant.4;
+      beyond = l.loop-at.invariant.5;
+    }

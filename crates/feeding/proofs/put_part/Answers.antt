@@ -1,0 +1,10 @@
+-- `feeding::put_part` meets its contract: three numbers are put behind the figures. Assumes nothing.
+use native.Mathlib.Omega.{arith}
+use borrow.Author.Rules.{rules}
+use lib.ListN.{length-set}
+use Rattle.feeding.proofs.put_part.Goals as goal
+
+pub bounds-feed-27 : goal.bounds-feed-27
+bounds-feed-27 c =
+    let s = c.before.before in
+    omega (arith, s.requires.long, length-set s.args.feed.now 26 s.args.part.known)

@@ -1,0 +1,14 @@
+-- `fields::put_word` meets its contract. The loop's invariant: with the bytes that are still to come, the rest is as it shall be.
+-- Assumes nothing.
+use mathlib.Core.Path.{◌≡◌}
+use Prim.Native.Nat.{◌+◌, ◌≤◌}
+use native.Mathlib.Omega.{arith}
+use lib.ListN.{length}
+use Rattle.fields.specs.Words.{Writing, writing-starts, writing-on, writing-ends}
+use Rattle.fields.proofs.put_word.Given as goal
+
+abbrev pub invariant-loop-i : goal.invariant-loop-i
+invariant-loop-i l = Writing l.initial.bytes l.at l.count l.word l.bytes l.left l.i
+
+abbrev pub decreases-loop-i : goal.decreases-loop-i
+decreases-loop-i l = l.i

@@ -1,0 +1,16 @@
+-- `filling::cells_one` meets its contract: the job steps the list by its cells. Assumes nothing.
+use borrow.Author.Rules.{rules}
+use Rattle.filling.specs.JobLaws.{read-task, cells-can, cells-filled}
+use Rattle.filling.proofs.cells_one.Goals as goal
+use Rattle.filling.proofs.cells_one.Goals.{After-sweep-next, After-task_in-task}
+
+pub sweep-next-requires : goal.sweep-next-requires
+sweep-next-requires c =
+    let t : After-task_in-task = c.before.before.before.before in
+    cells-can (read-task t.task_in-task.ensures) t.requires
+
+pub returns : goal.returns
+returns c =
+    let s : After-sweep-next = c.before.before.before in
+    let t : After-task_in-task = s.before.before.before.before.before in
+    cells-filled (read-task t.task_in-task.ensures) t.requires s.sweep-next.ensures

@@ -1,0 +1,32 @@
+-- `filling::fill_by_cells` meets its contract. The loop's invariant is `Filling`, from every work area from which the lists so far
+-- are filled: the lists of the first k jobs are said, and the row has the cells of the last. Assumes nothing.
+use Prim.Native.Nat.{ℕ, ◌+◌, ◌-◌, ◌*◌, ◌≤◌, ◌<◌}
+use mathlib.Core.Path.{◌≡◌, refl, sym, ◌∙◌}
+use mathlib.Core.Bool.{true}
+use mathlib.Core.List.{List}
+use native.Mathlib.Omega.{arith}
+use lib.IntN.{ℤ}
+use lib.ListN.{length, set, length-set}
+use borrow.Author.Rules.{rules}
+use Rattle.stepping.specs.Stepping.{Buffer}
+use Rattle.sweeping.specs.SweepLaws.{by-list, can-spread}
+use Rattle.filling.specs.Lists.{carried_as, CanFill, FilledSofar, Filling}
+use Rattle.filling.specs.ListsLaws.{filling-spread, next-can, filling-more, filling-all, sums-small}
+use Rattle.filling.proofs.fill_by_cells.Given as goal
+
+abbrev pub invariant-loop-k : goal.invariant-loop-k
+invariant-loop-k l =
+    ((count : ℕ) (first : List ℤ) → CanFill l.bytes l.n count first
+    → FilledSofar l.bytes l.n count first (record { jobs = l.initial.k; place = l.initial.list.place; count = l.initial.list.count; l.points = l.initial.points; l.weight = l.initial.weight })
+    l.initial.places l.initial.counts l.initial.work
+    → Filling l.bytes count first l.k l.list true l.points l.weight l.places l.counts l.work l.row)
+    × (l.k ≤ l.n)
+    × Buffer l.pushed
+    × (length l.work ≡ length l.initial.work)
+    × (length l.places ≡ length l.initial.places)
+    × (length l.counts ≡ length l.initial.counts)
+    × (length l.row ≡ length l.initial.row)
+    × (length l.pushed ≡ 304)
+
+abbrev pub decreases-loop-k : goal.decreases-loop-k
+decreases-loop-k l = l.n - l.k

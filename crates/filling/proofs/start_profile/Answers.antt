@@ -1,0 +1,90 @@
+-- `filling::start_profile` meets its contract: the points before a place of the numbers stand. Assumes nothing.
+use Prim.Native.Nat.{◌-◌, ◌<◌}
+use mathlib.Core.Path.{◌≡◌, sym, ap, ap₂, ◌∙◌}
+use native.Mathlib.Omega.{arith}
+use lib.IntN.{pos, nat_abs}
+use lib.ListN.{length}
+use mir.Syntax.{w32}
+use mir.Val.{to_z, of_z}
+use Rattle.seconds.specs.Signed.{read_back_lem}
+use Rattle.profile.specs.Closure.{PointWithin}
+use Rattle.profiles.specs.Places.{time_at, weight_at, point, AtPoint, NextPoint}
+use Rattle.profiles.specs.PlacesLaws.{at-start, next-point}
+use Rattle.codes.specs.Code.{code_of}
+use Rattle.filling.specs.Begin.{Beginning}
+use Rattle.filling.specs.BeginLaws.{begin-none, next-room, next-within, begin-more, begin-all, weight-read}
+use Rattle.filling.proofs.start_profile.Goals as goal
+use Rattle.filling.proofs.start_profile.Goals.{After-code_of, In-loop-i, Start}
+
+pub loop-i-init : goal.loop-i-init
+loop-i-init c = (at-start _ c.requires.valid, begin-none _ _)
+
+-- The point at the place: it is there, there is room for it, and it is within the limits.
+module _ (c : In-loop-i) where
+  abbrev begun : Start
+  begun = c.before.before
+
+  next : NextPoint begun.args.numbers.now c.loop-i.i
+  next = next-point _ _ c.loop-i.invariant.0 c.loop-i-test.true
+
+  room : c.loop-i.many < length c.loop-i.work
+  room = next-room begun.requires c.loop-i.invariant.0 c.loop-i-test.true c.loop-i.invariant.1
+
+  within : PointWithin (point (time_at begun.args.numbers.now c.loop-i.i) (weight_at begun.args.numbers.now c.loop-i.i))
+  within = next-within begun.requires c.loop-i.invariant.0 c.loop-i-test.true c.loop-i.invariant.1
+
+  weight-back : to_z w32 (of_z w32 (weight_at begun.args.numbers.now c.loop-i.i))
+      ≡ pos (nat_abs (weight_at begun.args.numbers.now c.loop-i.i))
+  weight-back = weight-read _ _ (sym next.weight-1) within.weight-1
+
+pub offset_bounds-numbers-i : goal.offset_bounds-numbers-i
+offset_bounds-numbers-i c = omega (arith, (next c).more)
+
+pub bounds-numbers-i : goal.bounds-numbers-i
+bounds-numbers-i c = (next c).more
+
+pub overflow_cast-weight : goal.overflow_cast-weight
+overflow_cast-weight c = rw (weight-back c.before) (tt, omega (arith, (within c.before).weight-1))
+
+pub code_of-requires : goal.code_of-requires
+code_of-requires c =
+    let d = c.before.before in
+    let time = time_at (begun d).args.numbers.now d.loop-i.i in
+    let time-back : to_z w32 (of_z w32 time) ≡ time = read_back_lem time c.code_of-arg-1.given in
+    rw (time-back, weight-back d) ((within d).time, (within d).weight-1)
+
+-- The turn in which a point is coded.
+abbrev turn : After-code_of → In-loop-i
+turn coded = coded.before.before.before
+
+pub offset_bounds-work-many : goal.offset_bounds-work-many
+offset_bounds-work-many c = omega (arith, room (turn c))
+
+pub bounds-work-many : goal.bounds-work-many
+bounds-work-many c = room (turn c)
+
+pub overflow_add-i : goal.overflow_add-i
+overflow_add-i c = omega (arith, (next (turn c)).more)
+
+pub overflow_add-many : goal.overflow_add-many
+overflow_add-many c = omega (arith, room (turn c))
+
+pub loop-i-smaller : goal.loop-i-smaller
+loop-i-smaller c = omega (arith, (next (turn c)).more)
+
+pub loop-i-preserved : goal.loop-i-preserved
+loop-i-preserved c =
+    let d = turn c in
+    let ns = (begun d).args.numbers.now in
+    let i = d.loop-i.i in
+    let time-back : to_z w32 (of_z w32 (time_at ns i)) ≡ time_at ns i = read_back_lem (time_at ns i) c.code_of-arg-1.given in
+    let is : to_z w32 (of_z w32 c.code_of_lem.result) ≡ code_of (time_at ns i) (nat_abs (weight_at ns i)) =
+    read_back_lem c.code_of_lem.result c.code_of_lem.type-inv
+    ∙ c.code_of_lem.ensures ∙ ap₂ code_of time-back (ap nat_abs (weight-back d)) in
+    ((next d).further, rw is (begin-more (begun d).requires d.loop-i.invariant.0 d.loop-i-test.taken d.loop-i.invariant.1))
+
+pub shape_of-work : goal.shape_of-work
+shape_of-work c = c.loop-i.invariant.1.size
+
+pub returns : goal.returns
+returns c = begin-all c.loop-i.invariant.1 c.loop-i-test.false

@@ -1,0 +1,70 @@
+-- `framing::make` meets its contract: the repeats are counted and weighed, then the room; then the header and the repeats are
+-- written. Assumes nothing.
+use mathlib.Core.Path.{ap, ◌∙◌}
+use borrow.Author.Rules.{rules}
+use Rattle.pack.specs.Writing.{first_records}
+use Rattle.frames.specs.Frames.{frame_numbers}
+use Rattle.framing.specs.AnswerLaws.{frames-many, frames-heavy, frames-no-room, header-room, can_write, frames-written}
+use Rattle.framing.specs.declared.Framed.TheVariants.{Refused}
+use Rattle.framing.proofs.make.Goals as goal
+use Rattle.framing.proofs.make.Goals.{After-put_header, After-totals_of-made, After-write_repeats, Else-count-gt-MOST_JOBS, Else-order-written, Else-weight-gt-MOST_WEIGHT}
+
+pub returns-then-count-gt-MOST_JOBS : goal.returns-then-count-gt-MOST_JOBS
+returns-then-count-gt-MOST_JOBS c =
+    let t : After-totals_of-made = c.before.before.before.before in
+    let a = t.before.before in
+    let frames = frames-many a.args.numbers.now a.args.order.now a.requires t.totals_of-made.ensures c.if-count-gt-MOST_JOBS.true in
+    (ap Refused c.plainly.ensures ∙ frames.0, frames.1)
+
+pub returns-then-weight-gt-MOST_WEIGHT : goal.returns-then-weight-gt-MOST_WEIGHT
+returns-then-weight-gt-MOST_WEIGHT c =
+    let e : Else-count-gt-MOST_JOBS = c.before.before in
+    let t : After-totals_of-made = e.before.before.before in
+    let a = t.before.before in
+    let frames = frames-heavy a.args.numbers.now a.args.order.now a.requires t.totals_of-made.ensures e.if-count-gt-MOST_JOBS.false
+    c.if-weight-gt-MOST_WEIGHT.true in
+    (ap Refused c.plainly-then-weight-gt-MOST_WEIGHT.ensures ∙ frames.0, frames.1)
+
+pub returns-then-order-written : goal.returns-then-order-written
+returns-then-order-written c =
+    let f : Else-weight-gt-MOST_WEIGHT = c.before.before in
+    let e : Else-count-gt-MOST_JOBS = f.before in
+    let t : After-totals_of-made = e.before.before.before in
+    let a = t.before.before in
+    let frames = frames-no-room a.args.numbers.now a.args.order.now a.requires t.totals_of-made.ensures e.if-count-gt-MOST_JOBS.false
+    f.if-weight-gt-MOST_WEIGHT.false c.if-order-written.true in
+    (ap Refused c.plainly-then-order-written.ensures ∙ frames.0, frames.1)
+
+pub put_header-requires : goal.put_header-requires
+put_header-requires c =
+    let f : Else-weight-gt-MOST_WEIGHT = c.before.before in
+    let e : Else-count-gt-MOST_JOBS = f.before in
+    let t : After-totals_of-made = e.before.before.before in
+    let a = t.before.before in
+    header-room a.args.numbers.now a.args.order.now a.requires t.totals_of-made.ensures e.if-count-gt-MOST_JOBS.false f.if-weight-gt-MOST_WEIGHT.false
+    c.if-order-written.false
+
+pub write_repeats-requires : goal.write_repeats-requires
+write_repeats-requires c =
+    let h : After-put_header = c.before.before.before in
+    let g : Else-order-written = h.before.before in
+    let f : Else-weight-gt-MOST_WEIGHT = g.before in
+    let e : Else-count-gt-MOST_JOBS = f.before in
+    let t : After-totals_of-made = e.before.before.before in
+    let a = t.before.before in
+    can_write a.args.numbers.now a.args.order.now a.requires t.totals_of-made.ensures e.if-count-gt-MOST_JOBS.false f.if-weight-gt-MOST_WEIGHT.false
+    g.if-order-written.false h.put_header.new.bytes h.put_header.auto.0
+
+pub returns : goal.returns
+returns c =
+    let w : After-write_repeats = c.before.before in
+    let h : After-put_header = w.before.before.before.before in
+    let g : Else-order-written = h.before.before in
+    let f : Else-weight-gt-MOST_WEIGHT = g.before in
+    let e : Else-count-gt-MOST_JOBS = f.before in
+    let t : After-totals_of-made = e.before.before.before in
+    let a = t.before.before in
+    frames-written a.args.numbers.now a.args.order.now a.requires t.totals_of-made.ensures e.if-count-gt-MOST_JOBS.false f.if-weight-gt-MOST_WEIGHT.false
+    g.if-order-written.false w.write_repeats.new.order
+    (w.write_repeats.ensures
+    ∙ ap (first_records 0 (frame_numbers a.args.numbers.now) t.totals_of-made.result.count) h.put_header.ensures)

@@ -1,0 +1,22 @@
+-- `halves::add_seconds` meets its contract: each arm is a case of the answer.
+-- Assumes nothing.
+use mathlib.Core.Path.{sym, ap}
+use native.Mathlib.Omega.{arith}
+use borrow.Author.Rules.{rules}
+use Rattle.planner.specs.declared.Planned.TheVariants.{Made}
+use Rattle.halves.specs.Awaiting.{Light, seconds_added}
+use Rattle.halves.proofs.add_seconds.Goals as goal
+use Rattle.halves.proofs.add_seconds.Goals.{Start}
+
+pub overflow_mul-seconds : goal.overflow_mul-seconds
+overflow_mul-seconds c =
+    let s : Start = c.before.before.before.before in
+    let m = c.planned-in-Made-1.given in
+    let light : Light (Made m.0.0) = rw m.1 at s.requires in
+    omega (arith, light)
+
+pub returns-in-Refused : goal.returns-in-Refused
+returns-in-Refused c = sym (ap seconds_added c.in-Refused.is)
+
+pub returns-in-Made : goal.returns-in-Made
+returns-in-Made c = sym (ap seconds_added c.in-Made.is)

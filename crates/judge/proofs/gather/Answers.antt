@@ -1,0 +1,69 @@
+-- `judge::gather` meets its contract. The loop's invariant: no job before the place is out of range, and they are gathered.
+-- Assumes nothing.
+use mathlib.Core.Path.{sym, ◌∙◌}
+use Prim.Native.Nat.{◌-◌}
+use Rattle.packed.specs.Packed.{numbers_of}
+use Rattle.packed.specs.RefusalLaws.{header-fine}
+use Rattle.fields.specs.Facts.{header_read}
+use Rattle.judge.specs.Gathering.{Passing, Turn, can-take-in, passing-on, passing-less, passing-ends}
+use Rattle.judge.specs.Gathering.{there-starts, there-room, there-turn}
+use Rattle.judge.proofs.gather.Goals as goal
+use Rattle.judge.proofs.gather.Goals.{After-header_at-header, After-job_by_kind-job, At-loop-jobs, Start}
+
+-- Where the code starts.
+abbrev entry : At-loop-jobs → Start
+entry c = c.before.before.before.before
+
+pub header_at-header-requires : goal.header_at-header-requires
+header_at-header-requires c = let s = c.before.before in ((header-fine s.args.bytes.now).0 s.requires.there).long
+
+pub loop-jobs-init : goal.loop-jobs-init
+loop-jobs-init c =
+    let s : Start = c.before.before.before in
+    there-starts s.args.bytes.now s.requires.there c.header_at-header.result c.header_at-header.ensures s.requires.room
+
+pub job_by_kind-job-requires : goal.job_by_kind-job-requires
+job_by_kind-job-requires c =
+    let l : At-loop-jobs = c.before.before in
+    let s = entry l in
+    let read : After-header_at-header = l.before in
+    record {
+      there = there-room s.args.bytes.now s.requires.there c.loop-jobs-test.true l.loop-jobs.invariant;
+      kinded = (header_read s.args.bytes.now read.header_at-header.result read.header_at-header.ensures).kind;
+    }
+
+-- The job that was read is the job at the place.
+turn : (c : After-job_by_kind-job)
+    → let l : At-loop-jobs = c.before.before.before in
+    let start = entry l in
+    Turn (numbers_of start.args.bytes.now) l.loop-jobs.numbers l.loop-jobs.jobs c.job_by_kind-job.result
+turn c =
+    let l : At-loop-jobs = c.before.before.before in
+    let s = entry l in
+    there-turn s.args.bytes.now s.requires.there c.loop-jobs-test.true l.loop-jobs.invariant c.job_by_kind-job.result c.job_by_kind-job.ensures
+
+pub take_in-jobs-requires : goal.take_in-jobs-requires
+take_in-jobs-requires c = can-take-in (turn c.before)
+
+pub loop-jobs-smaller : goal.loop-jobs-smaller
+loop-jobs-smaller c =
+    let read : After-job_by_kind-job = c.before.before.before.before in
+    let made = c.take_in-jobs in
+    passing-less (turn read) made.result made.ensures.0
+
+pub loop-jobs-preserved : goal.loop-jobs-preserved
+loop-jobs-preserved c =
+    let read : After-job_by_kind-job = c.before.before.before.before in
+    let made = c.take_in-jobs in
+    passing-on (turn read) made.result made.ensures.0 made.new.1.1.0 made.ensures.1
+
+pub shape_of-numbers : goal.shape_of-numbers
+shape_of-numbers c =
+    let s = entry c.before.before in
+    c.loop-jobs.invariant.long ∙ sym s.requires.room
+
+pub returns : goal.returns
+returns c =
+    let l : At-loop-jobs = c.before.before in
+    let s = entry l in
+    passing-ends (numbers_of s.args.bytes.now) l.loop-jobs.numbers l.loop-jobs.jobs c.loop-jobs-test.false l.loop-jobs.invariant

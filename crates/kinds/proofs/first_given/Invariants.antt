@@ -1,0 +1,18 @@
+-- `kinds::first_given` meets its contract. The loop's invariant: what is found is what is found from here on.
+-- Assumes nothing.
+use mathlib.Core.Path.{◌≡◌}
+use Prim.Native.Nat.{◌+◌, ◌*◌, ◌-◌, ◌≤◌}
+use native.Mathlib.Omega.{arith}
+use lib.IntN.{pos}
+use lib.ListN.{get_or}
+use mir.Syntax.{w32}
+use mir.Val.{SFits}
+use Rattle.packed.specs.Packed.{first_packed}
+use Rattle.kinds.specs.KindsLaws.{from, search-starts, search-on, search-finds, search-ends, counted-given, pack-given}
+use Rattle.kinds.proofs.first_given.Given as goal
+
+abbrev pub invariant-loop-k : goal.invariant-loop-k
+invariant-loop-k l = (l.k ≤ l.count) × (first_packed l.numbers ≡ from l.numbers l.k l.count)
+
+abbrev pub decreases-loop-k : goal.decreases-loop-k
+decreases-loop-k l = l.count - l.k

@@ -1,0 +1,21 @@
+-- `leafanchor::leafanchor_choose_first` meets its contract: the numbers of the answer of the question, with both lengths.
+-- Assumes nothing.
+use mathlib.Core.Path.{◌≡◌, ap, ◌∙◌}
+use lib.ListN.{length}
+use mir.Facts.{to_z-of_z}
+use borrow.Author.Rules.{rules}
+use Rattle.opening_answers.specs.Numbers.{choose_numbers}
+use Rattle.opening_answers.specs.declared.ChooseAnswer.{ChooseAnswer}
+use Rattle.openings.specs.declared.Answer.{Answer}
+use Rattle.leafanchor.proofs.leafanchor_choose_first.Goals as goal
+use Rattle.leafanchor.proofs.leafanchor_choose_first.Goals.{After-question_first-told, Start}
+
+pub returns : goal.returns
+returns c =
+    let asked : After-question_first-told = c.before.before in
+    let s : Start = asked.before.before.before.before in
+    let said = rw (to_z-of_z s.ranges.t) at asked.question_first-told.ensures in
+    let numbers : Answer → ChooseAnswer =
+    λ answer. choose_numbers answer (length s.args.first.now) (length s.args.second.now) in
+    let made : c.choose_answer.result ≡ numbers asked.question_first-told.result = c.choose_answer.ensures in
+    (made ∙ ap numbers said.answer, said.area)

@@ -1,0 +1,12 @@
+-- `leafanchor::leafanchor_frame` meets its contract: the numbers of the answer, and what the call wrote.
+-- Assumes nothing.
+use mathlib.Core.Path.{ap, ◌∙◌}
+use borrow.Author.Rules.{rules}
+use Rattle.packed_answers.specs.Numbers.{framed_numbers}
+use Rattle.leafanchor.proofs.leafanchor_frame.Goals as goal
+use Rattle.leafanchor.proofs.leafanchor_frame.Goals.{After-frame}
+
+pub returns : goal.returns
+returns c =
+    let called : After-frame = c.before.before.before in
+    (c.frame_answer.ensures ∙ ap framed_numbers called.frame.ensures.0, called.frame.ensures.1)

@@ -1,0 +1,15 @@
+-- `leafanchor::leafanchor_question_first` meets its contract: the numbers of the answer, and what the call wrote.
+-- Assumes nothing.
+use mathlib.Core.Path.{ap, ◌∙◌}
+use mir.Facts.{to_z-of_z}
+use borrow.Author.Rules.{rules}
+use Rattle.opening_answers.specs.Numbers.{question_numbers}
+use Rattle.leafanchor.proofs.leafanchor_question_first.Goals as goal
+use Rattle.leafanchor.proofs.leafanchor_question_first.Goals.{After-question_first, Start}
+
+pub returns : goal.returns
+returns c =
+    let asked : After-question_first = c.before.before in
+    let s : Start = asked.before.before.before.before in
+    let said = rw (to_z-of_z s.ranges.t) at asked.question_first.ensures in
+    (c.question_answer.ensures ∙ ap question_numbers said.answer, said.area)

@@ -1,0 +1,12 @@
+-- `leafanchor::leafanchor_sheet_add` meets its contract: the refusal, and what the call leaves. Assumes nothing.
+use mathlib.Core.Path.{ap, ◌∙◌}
+use Rattle.sheet_answers.specs.Numbers.{sheet_numbers}
+use borrow.Author.Rules.{rules}
+use Rattle.leafanchor.proofs.leafanchor_sheet_add.Goals as goal
+use Rattle.leafanchor.proofs.leafanchor_sheet_add.Goals.{After-add}
+
+pub returns : goal.returns
+returns c =
+    let called : After-add = c.before.before.before.before in
+    let e = called.add.ensures in
+    (c.sheet_answer.ensures ∙ ap sheet_numbers e.answer, (e.lent, e.area))

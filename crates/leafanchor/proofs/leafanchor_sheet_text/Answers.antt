@@ -1,0 +1,11 @@
+-- `leafanchor::leafanchor_sheet_text` meets its contract: the refusal, the bytes, and what the call wrote. Assumes nothing.
+use mathlib.Core.Path.{◌∙◌}
+use borrow.Author.Rules.{rules}
+use Rattle.leafanchor.proofs.leafanchor_sheet_text.Goals as goal
+use Rattle.leafanchor.proofs.leafanchor_sheet_text.Goals.{After-tell}
+
+pub returns : goal.returns
+returns c =
+    let called : After-tell = c.before.before.before in
+    let e = called.tell.ensures in
+    (c.text_answer.ensures ∙ (λ i. record { refusal = e.refusal i; bytes = e.bytes i }), e.text-1)

@@ -1,0 +1,10 @@
+-- `openings::choose_first` meets its contract: it is `hand` at its tie. Assumes nothing.
+use mir.Facts.{to_z-of_z}
+use borrow.Author.Rules.{rules}
+use Rattle.openings.proofs.choose_first.Goals as goal
+use Rattle.openings.proofs.choose_first.Goals.{Start}
+
+pub returns : goal.returns
+returns c =
+    let s : Start = c.before.before.before.before.before in
+    rw (to_z-of_z s.ranges.t) at c.hand.ensures

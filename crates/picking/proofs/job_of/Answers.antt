@@ -1,0 +1,14 @@
+-- `picking::job_of` meets its contract: a number below 48, a ready time and a deadline within a frame have room in their types.
+-- Assumes nothing.
+use borrow.Author.Rules.{rules}
+use Rattle.seconds.specs.Signed.{signed}
+use Rattle.picking.specs.PuttingLaws.{ready-is, deadline-is, job-made}
+use Rattle.picking.proofs.job_of.Goals as goal
+
+pub overflow_add-result : goal.overflow_add-result
+overflow_add-result c =
+    let can = c.requires in
+    omega (signed, ready-is can, deadline-is can, can.soon, can.repeats.deadline)
+
+pub returns : goal.returns
+returns c = job-made c.requires

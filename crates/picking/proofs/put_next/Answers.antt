@@ -1,0 +1,61 @@
+-- `picking::put_next` meets its contract: the least of the next ready times is the next repeat, its job is written, and it moves on.
+-- Assumes nothing.
+use Prim.Native.Nat.{ℕ, ◌+◌, ◌*◌}
+use mathlib.Core.Path.{ap, ◌∙◌}
+use mathlib.Core.List.{List, ◌++◌}
+use lib.IntN.{ℤ}
+use lib.ListN.{take, drop}
+use borrow.Author.Rules.{rules}
+use Rattle.packed.specs.Layout.{encode, bytes_of, job_layout, record_bytes}
+use Rattle.picking.specs.PuttingLaws.{can-pick, job-given, can-make, next_fits, moves-on, job-next, job-room}
+use Rattle.picking.proofs.put_next.Goals as goal
+use Rattle.picking.proofs.put_next.Goals.{After-count_of, After-job_of, After-least-place, After-repeating_at-job}
+
+pub least-place-requires : goal.least-place-requires
+least-place-requires c = can-pick c.requires
+
+pub count_of-requires : goal.count_of-requires
+count_of-requires c =
+    let r : After-repeating_at-job = c.before in
+    let l : After-least-place = r.before.before in
+    let a = l.before.before.before.before in
+    (job-given a.requires l.least-place.result l.least-place.ensures r.repeating_at-job.result r.repeating_at-job.ensures).period.low
+
+pub overflow_add-next : goal.overflow_add-next
+overflow_add-next c =
+    let r : After-repeating_at-job = c.before.before in
+    let l : After-least-place = r.before.before in
+    next_fits l.requires l.least-place.result l.least-place.ensures r.repeating_at-job.result
+    r.repeating_at-job.ensures c.count_of.result c.count_of.ensures
+
+pub job_of-requires : goal.job_of-requires
+job_of-requires c =
+    let r : After-repeating_at-job = c.before.before.before in
+    let l : After-least-place = r.before.before in
+    can-make l.requires l.least-place.result l.least-place.ensures r.repeating_at-job.result
+    r.repeating_at-job.ensures
+
+pub put_job-requires : goal.put_job-requires
+put_job-requires c =
+    let r : After-repeating_at-job = c.before.before.before.before in
+    let l : After-least-place = r.before.before in
+    job-room l.requires l.least-place.result l.least-place.ensures r.repeating_at-job.result
+    r.repeating_at-job.ensures c.Job-of.result c.Job-of.ensures
+
+pub returns : goal.returns
+unfolding record_bytes
+returns c =
+    let j : After-job_of = c.before.before.before in
+    let p : After-count_of = j.before.before in
+    let r : After-repeating_at-job = p.before.before in
+    let l : After-least-place = r.before.before in
+    let a = l.before.before.before.before in
+    let put : List ℤ → List ℕ = λ seven.
+    take (4 + 8 * a.args.k) a.args.order.now ++ bytes_of 8 (encode (job_layout 0) seven)
+    ++ drop (4 + 8 * a.args.k + 8) a.args.order.now in (
+      moves-on a.requires l.least-place.result l.least-place.ensures r.repeating_at-job.result r.repeating_at-job.ensures
+          p.count_of.result p.count_of.ensures,
+      c.put_job.ensures
+          ∙ ap put (job-next a.requires l.least-place.result l.least-place.ensures r.repeating_at-job.result r.repeating_at-job.ensures
+          j.Job-of.result j.Job-of.ensures),
+    )

@@ -1,0 +1,61 @@
+-- `picking::set_first` meets its contract. The invariant: the jobs before p have their phases. The measure is the number of jobs
+-- that are left. Assumes nothing.
+use Prim.Native.Nat.{ℕ, ◌-◌, ◌/◌, ◌≤◌, ◌<◌}
+use mathlib.Core.Path.{◌≡◌, refl, ◌∙◌}
+use native.Mathlib.Omega.{arith}
+use lib.ListN.{length, get_or, length-set}
+use Rattle.seconds.specs.Signed.{signed}
+use Rattle.judge.specs.Gathering.{noted-on}
+use Rattle.frames.specs.Frames.{jobs_given, phase_at}
+use Rattle.repeating.specs.RepeatingLaws.{JobRead, job_read}
+use Rattle.picking.specs.PickingLaws.{none_done}
+use Rattle.picking.proofs.set_first.Goals as goal
+use Rattle.picking.proofs.set_first.Goals.{After-repeating_at-job, At-loop-p}
+
+pub loop-p-init : goal.loop-p-init
+loop-p-init c = (omega arith, refl, λ i h. absurd (omega arith))
+
+-- The job that was read is the one given at its place.
+read : (c : After-repeating_at-job)
+    → JobRead c.args.numbers.now c.loop-p.p c.repeating_at-job.result
+unfolding jobs_given
+read c =
+    let l : At-loop-p = c.before.before in
+    let s = l.before.before in
+    job_read s.args.numbers.now l.loop-p.p c.repeating_at-job.result s.requires.given (omega arith) c.repeating_at-job.ensures
+
+pub count_of-requires : goal.count_of-requires
+count_of-requires c = omega (signed, read c.before)
+
+-- There is room for a time at its place.
+room : (l : At-loop-p) → length l.args.numbers.now / 6 ≤ length l.loop-p.next
+unfolding jobs_given
+room l = omega (arith, l.requires.room, l.loop-p.invariant.1)
+
+pub offset_bounds-next-p : goal.offset_bounds-next-p
+offset_bounds-next-p c = omega (arith, c.well-formed)
+
+pub bounds-next-p : goal.bounds-next-p
+bounds-next-p c = omega (arith, room c.before.before.before.before)
+
+pub loop-p-preserved : goal.loop-p-preserved
+loop-p-preserved c =
+    let l : At-loop-p = c.before.before.before.before in
+    let zs = l.args.numbers.now in
+    let p : ℕ = l.loop-p.p in
+    let phase : ℕ = c.count_of.result in
+    let counted : phase ≡ phase_at zs p = c.count_of.ensures ∙ (read c.before.before).phase.is in (
+      omega arith,
+      length-set l.loop-p.next p phase ∙ l.loop-p.invariant.1,
+      noted-on (λ i n. n ≡ phase_at zs i) l.loop-p.next p phase (omega (arith, room l)) counted l.loop-p.invariant.2,
+    )
+
+pub shape_of-next : goal.shape_of-next
+shape_of-next c = c.loop-p.invariant.1
+
+pub returns : goal.returns
+unfolding jobs_given
+returns c =
+    let l : At-loop-p = c.before in
+    let a = l.args in
+    none_done l.requires.given l.loop-p.next (room l) (λ p h. l.loop-p.invariant.2 p (omega arith))

@@ -1,0 +1,82 @@
+-- `picking::write_repeats` meets its contract. The invariant: the first k repeats are written, and the next ready times are those
+-- behind them. The measure is the number of repeats that are left. Assumes nothing.
+use Prim.Native.Nat.{ℕ, ◌+◌, ◌*◌, ◌-◌, ◌≤◌}
+use mathlib.Core.Path.{◌≡◌, refl, sym, ap, ◌∙◌}
+use mathlib.Core.List.{List, ◌++◌}
+use native.Mathlib.Omega.{arith}
+use lib.IntN.{ℤ}
+use lib.ListN.{length, take, drop}
+use Rattle.packed.specs.Layout.{encode, bytes_of, job_layout, record_bytes}
+use Rattle.packed.specs.Packed.{fields_at}
+use Rattle.pack.specs.Writing.{first_records}
+use Rattle.pack.specs.WritingLaws.{none_written, written-length, one_more}
+use Rattle.frames.specs.Frames.{numbers_for, repeat_at, frame_numbers}
+use Rattle.frames.specs.FrameLaws.{frame_at}
+use Rattle.picking.specs.Picking.{Reached}
+use Rattle.picking.proofs.write_repeats.Goals as goal
+use Rattle.picking.proofs.write_repeats.Goals.{After-put_next, At-loop-k}
+
+pub set_first-requires : goal.set_first-requires
+set_first-requires c =
+    let m = c.requires.making in
+    record { given = m.given; room = omega (arith, m.given.few) }
+
+pub loop-k-init : goal.loop-k-init
+loop-k-init c =
+    let a = c.before.before.before.before in (
+      omega arith,
+      sym (none_written 0 (frame_numbers a.args.numbers.now) a.args.order.now),
+      c.set_first.ensures,
+      c.set_first.auto.1.0,
+    )
+
+-- The bytes stay as many.
+kept : (l : At-loop-k)
+    → length l.loop-k.order ≡ length l.args.order.now
+unfolding record_bytes
+kept l =
+    let a = l.before.before.before.before.before in
+    let room : 4 + 8 * l.loop-k.k ≤ length a.args.order.now = omega (arith, a.requires.room, a.requires.all) in
+    ap length l.loop-k.invariant.1 ∙ written-length 0 (frame_numbers a.args.numbers.now) a.args.order.now l.loop-k.k room
+
+pub slice_bounds-put_next-end : goal.slice_bounds-put_next-end
+slice_bounds-put_next-end c = sym c.loop-k.invariant.3
+
+pub put_next-requires : goal.put_next-requires
+put_next-requires c =
+    let l : At-loop-k = c.before.before.before in
+    let a = l.before.before.before.before.before in
+    record {
+      making = a.requires.making;
+      more = omega (arith, a.requires.all);
+      reached = l.loop-k.invariant.2;
+      room = omega (arith, a.requires.room, kept l);
+    }
+
+pub loop-k-preserved : goal.loop-k-preserved
+unfolding record_bytes
+loop-k-preserved c =
+    let put : After-put_next = c.before.before.before in
+    let l : At-loop-k = put.before.before.before.before in
+    let a = l.before.before.before.before.before in
+    let zs = a.args.numbers.now in
+    let k : ℕ = l.loop-k.k in
+    let seven : List ℤ = numbers_for zs k (repeat_at zs k) in
+    let behind : List ℕ → List ℕ = λ bs. take (4 + 8 * k) bs ++ bytes_of 8 (encode (job_layout 0) seven) ++ drop (4 + 8 * k + 8) bs in
+    let four : 4 ≤ length a.args.order.now = omega (arith, a.requires.room) in
+    let there : seven ≡ fields_at (frame_numbers zs) k = sym (frame_at zs k (omega (arith, a.requires.all))) in (
+      omega arith,
+      put.put_next.ensures.1 ∙ ap behind l.loop-k.invariant.1 ∙ one_more 0 (frame_numbers zs) a.args.order.now k seven four there,
+      put.put_next.ensures.0,
+      put.put_next.auto.1.1.0 ∙ l.loop-k.invariant.3,
+    )
+
+pub shape_of-order : goal.shape_of-order
+shape_of-order c = kept c.before
+
+pub returns : goal.returns
+returns c =
+    let l : At-loop-k = c.before in
+    let a = l.args in
+    let all : l.loop-k.k ≡ a.count = omega arith in
+    l.loop-k.invariant.1 ∙ ap (λ (k : ℕ). first_records 0 (frame_numbers a.numbers.now) k a.order-1.now) all

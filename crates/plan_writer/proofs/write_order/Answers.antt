@@ -1,0 +1,14 @@
+-- `plan_writer::write_order` meets its contract: the test judges the room.
+-- Assumes nothing.
+use native.Mathlib.Omega.{arith}
+use borrow.Author.Rules.{rules}
+use Rattle.plan_writer.specs.CallLaws.{write-no-room}
+use Rattle.plan_writer.proofs.write_order.Goals as goal
+use Rattle.plan_writer.proofs.write_order.Goals.{Start}
+
+pub returns-then-out-lt-PLAN_ROOM : goal.returns-then-out-lt-PLAN_ROOM
+returns-then-out-lt-PLAN_ROOM c =
+    let t = c.before in
+    let s : Start = t.before.before.before in
+    rw c.plainly.ensures
+    (write-no-room s.args.order.now s.args.out.now s.args.work.now s.requires (omega (arith, t.if-out-lt-PLAN_ROOM.true)))

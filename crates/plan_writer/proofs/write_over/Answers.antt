@@ -1,0 +1,37 @@
+-- `plan_writer::write_over` meets its contract: planning's refusal is handed on, and its plan is put in bytes.
+-- Assumes nothing.
+use borrow.Author.Rules.{rules}
+use Rattle.plan_writer.specs.CallLaws.{write-handed-on, write-room, write_done}
+use Rattle.plan_writer.proofs.write_over.Goals as goal
+use Rattle.plan_writer.proofs.write_over.Goals.{After-plan_order, After-put_plan, Start}
+
+-- Where the code starts.
+abbrev start : After-plan_order → Start
+start c = c.before.before.before.before.before
+
+pub put_plan-requires : goal.put_plan-requires
+put_plan-requires c =
+    let p : After-plan_order = c.before.before.before.before.before.before.before.before in
+    let s = start p in
+    let f = c.figures-1.given in
+    write-room s.args.order.now s.args.out.now s.args.work.now s.args.starts.now s.requires
+    p.plan_order.ensures f.0.0 f.1
+
+pub returns-in-Refused : goal.returns-in-Refused
+returns-in-Refused c =
+    let p : After-plan_order = c.before.before.before.before.before in
+    let s = start p in
+    let r = c.refusal-1.given in
+    write-handed-on s.args.order.now s.args.out.now s.args.work.now s.args.starts.now s.requires
+    p.plan_order.ensures r.0.0 r.1
+
+pub returns-in-Made : goal.returns-in-Made
+returns-in-Made c =
+    let w : After-put_plan = c.before.before in
+    let a = w.before in
+    let p : After-plan_order = a.before.before.before.before.before.before.before.before in
+    let s = start p in
+    let f = a.figures-1.given in
+    write_done s.args.order.now s.args.out.now s.args.work.now s.args.starts.now s.requires
+    p.plan_order.ensures f.0.0 f.1 w.put_plan.result w.put_plan.new.bytes w.put_plan.ensures.0
+    w.put_plan.ensures.1

@@ -1,0 +1,23 @@
+-- `plan_writer::write_plan` meets its contract: an order that its checks refuse is answered so, any other is planned and written.
+-- Assumes nothing.
+use mathlib.Core.Path.{sym, ◌∙◌}
+use borrow.Author.Rules.{rules}
+use Rattle.packed.specs.Refusals.{order_checks}
+use Rattle.judge.specs.Told.{told-fine}
+use Rattle.plan_writer.specs.CallLaws.{write-stopped}
+use Rattle.plan_writer.proofs.write_plan.Goals as goal
+use Rattle.plan_writer.proofs.write_plan.Goals.{After-judge_order, In-Fine, Start}
+
+pub write_order-requires : goal.write_order-requires
+write_order-requires c =
+    let e : In-Fine = c.before.before in
+    let s : Start = e.before.before.before.before.before in
+    told-fine (order_checks s.args.order.now)
+    (sym e.judge_order.ensures ∙ e.in-Fine.is)
+
+pub returns-in-Refused : goal.returns-in-Refused
+returns-in-Refused c =
+    let j : After-judge_order = c.before.before.before in
+    let a = j.args in
+    let r = c.refusal-1.given in
+    write-stopped a.order.now a.out-1.now a.work-1.now r.0.0 (sym j.judge_order.ensures ∙ r.1)

@@ -1,0 +1,27 @@
+-- `planner::plan` meets its contract: an order that its checks refuse is answered so, any other is planned.
+-- Assumes nothing.
+use mathlib.Core.Path.{sym, ◌∙◌}
+use borrow.Author.Rules.{rules}
+use Rattle.packed.specs.Refusals.{order_checks}
+use Rattle.judge.specs.Told.{told-fine}
+use Rattle.planner.specs.CallLaws.{plan-stopped}
+use Rattle.planner.proofs.plan.Goals as goal
+use Rattle.planner.proofs.plan.Goals.{After-judge_order, In-Fine, Start}
+
+pub plan_order-requires : goal.plan_order-requires
+plan_order-requires c =
+    let told : In-Fine = c.before.before in
+    let judged : After-judge_order = told.before.before in
+    let start : Start = judged.before.before in
+    told-fine (order_checks start.args.bytes.now) (sym judged.judge_order.ensures ∙ told.in-Fine.is)
+
+pub returns-in-Refused : goal.returns-in-Refused
+returns-in-Refused c =
+    let judged : After-judge_order = c.before.before.before in
+    let start : Start = judged.before.before in
+    let a = start.args in
+    let r = c.refusal-1.given in
+    plan-stopped a.bytes.now a.starts-1.now a.work-1.now r.0.0 (sym judged.judge_order.ensures ∙ r.1)
+
+pub returns-in-Fine : goal.returns-in-Fine
+returns-in-Fine c = c.plan_order.ensures

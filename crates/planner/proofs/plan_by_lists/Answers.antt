@@ -1,0 +1,144 @@
+-- `planner::plan_by_lists` meets its contract: the last point of the last list is the plan's end, if there is one, and the walk
+-- back from there gives its mask. Assumes nothing.
+use mathlib.Core.Path.{◌≡◌, sym, ◌∙◌}
+use mathlib.Core.List.{List, [], ◌∷◌}
+use lib.IntN.{ℤ}
+use lib.ListN.{length, get_or}
+use mir.Syntax.{w32}
+use mir.Val.{SFits, to_z, of_z}
+use mir.Facts.{to_z-of_z}
+use borrow.Author.Rules.{rules}
+use Rattle.seconds.specs.Limits.{rest, latest_free}
+use Rattle.seconds.specs.RangesLaws.{time-fits}
+use Rattle.order.specs.Job.{Point}
+use Rattle.profile.specs.Profile.{lookup, start_point}
+use Rattle.codes.specs.Code.{list_at}
+use Rattle.codes.specs.Held.{Held}
+use Rattle.reading.specs.declared.Found.TheVariants.{Nothing, At}
+use Rattle.reading.specs.Reading.{found}
+use Rattle.walking.specs.declared.End.{End}
+use Rattle.planner.specs.PlanningLaws.{can-start, can-fill, last-stands, nothing-made, can-walk, can-make}
+use Rattle.planner.proofs.plan_by_lists.Goals as goal
+use Rattle.planner.proofs.plan_by_lists.Goals.{After-fill_lists-totals, After-last_by, After-start_at, After-struct_told-1, After-walk-mask, After-work-1, In-At, In-Nothing, Start}
+
+-- ---- the stages of the code, each seen from a later one
+
+abbrev start : After-struct_told-1 → Start
+start read = read.before.before.before.before.before
+
+abbrev begun : After-work-1 → After-start_at
+begun back = back.before
+
+abbrev filled : tie.After-last-by-arg → After-fill_lists-totals
+filled read = read.before.before.before.before.before.before.before.before
+
+-- ---- the first list is started
+
+-- The header's time, as the code reads it back.
+t0-back : (s : Start) → to_z w32 (of_z w32 s.args.header.t0) ≡ s.args.header.t0
+t0-back s =
+    let p = s.requires.planning in
+    let fits : SFits w32 s.args.header.t0 = rw p.read.t0 (time-fits p.order.header.timely) in
+    to_z-of_z fits
+
+pub start_at-requires : goal.start_at-requires
+start_at-requires c = let s = start c in rw (t0-back s) (can-start s.requires)
+
+module _ (c : After-start_at) where
+  abbrev entry : Start
+  entry = start c.before
+
+  abbrev first : List ℤ
+  first = c.start_at.new.work
+
+  sized : length first ≡ length entry.args.work.now
+  sized = search rules
+
+  started : Held first 0 (start_point entry.args.header.t0 ∷ [])
+  started = rw (t0-back entry) at c.start_at.ensures
+
+-- ---- all lists are filled
+
+pub fill_lists-totals-requires : goal.fill_lists-totals-requires
+fill_lists-totals-requires c =
+    let from : After-start_at = begun c.before.before.before in
+    can-fill (entry from).requires (sized from) (started from)
+
+module _ (c : After-fill_lists-totals) where
+  abbrev from : After-start_at
+  from = begun c.before.before.before.before
+
+  abbrev all : List ℤ
+  all = c.fill_lists-totals.new.work
+
+  kept : length all ≡ length (first from)
+  kept = search rules
+
+  same-places : length c.fill_lists-totals.new.places ≡ length (entry from).args.places.now
+  same-places = search rules
+
+  same-counts : length c.fill_lists-totals.new.counts ≡ length (entry from).args.counts.now
+  same-counts = search rules
+
+  -- The last of them.
+  abbrev last : List Point
+  last =
+      list_at all (get_or c.fill_lists-totals.new.places (entry from).args.header.count 0)
+      (get_or c.fill_lists-totals.new.counts (entry from).args.header.count 0)
+
+-- ---- the end of the last one is found, or nothing is: the code's last second of all is tied to the rest here
+
+pub last_by-requires : goal.last_by-requires
+last_by-requires c =
+    let f = filled c in
+    let d = from f in
+    last-stands (entry d).requires (sized d) (started d) (kept f) f.fill_lists-totals.ensures
+
+searched : (c : After-last_by) → c.last_by.result ≡ found (lookup (last (filled c.before)) latest_free)
+unfolding rest
+searched c = c.last_by.ensures
+
+module _ (c : In-At) where
+  abbrev ended : After-last_by
+  ended = c.before.before.before
+
+  abbrev lists : After-fill_lists-totals
+  lists = filled ended.before
+
+  abbrev end : End
+  end = record { weight = c.in-At.weight; finish = c.in-At.finish }
+
+  finish-back : to_z w32 (of_z w32 end.finish) ≡ end.finish
+  finish-back = to_z-of_z (record { sfits = c.known_told-1.given.1.0.1 })
+
+  is-end : At end.weight-1 end.finish ≡ found (lookup (last lists) latest_free)
+  is-end = sym c.in-At.is ∙ searched ended
+
+-- ---- the plan is made from there
+
+pub walk-mask-requires : goal.walk-mask-requires
+walk-mask-requires c =
+    let e : In-At = c.before.before.before in
+    let f = lists e in
+    let d = from f in
+    rw (finish-back e)
+    (can-walk (entry d).requires (sized d) (started d) (kept f) f.fill_lists-totals.ensures (end e) (is-end e) (same-places f) (same-counts f))
+
+pub make_plan-requires : goal.make_plan-requires
+make_plan-requires c =
+    let walked : After-walk-mask = c.before in
+    let e : In-At = walked.before.before.before.before in
+    let f = lists e in
+    let d = from f in
+    rw (finish-back e)
+    (can-make (entry d).requires (sized d) (started d) (kept f) f.fill_lists-totals.ensures (end e) (is-end e) walked.walk-mask.result
+    (rw (finish-back e) at walked.walk-mask.ensures))
+
+pub returns-in-Nothing : goal.returns-in-Nothing
+returns-in-Nothing c =
+    let told : In-Nothing = c.before in
+    let ended : After-last_by = told.before.before in
+    let f = filled ended.before in
+    let d = from f in
+    let none : Nothing ≡ found (lookup (last f) latest_free) = sym told.in-Nothing.is ∙ searched ended in
+    rw c.plainly.ensures (nothing-made (entry d).requires (sized d) (started d) (kept f) f.fill_lists-totals.ensures none)

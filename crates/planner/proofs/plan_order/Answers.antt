@@ -1,0 +1,88 @@
+-- `planner::plan_order` meets its contract: the tests judge the room, `plan_within` plans in the part lent, and `clear` clears
+-- behind it.
+-- Assumes nothing.
+use mathlib.Core.Path.{◌≡◌}
+use mathlib.Core.List.{◌++◌}
+use native.Mathlib.Omega.{arith}
+use lib.ListN.{length, take, drop}
+use lib.Seq.{length-take-le, drop_at}
+use borrow.Author.Rules.{rules}
+use Rattle.packed.specs.Accepted.{order-fine}
+use Rattle.fields.specs.Facts.{HeaderRead, header_read}
+use Rattle.area.specs.Area.{area}
+use Rattle.planner.specs.CallLaws.{plan-no-room, plan-no-space, plan-done}
+use Rattle.planner.proofs.plan_order.Goals as goal
+use Rattle.planner.proofs.plan_order.Goals.{After-clear, After-header_at-header, After-plan_within-answer, After-plan_within-arg-2-1, Else-starts-n, Else-work-lt-AREA, Start, Then-starts-n, Then-work-lt-AREA}
+
+pub header_at-header-requires : goal.header_at-header-requires
+header_at-header-requires c = ((order-fine c.args.bytes.now).0 c.requires).header.long
+
+-- ---- the stages of the code: the header is read, and there is room for the starts and for the lists
+
+module _ (c : After-header_at-header) where
+  abbrev start : Start
+  start = c.before.before
+
+  -- The header that was read is the order's.
+  read : HeaderRead start.args.bytes.now c.header_at-header.result
+  read = header_read start.args.bytes.now c.header_at-header.result c.header_at-header.ensures
+
+abbrev header : Else-work-lt-AREA → After-header_at-header
+header roomy = roomy.before.before
+
+abbrev roomy : After-plan_within-arg-2-1 → Else-work-lt-AREA
+roomy lent = lent.before.before
+
+-- ---- the room
+
+pub returns-then-starts-n : goal.returns-then-starts-n
+returns-then-starts-n c =
+    let short : Then-starts-n = c.before in
+    let h : After-header_at-header = short.before in
+    let a = (start h).args in
+    rw c.plainly.ensures
+    (plan-no-room a.bytes.now a.starts-1.now a.work-1.now (start h).requires (omega (arith, short.if-starts-n.true, (read h).count)))
+
+pub returns-then-work-lt-AREA : goal.returns-then-work-lt-AREA
+returns-then-work-lt-AREA c =
+    let short : Then-work-lt-AREA = c.before in
+    let enough : Else-starts-n = short.before in
+    let h : After-header_at-header = enough.before in
+    let a = (start h).args in
+    rw c.plainly-then-work-lt-AREA.ensures
+    (plan-no-space a.bytes.now a.starts-1.now a.work-1.now (start h).requires (omega (arith, enough.if-starts-n.false, (read h).count))
+    short.if-work-lt-AREA.true)
+
+-- ---- the part lent is as long as the area
+
+lent : (c : Else-work-lt-AREA) → length (take area (start (header c)).args.work.now) ≡ area
+lent c = length-take-le area (start (header c)).args.work.now c.if-work-lt-AREA.false
+
+pub slice_bounds-plan_within-end-2 : goal.slice_bounds-plan_within-end-2
+slice_bounds-plan_within-end-2 c = omega (arith, lent (roomy c))
+
+pub plan_within-answer-requires : goal.plan_within-answer-requires
+plan_within-answer-requires c =
+    let r = roomy c in
+    let h = header r in
+    record {
+      order = (order-fine (start h).args.bytes.now).0 (start h).requires;
+      read = read h;
+      places = r.if-starts-n.left;
+      room = omega (arith, lent r);
+    }
+
+-- ---- the plan
+
+pub returns : goal.returns
+returns c =
+    let cleared : After-clear = c.before in
+    let planned : After-plan_within-answer = cleared.before.before.before.before in
+    let r = roomy planned.before in
+    let h = header r in
+    let a = (start h).args in
+    let part = planned.plan_within-answer.new.work in
+    let rest = drop area a.work-1.now in
+    let long : length part ≡ area = omega (arith, lent r) in
+    plan-done a.bytes.now a.starts-1.now a.work-1.now (start h).requires (omega (arith, r.if-starts-n.left, (read h).count))
+    (part ++ rest) r.if-work-lt-AREA.left planned.plan_within-answer.ensures (drop_at part rest area long) cleared.clear.ensures

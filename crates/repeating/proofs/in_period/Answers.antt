@@ -1,0 +1,48 @@
+-- `repeating::in_period` meets its contract: with the numbers in range no difference overflows, and the rest of the code is the
+-- rest of the definitions. No other proof of this crate opens it. Assumes nothing.
+use mir.Facts.{to_z-of_z}
+use Rattle.seconds.specs.Limits.{rest}
+use Rattle.seconds.specs.Signed.{signed}
+use Rattle.repeating.specs.Repeating.{in_period}
+use Rattle.repeating.specs.RepeatingLaws.{RepeatingFits, bounds-fit, InRange, in-range, left_is}
+use Rattle.repeating.specs.declared.Repeating.{Repeating}
+use Rattle.repeating.proofs.in_period.Goals as goal
+use Rattle.repeating.proofs.in_period.Goals.{After-struct_told-1, After-struct_told-3-1, Start}
+
+-- Where the numbers are read.
+module _ (c : After-struct_told-3-1) where
+  abbrev job : Repeating
+  job =
+      let s : Start = c.before.before.before in
+      s.args.job
+
+  fits : RepeatingFits job
+  fits =
+      let t : After-struct_told-1 = c.before.before in
+      let g = t.struct_told-1.given in
+      bounds-fit job g.0.1 g.1.0.1 g.1.1.0.1 g.1.1.1.0.1 g.1.1.1.1.0.1 g.1.1.1.1.1.0.1
+
+  range : InRange job
+  range =
+      let s : Start = c.before.before.before in
+      in-range job s.requires
+
+pub overflow_sub-result : goal.overflow_sub-result
+overflow_sub-result c = let r = range c in let f = fits c in omega (signed, r.period, f.period)
+
+pub overflow_sub-result-2 : goal.overflow_sub-result-2
+overflow_sub-result-2 c = let r = range c in let f = fits c in omega (signed, r.period, r.deadline, f.period, f.deadline, sub-result c)
+
+pub returns : goal.returns
+unfolding in_period rest
+returns c =
+    let j : Repeating = job c in
+    let f : RepeatingFits j = fits c in
+    rw (
+      to_z-of_z (sub-result-2 c),
+      to_z-of_z (sub-result c),
+      to_z-of_z f.phase,
+      to_z-of_z f.deadline,
+      to_z-of_z f.period,
+    )
+    (left_is rest j.phase j.deadline j.period)

@@ -1,0 +1,44 @@
+-- `repeating::in_range` meets its contract: the six tests are those of the definition, each of a number that is read as its bits.
+-- Assumes nothing.
+use mathlib.Core.Path.{◌≡◌, ◌∙◌, ap}
+use lib.Dec.{eqb}
+use lib.IntN.{pos}
+use mir.Syntax.{w32}
+use mir.Val.{of_z}
+use mir.Facts.{to_z-of_z}
+use borrow.Author.Rules.{rules}
+use Rattle.seconds.specs.Limits.{longest, longest_frame}
+use Rattle.seconds.specs.Ranges.{is_between}
+use Rattle.packed.specs.Refusals.{weight_test}
+use Rattle.repeating.specs.RepeatingLaws.{RepeatingFits, bounds-fit, range-tested}
+use Rattle.repeating.specs.declared.Repeating.{Repeating}
+use Rattle.repeating.proofs.in_range.Goals as goal
+use Rattle.repeating.proofs.in_range.Goals.{After-between, After-between-2, After-between-3, After-struct_told-1, After-weight_within}
+
+-- Each number of the job is an i32.
+fits : (c : After-struct_told-1) → RepeatingFits c.args.job
+fits c =
+    let g = c.struct_told-1.given in
+    bounds-fit c.args.job g.0.1 g.1.0.1 g.1.1.0.1
+    g.1.1.1.0.1 g.1.1.1.1.0.1 g.1.1.1.1.1.0.1
+
+pub returns : goal.returns
+returns c =
+    let three : After-between-3 = c.before in
+    let two : After-between-2 = three.before in
+    let weighed : After-weight_within = two.before in
+    let one : After-between = weighed.before in
+    let start : After-struct_told-1 = one.before.before.before.before.before.before in
+    let j : Repeating = start.args.job in
+    let f : RepeatingFits j = fits start in
+    let critical : one.between.result ≡ is_between (pos 0) (pos 1) j.critical =
+    one.between.ensures ∙ ap (is_between (pos 0) (pos 1)) (to_z-of_z f.critical) in
+    let weight : weighed.weight_within.result ≡ weight_test (eqb (of_z w32 j.critical) 1) j.weight =
+    weighed.weight_within.ensures ∙ ap (weight_test (eqb (of_z w32 j.critical) 1)) (to_z-of_z f.weight) in
+    let long : two.between-2.result ≡ is_between (pos 1) (pos longest) j.length =
+    two.between-2.ensures ∙ ap (is_between (pos 1) (pos longest)) (to_z-of_z f.long) in
+    let deadline : three.between-3.result ≡ is_between (pos 1) (pos longest_frame) j.deadline =
+    three.between-3.ensures ∙ ap (is_between (pos 1) (pos longest_frame)) (to_z-of_z f.deadline) in
+    let period : c.between-4.result ≡ is_between (pos 1) (pos longest_frame) j.period =
+    c.between-4.ensures ∙ ap (is_between (pos 1) (pos longest_frame)) (to_z-of_z f.period) in
+    rw (critical, weight, to_z-of_z f.phase, long, deadline, period) (range-tested j)

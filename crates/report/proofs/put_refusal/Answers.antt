@@ -1,0 +1,13 @@
+-- `report::put_refusal` meets its contract: the front of the line, and the field behind it.
+-- Assumes nothing.
+use borrow.Author.Rules.{rules}
+use Rattle.text.specs.BufferLaws.{wrote-more}
+use Rattle.report.specs.WritingLaws.{refusal-line}
+use Rattle.report.proofs.put_refusal.Goals as goal
+use Rattle.report.proofs.put_refusal.Goals.{After-put_front-next, Start}
+
+pub returns : goal.returns
+returns c =
+    let front : After-put_front-next = c.before.before.before.before.before.before in
+    let s : Start = front.before.before.before.before in
+    rw (refusal-line s.args.refusal) (wrote-more front.put_front-next.ensures.0 c.put_figure.ensures.0)

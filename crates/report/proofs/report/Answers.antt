@@ -1,0 +1,19 @@
+-- `report::report` meets its contract: nothing where there is too little room, else the text.
+-- Assumes nothing.
+use borrow.Author.Rules.{rules}
+use Rattle.report.specs.Telling.{nothing-reported, text-reported}
+use Rattle.report.proofs.report.Goals as goal
+use Rattle.report.proofs.report.Goals.{After-plan_and_tell, Else-out-lt-ROOM, Start}
+
+pub returns-then-out-lt-ROOM : goal.returns-then-out-lt-ROOM
+returns-then-out-lt-ROOM c =
+    let s : Start = c.before.before.before in
+    nothing-reported s.args.bytes.now s.args.out.now c.if-out-lt-ROOM.true
+
+pub returns : goal.returns
+returns c =
+    let told : After-plan_and_tell = c.before.before.before.before in
+    let else1 : Else-out-lt-ROOM = told.before.before.before.before in
+    let s : Start = told.before.before.before.before.before.before.before in
+    text-reported s.args.bytes.now s.args.out.now else1.if-out-lt-ROOM.false
+    told.plan_and_tell.ensures

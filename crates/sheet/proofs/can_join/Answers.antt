@@ -1,0 +1,27 @@
+-- `sheet::can_join` meets its contract: the orders of both are added in 64 bits. Assumes nothing.
+use native.Mathlib.Omega.{arith}
+use borrow.Author.Rules.{rules}
+use Rattle.sheet.specs.NumbersLaws.{joins-by}
+use Rattle.sheet.proofs.can_join.Goals as goal
+use Rattle.sheet.proofs.can_join.Goals.{After-is_sheet-second, After-shared_slice_known-1, After-shared_slice_known-2-1, Start}
+
+-- Where the orders of each were read.
+abbrev first : After-is_sheet-second → After-shared_slice_known-1
+first c = c.before.before.before.before.before
+
+abbrev second : After-is_sheet-second → After-shared_slice_known-2-1
+second c = c.before.before.before.before
+
+pub overflow_cast-result : goal.overflow_cast-result
+overflow_cast-result c = omega (arith, (first c).shared_slice_known-1.given 0)
+
+pub overflow_cast-result-2 : goal.overflow_cast-result-2
+overflow_cast-result-2 c = omega (arith, (second c).shared_slice_known-2-1.given 0)
+
+pub overflow_add-result : goal.overflow_add-result
+overflow_add-result c = omega (arith, (first c).shared_slice_known-1.given 0, (second c).shared_slice_known-2-1.given 0)
+
+pub returns : goal.returns
+returns c =
+    let s : Start = c.before.before.before.before.before.before in
+    joins-by s.args.to.now s.args.from.now _ _ c.is_sheet-first.ensures c.is_sheet-second.ensures

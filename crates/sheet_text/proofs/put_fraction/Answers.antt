@@ -1,0 +1,25 @@
+-- `sheet_text::put_fraction` meets its contract: nothing to tell, or both numbers of the fraction in lowest terms.
+-- Assumes nothing.
+use native.Mathlib.Omega.{arith}
+use borrow.Author.Rules.{rules}
+use Rattle.text.specs.BufferLaws.{wrote-more}
+use Rattle.sheet_text.specs.WritingLaws.{fraction-none, fraction-some}
+use Rattle.sheet_text.proofs.put_fraction.Goals as goal
+use Rattle.sheet_text.proofs.put_fraction.Goals.{After-lowest_terms-fraction, After-put_figure, After-put_figure-next, After-put_none, Start}
+
+pub returns-then-lower-eq0 : goal.returns-then-lower-eq0
+returns-then-lower-eq0 c =
+    let put : After-put_none = c.before.before in
+    let s : Start = put.before.before.before.before in
+    (rw (fraction-none s.args.upper s.args.lower (omega arith)) put.put_none.ensures.0, search rules)
+
+pub returns : goal.returns
+returns c =
+    let below : After-put_figure = c.before.before in
+    let above : After-put_figure-next = below.before.before.before.before in
+    let made : After-lowest_terms-fraction = above.before.before in
+    let s : Start = made.before.before.before in (
+      rw (fraction-some s.args.upper s.args.lower made.lowest_terms-fraction.result made.lowest_terms-fraction.ensures (omega arith))
+          (wrote-more above.put_figure-next.ensures.0 below.put_figure.ensures.0),
+      search rules,
+    )

@@ -1,0 +1,12 @@
+-- `sheet_text::put_none` meets its contract: the minus sign, and the end of the line.
+-- Assumes nothing.
+use borrow.Author.Rules.{rules}
+use Rattle.text.specs.BufferLaws.{wrote-more}
+use Rattle.sheet_text.proofs.put_none.Goals as goal
+use Rattle.sheet_text.proofs.put_none.Goals.{After-put_byte, After-put_byte-next}
+
+pub returns : goal.returns
+returns c =
+    let end : After-put_byte = c.before.before in
+    let sign : After-put_byte-next = end.before.before.before.before in
+    (wrote-more sign.put_byte-next.ensures end.put_byte.ensures, search rules)

@@ -1,0 +1,47 @@
+-- `sheet_text::put_sums` meets its contract. The loop's invariant: the lines of the numbers passed are written, and each has at most
+-- eleven bytes. Assumes nothing.
+use Prim.Native.Nat.{◌*◌, ◌-◌, ◌≤◌}
+use mathlib.Core.Path.{◌≡◌}
+use native.Mathlib.Omega.{arith}
+use lib.ListN.{take}
+use Rattle.text.specs.Buffer.{Wrote}
+use Rattle.text.specs.BufferLaws.{wrote_none, wrote-more}
+use Rattle.sheet.specs.Sheet.{sum_count}
+use Rattle.sheet_text.specs.SheetText.{lines}
+use Rattle.sheet_text.specs.WritingLaws.{sums-more}
+use Rattle.sheet_text.proofs.put_sums.Goals as goal
+use Rattle.sheet_text.proofs.put_sums.Goals.{After-put_figure-next, At-loop-i, Start}
+
+pub loop-i-init : goal.loop-i-init
+loop-i-init c = (omega arith, omega arith, wrote_none (omega arith))
+
+pub bounds-figures-i : goal.bounds-figures-i
+bounds-figures-i c =
+    let s : Start = c.before.before.before.before.before in
+    omega (arith, s.requires.numbers)
+
+pub put_figure-next-requires : goal.put_figure-next-requires
+put_figure-next-requires c =
+    let loop : At-loop-i = c.before.before.before in
+    let s : Start = loop.before.before.before in
+    record { fits = omega (arith, s.requires.room, loop.loop-i.invariant.2.kept) }
+
+pub loop-i-preserved : goal.loop-i-preserved
+loop-i-preserved c =
+    let put : After-put_figure-next = c.before.before in
+    let loop : At-loop-i = put.before.before.before.before in
+    let s : Start = loop.before.before.before in (
+      omega arith,
+      omega arith,
+      rw (sums-more s.args.figures.now loop.loop-i.i (omega (arith, s.requires.numbers)))
+          (wrote-more loop.loop-i.invariant.2 put.put_figure-next.ensures.0),
+    )
+
+pub shape_of-out : goal.shape_of-out
+shape_of-out c = c.loop-i.invariant.2.kept
+
+pub returns : goal.returns
+returns c =
+    let loop : At-loop-i = c.before in
+    let all : loop.loop-i.i ≡ sum_count = omega (arith, loop.loop-i.invariant.0) in
+    (rw all at loop.loop-i.invariant.2, omega (arith, loop.loop-i.invariant.1))

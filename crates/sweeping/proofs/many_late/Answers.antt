@@ -1,0 +1,53 @@
+-- `sweeping::many_late` meets its contract. Assumes nothing.
+use Prim.Native.Nat.{ℕ, ◌+◌, ◌-◌}
+use mathlib.Core.Path.{◌≡◌, ap, ap₂, ◌∙◌}
+use mathlib.Core.Bool.{true, false}
+use native.Mathlib.Omega.{arith}
+use lib.Dec.{ltb}
+use lib.IntN.{ℤ}
+use lib.Signed.{lt_z}
+use mir.Syntax.{w32}
+use mir.Val.{to_z, of_z}
+use mir.Facts.{to_z-of_z}
+use borrow.Author.Rules.{rules}
+use Rattle.seconds.specs.Signed.{signed, read_back_lem}
+use Rattle.codes.specs.Code.{at0, point_of}
+use Rattle.codes.specs.HeldLaws.{held-point, list_length}
+use Rattle.sweeping.proofs.many_late.Goals as goal
+use Rattle.sweeping.proofs.many_late.Goals.{After-time_in-arg-1, Else-count-lt-MANY, Start}
+
+pub returns-then-count-lt-MANY : goal.returns-then-count-lt-MANY
+returns-then-count-lt-MANY c =
+    let few : ltb c.args.list.count 20 ≡ true = omega (signed, c.if-count-lt-MANY.true) in
+    rw few
+
+-- The number that is read, and read back.
+module _ (c : After-time_in-arg-1) where
+  abbrev many : Else-count-lt-MANY
+  many = c.before.before
+
+  abbrev start : Start
+  start = many.before
+
+  abbrev place : ℕ
+  place = start.args.list.place + start.args.list.count - 20
+
+  number-back : to_z w32 (of_z w32 (at0 start.args.work.now place)) ≡ at0 start.args.work.now place
+  number-back = read_back_lem _ c.time_in-arg-1.given
+
+pub time_in-requires : goal.time_in-requires
+time_in-requires c =
+    let s = start c in
+    let enough = (many c).if-count-lt-MANY.false in
+    let f = held-point s.requires.held (place c) (omega arith)
+    (omega (arith, list_length s.args.work.now s.args.list.place s.args.list.count)) in
+    let e = f.2 in
+    rw (number-back c) (omega signed)
+
+pub returns : goal.returns
+returns c =
+    let r : After-time_in-arg-1 = c.before in
+    let enough : ltb (start r).args.list.count 20 ≡ false = omega (signed, (many r).if-count-lt-MANY.false) in
+    let time-is : to_z w32 (of_z w32 c.time_in.result) ≡ (point_of (at0 (start r).args.work.now (place r))).time =
+    read_back_lem c.time_in.result c.time_in.type-inv ∙ c.time_in.ensures ∙ ap (λ (z : ℤ). (point_of z).time) (number-back r) in
+    rw enough (ap₂ lt_z (to_z-of_z (start r).ranges.time) time-is)

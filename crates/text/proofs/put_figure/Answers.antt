@@ -1,0 +1,10 @@
+-- `text::put_figure` meets its contract: the figures, and behind them the byte.
+-- Assumes nothing.
+use borrow.Author.Rules.{rules}
+use Rattle.text.specs.BufferLaws.{wrote-more}
+use Rattle.text.proofs.put_figure.Goals as goal
+
+pub returns : goal.returns
+returns c =
+    let count = c.put_count-next in
+    (wrote-more count.ensures.0 c.put_byte.ensures, search rules)

@@ -1,0 +1,21 @@
+-- `ties::to_first` meets its contract, by the match. Assumes nothing.
+use mathlib.Core.Path.{sym, ap}
+use mathlib.Core.Bool.{Bool}
+use mir.Facts.{to_z-of_z}
+use borrow.Author.Rules.{rules}
+use Rattle.ties.specs.Winning.{rule_of}
+use Rattle.ties.specs.declared.Tie.{Tie}
+use Rattle.ties.proofs.to_first.Goals as goal
+use Rattle.ties.proofs.to_first.Goals.{Start}
+
+-- What the rule of a variant says of the two times.
+abbrev said : Start → Tie → Bool
+said s t = rule_of t s.args.one s.args.other
+
+pub returns-in-Sooner : goal.returns-in-Sooner
+returns-in-Sooner c =
+    let s = c.before.before in
+    rw (to_z-of_z s.ranges.one, to_z-of_z s.ranges.other) (sym (ap (said s) c.in-Sooner.is))
+
+pub returns-in-First : goal.returns-in-First
+returns-in-First c = sym (ap (said c.before.before) c.in-First.is)
