@@ -56,7 +56,7 @@ module _ (c : After-lesser-cell) where
       let a-is = read_back_lem (at0 turn.loop-x.row turn.loop-x.x) c.lesser-arg-1.given
       ∙ turn.loop-x.invariant.0.behind turn.loop-x.x (omega arith) in
       let b-is = read_back_lem (at0 begun.args.pushed.now turn.loop-x.x) c.lesser-arg-in-loop-x-1.given in
-      read_back_lem c.lesser-cell.result c.lesser-cell.type-inv ∙ c.lesser-cell.ensures ∙ ap₂ min_z a-is b-is
+      read_back_lem c.lesser-cell.result c.lesser-cell.type_inv ∙ c.lesser-cell.ensures ∙ ap₂ min_z a-is b-is
 
 pub offset_bounds-row-x-in-loop-x : goal.offset_bounds-row-x-in-loop-x
 offset_bounds-row-x-in-loop-x c = omega (arith, there (turn c))

@@ -71,7 +71,7 @@ loop-x-preserved c =
     let back : gain + x - gain ≡ x = omega arith in
     let next : gain + x + 1 ≡ gain + (x + 1) = omega arith in
     let cell-is = read_back_lem (at0 s.args.row.now x) c.moved_on-arg-1.given in
-    let z-is = read_back_lem c.moved_on.result c.moved_on.type-inv ∙ c.moved_on.ensures
+    let z-is = read_back_lem c.moved_on.result c.moved_on.type_inv ∙ c.moved_on.ensures
     ∙ ap (λ (z : ℤ). moved_on (to_z w32 (of_z w32 s.args.limit)) (to_z w32 (of_z w32 s.args.delta)) z x) cell-is
     ∙ ap (λ (k : ℕ). moved_on (to_z w32 (of_z w32 s.args.limit)) (to_z w32 (of_z w32 s.args.delta)) (at0 s.args.row.now k) k) (sym back) in
     let low : gain ≤ gain + x = omega arith in

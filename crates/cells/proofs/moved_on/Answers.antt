@@ -28,11 +28,11 @@ module _ (c : After-greater) where
 
   less-is : to_z w32 (of_z w32 c.below.result) ≡ less
   less-is =
-      read_back_lem _ c.below.type-inv ∙ c.below.ensures
+      read_back_lem _ c.below.type_inv ∙ c.below.ensures
       ∙ ap (λ (z : ℤ). z -ℤ pos start.args.x) (to_z-of_z start.fits.limit)
 
   most-is : to_z w32 (of_z w32 c.greater.result) ≡ max_z cell less
-  most-is = read_back_lem _ c.greater.type-inv ∙ c.greater.ensures ∙ ap₂ max_z (to_z-of_z start.fits.cell) less-is
+  most-is = read_back_lem _ c.greater.type_inv ∙ c.greater.ensures ∙ ap₂ max_z (to_z-of_z start.fits.cell) less-is
 
   abbrev all : ℤ
   all = to_z w32 (of_z w32 c.greater.result) +ℤ to_z w32 (of_z w32 start.args.delta)

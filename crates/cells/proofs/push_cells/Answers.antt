@@ -43,7 +43,7 @@ module _ (c : After-above-first) where
       let s = begun pushed-on in
       let z = at0 pushed-on.move_cells.last.1.1.1.1.1.0 s.args.gain in
       let r : to_z w32 (of_z w32 z) ≡ z = read_back_lem z c.above-arg-1.given in
-      read_back_lem c.above-first.result c.above-first.type-inv ∙ c.above-first.ensures ∙ ap (λ (y : ℤ). y +ℤ pos s.args.gain) r
+      read_back_lem c.above-first.result c.above-first.type_inv ∙ c.above-first.ensures ∙ ap (λ (y : ℤ). y +ℤ pos s.args.gain) r
 
 pub put_run-requires : goal.put_run-requires
 put_run-requires c =

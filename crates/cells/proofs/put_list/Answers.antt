@@ -74,7 +74,7 @@ module _ (c : After-above) where
 
   top-is : top ≡ z (code_read ended) +ℤ pos (ended.cells_to-end.result - 1)
   top-is =
-      read_back_lem c.above.result c.above.type-inv ∙ c.above.ensures
+      read_back_lem c.above.result c.above.type_inv ∙ c.above.ensures
       ∙ ap (λ (y : ℤ). y +ℤ pos (ended.cells_to-end.result - 1)) (read (code_read ended))
 
 pub put_run-requires : goal.put_run-requires

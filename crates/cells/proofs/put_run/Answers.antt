@@ -39,7 +39,7 @@ pub loop-x-preserved : goal.loop-x-preserved
 loop-x-preserved c =
     let d = c.before in
     let i = d.loop-x.invariant in
-    let z-is = read_back_lem _ c.below.type-inv ∙ c.below.ensures in
+    let z-is = read_back_lem _ c.below.type_inv ∙ c.below.ensures in
     (omega (arith, i.0), omega (arith, d.loop-x-test.true), put-more i.2 i.0 (omega (arith, d.requires.room, d.loop-x-test.true)) _ z-is)
 
 pub shape_of-row : goal.shape_of-row

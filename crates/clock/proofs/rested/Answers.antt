@@ -12,4 +12,4 @@ overflow_add-result c = omega signed
 
 pub returns : goal.returns
 unfolding rest
-returns c = to_z-of_z (add-result c) ∙ ap (λ (z : ℤ). z +ℤ pos rest) (to_z-of_z c.ranges.finish)
+returns c = to_z-of_z (overflow_add-result c) ∙ ap (λ (z : ℤ). z +ℤ pos rest) (to_z-of_z c.ranges.finish)

@@ -13,7 +13,7 @@ use Rattle.fields.proofs.header_at.Goals as goal
 pub returns : goal.returns
 unfolding header_of header_word
 returns c =
-    let t0 : SFits w32 c.time_of-t0.result = record { sfits = c.time_of-t0.type-inv } in
+    let t0 : SFits w32 c.time_of-t0.result = record { sfits = c.time_of-t0.type_inv } in
     let word = c.word_at-word in
     rw (to_z-of_z t0 ∙ c.time_of-t0.ensures)
     (sym (header-decode word.result) ∙ ap (decode header_layout) word.ensures.is)

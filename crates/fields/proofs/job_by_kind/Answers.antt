@@ -85,8 +85,8 @@ returns c =
     let back : After-word_at-back = c.before.before.before in
     let front : After-word_at-front = back.before in
     let a : Start = front.before.before.before in
-    let ready : SFits w32 c.time_of-ready.result = record { sfits = c.time_of-ready.type-inv } in
-    let deadline : SFits w32 c.time_of-deadline.result = record { sfits = c.time_of-deadline.type-inv } in
+    let ready : SFits w32 c.time_of-ready.result = record { sfits = c.time_of-ready.type_inv } in
+    let deadline : SFits w32 c.time_of-deadline.result = record { sfits = c.time_of-deadline.type_inv } in
     let edge : ℕ = (8 + kind a) * a.args.place + (8 + kind a) in
     let before : edge - 4 ≡ at a + kind a = omega arith in
     let behind : edge ≡ at a + kind a + 4 = omega arith in

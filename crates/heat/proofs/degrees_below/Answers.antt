@@ -16,7 +16,7 @@ overflow_sub-result c = omega (signed, c.requires)
 -- The difference, as code reads it back from its bits,
 difference : (c : Start)
     → to_z w32 (of_z w32 (to_z w32 (of_z w32 c.args.mark) -ℤ to_z w32 (of_z w32 c.args.cell))) ≡ c.args.mark -ℤ c.args.cell
-difference c = to_z-of_z (sub-result c) ∙ ap₂ ◌-ℤ◌ (to_z-of_z c.ranges.mark) (to_z-of_z c.ranges.cell)
+difference c = to_z-of_z (overflow_sub-result c) ∙ ap₂ ◌-ℤ◌ (to_z-of_z c.ranges.mark) (to_z-of_z c.ranges.cell)
 
 -- and its size.
 few : (c : Start) → nat_abs (c.args.mark -ℤ c.args.cell) ≤ 40

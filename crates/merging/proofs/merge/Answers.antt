@@ -93,7 +93,7 @@ module _ (c : After-none_if-j) where
   x-read = to_z w32 (of_z w32 c.either-x.result)
 
   x-is : x-read ≡ cond (le_z (a both) (b both)) (a both) (b both)
-  x-is = read_back_lem _ c.either-x.type-inv ∙ c.either-x.ensures
+  x-is = read_back_lem _ c.either-x.type_inv ∙ c.either-x.ensures
 
   x-least : pos 0 ≤ℤ x-read
   x-least = let l = (turn both).loop-left.invariant in rw x-is (merging-least l.0 l.1 l.2 (one_left both))
@@ -131,8 +131,8 @@ loop-left-preserved c =
     let j-is = ap (λ (k : ℕ). l.j + k) d.none_if-j.ensures in
     let n-is = ap (λ (k : ℕ). l.n + k) (c.one_if_heavier-n.ensures ∙ ap (λ (k : ℕ). cond (ltb k l.best) 1 0) light) in
     let best-is = c.lesser-best.ensures ∙ ap (λ (k : ℕ). min k l.best) light in
-    let a-is = read_back_lem _ e.either-a.type-inv ∙ e.either-a.ensures in
-    let b-is = read_back_lem _ e.either-b.type-inv ∙ e.either-b.ensures in
+    let a-is = read_back_lem _ e.either-a.type_inv ∙ e.either-a.ensures in
+    let b-is = read_back_lem _ e.either-b.type_inv ∙ e.either-b.ensures in
     let at-hand = one_left t in (
       merging-turn l.inv.0 l.inv.1 l.inv.2 at-hand _ _ _ _ _ (x-is d) i-is j-is n-is best-is,
       next_here l.inv.0 l.inv.1 l.inv.2 at-hand _ _ _ (read_back_lem _ t.c-1.given) a-is i-is,

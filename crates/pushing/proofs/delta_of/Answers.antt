@@ -8,6 +8,9 @@ use borrow.Author.Rules.{rules}
 use Rattle.seconds.specs.Limits.{rest}
 use Rattle.pushing.proofs.delta_of.Goals as goal
 
+pub overflow_cast-result-2 : goal.overflow_cast-result-2
+overflow_cast-result-2 c = search rules
+
 pub returns : goal.returns
 unfolding rest
-returns c = to_z-of_z (cast-result-2 c) ∙ ap pos (omega arith)
+returns c = to_z-of_z (overflow_cast-result-2 c) ∙ ap pos (omega arith)

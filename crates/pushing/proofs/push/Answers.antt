@@ -125,7 +125,7 @@ loop-i-preserved c =
     let r : to_z w32 (of_z w32 (here h)) ≡ here h = read_back_lem (here h) c.later-arg-1.given in
     let test : lt_z (limit (known h)) (to_z w32 (of_z w32 (here h))) ≡ true = t.if-limit-work.true in
     let late : limit (known h) <ℤ here h = omega signed in
-    let number = read_back_lem c.later.result c.later.type-inv ∙ c.later.ensures in
+    let number = read_back_lem c.later.result c.later.type_inv ∙ c.later.ensures in
     let is = number ∙ ap (λ (z : ℤ). z +ℤ delta (known h)) r in
     pushing-more s.requires h.loop-i.invariant _ (inside t) late is
 

@@ -39,5 +39,5 @@ later-requires c =
 pub returns : goal.returns
 returns c =
     let s = c.before.before.before in
-    read_back_lem c.later.result c.later.type-inv
+    read_back_lem c.later.result c.later.type_inv
     ∙ c.later.ensures ∙ ap₂ ◌+ℤ◌ (number_is c.before) (to_z-of_z s.ranges.delta)

@@ -41,7 +41,7 @@ is-asked c =
 
 pub limit_by-limit-requires : goal.limit_by-limit-requires
 limit_by-limit-requires c =
-    let f : SFits w32 c.lesser.result = record { sfits = c.lesser.type-inv } in
+    let f : SFits w32 c.lesser.result = record { sfits = c.lesser.type_inv } in
     let free : InFree (asked c.args.by) = asked-free (late c.before) in
     omega (signed, is-asked c)
 
@@ -59,8 +59,8 @@ module _ (c : After-after-end) where
   searched : Searched (limit_of (asked s.args.by))
   searched =
       let l = c.before in
-      let f : SFits w32 l.lesser.result = record { sfits = l.lesser.type-inv } in
-      let g : SFits w32 l.limit_by-limit.result = record { sfits = l.limit_by-limit.type-inv } in
+      let f : SFits w32 l.lesser.result = record { sfits = l.lesser.type_inv } in
+      let g : SFits w32 l.limit_by-limit.result = record { sfits = l.limit_by-limit.type_inv } in
       let limit : l.limit_by-limit.result ≡ limit_of (asked s.args.by) =
       l.limit_by-limit.ensures ∙ ap limit_of (to_z-of_z f ∙ is-asked l.before) in
       let is : Searched (to_z w32 (of_z w32 l.limit_by-limit.result)) = c.after-end.ensures in
@@ -98,7 +98,7 @@ pub returns : goal.returns
 returns c =
     let r = c.before.before in
     let p = point_of (number r) in
-    let t : SFits w32 c.time_in.result = record { sfits = c.time_in.type-inv } in
+    let t : SFits w32 c.time_in.result = record { sfits = c.time_in.type_inv } in
     let weight : c.weight_in.result ≡ p.weight =
     c.weight_in.ensures ∙ ap (λ (z : ℤ). (point_of z).weight) (to_z-of_z (fits r)) in
     let time : to_z w32 (of_z w32 c.time_in.result) ≡ p.time =

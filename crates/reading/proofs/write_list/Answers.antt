@@ -54,7 +54,7 @@ loop-k-preserved c =
     let r = t.before.before in
     let l = r.loop-k in
     let p = point_of (number r) in
-    let f : SFits w32 t.time_in.result = record { sfits = t.time_in.type-inv } in
+    let f : SFits w32 t.time_in.result = record { sfits = t.time_in.type_inv } in
     let x = to_z w32 (of_z w32 t.time_in.result) in
     let y = to_z w32 w.weight_in.result in
     let time : x ≡ p.time = to_z-of_z f ∙ t.time_in.ensures ∙ ap (λ (z : ℤ). (point_of z).time) (to_z-of_z (fits r)) in

@@ -31,7 +31,7 @@ pub overflow_sub-result : goal.overflow_sub-result
 overflow_sub-result c = let r = range c in let f = fits c in omega (signed, r.period, f.period)
 
 pub overflow_sub-result-2 : goal.overflow_sub-result-2
-overflow_sub-result-2 c = let r = range c in let f = fits c in omega (signed, r.period, r.deadline, f.period, f.deadline, sub-result c)
+overflow_sub-result-2 c = let r = range c in let f = fits c in omega (signed, r.period, r.deadline, f.period, f.deadline, overflow_sub-result c)
 
 pub returns : goal.returns
 unfolding in_period rest
@@ -39,8 +39,8 @@ returns c =
     let j : Repeating = job c in
     let f : RepeatingFits j = fits c in
     rw (
-      to_z-of_z (sub-result-2 c),
-      to_z-of_z (sub-result c),
+      to_z-of_z (overflow_sub-result-2 c),
+      to_z-of_z (overflow_sub-result c),
       to_z-of_z f.phase,
       to_z-of_z f.deadline,
       to_z-of_z f.period,

@@ -29,7 +29,7 @@ module _ (c : After-struct_told-1) where
   ready-back = read_back_lem start.args.job.ready c.struct_told-1.given.1.0.1
 
   delta-is : to_z w32 (of_z w32 c.delta_of-delta.result) ≡ delta_of start.args.rate
-  delta-is = read_back_lem c.delta_of-delta.result c.delta_of-delta.type-inv ∙ c.delta_of-delta.ensures
+  delta-is = read_back_lem c.delta_of-delta.result c.delta_of-delta.type_inv ∙ c.delta_of-delta.ensures
 
 pub waits-requires : goal.waits-requires
 waits-requires c =
@@ -47,7 +47,7 @@ module _ (c : After-waits) where
   written : to_z w32 (of_z w32 c.waits.result)
       ≡ waited_as begun.args.job.ready (delta_of begun.args.rate) (number c.before)
   written =
-      read_back_lem c.waits.result c.waits.type-inv
+      read_back_lem c.waits.result c.waits.type_inv
       ∙ rw (ready-back c.before, delta-is c.before, number-back c.before) at c.waits.ensures
 
 pub returns-then-job : goal.returns-then-job

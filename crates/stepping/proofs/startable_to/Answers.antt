@@ -15,7 +15,7 @@ module _ (c : After-last_start) where
   entry = c.before.before
 
   last-is : to_z w32 (of_z w32 c.last_start.result) ≡ last_start entry.args.job entry.args.rate
-  last-is = read_back_lem c.last_start.result c.last_start.type-inv ∙ c.last_start.ensures
+  last-is = read_back_lem c.last_start.result c.last_start.type_inv ∙ c.last_start.ensures
 
 pub limit_by-requires : goal.limit_by-requires
 limit_by-requires c = rw (last-is c) (entry c).requires.last
@@ -25,5 +25,5 @@ returns c =
     let l : After-limit_by = c.before in
     let s = entry l.before in
     let limit_is : to_z w32 (of_z w32 l.limit_by.result) ≡ limit_of (last_start s.args.job s.args.rate) =
-    read_back_lem l.limit_by.result l.limit_by.type-inv ∙ l.limit_by.ensures ∙ ap limit_of (last-is l.before) in
+    read_back_lem l.limit_by.result l.limit_by.type_inv ∙ l.limit_by.ensures ∙ ap limit_of (last-is l.before) in
     rw limit_is at c.after.ensures

@@ -88,7 +88,7 @@ module _ (c : After-time_in) where
 
   last-time-is : to_z w32 (of_z w32 c.time_in.result) ≡ (point_of (last (numbers past))).time
   last-time-is =
-      read_back_lem c.time_in.result c.time_in.type-inv
+      read_back_lem c.time_in.result c.time_in.type_inv
       ∙ c.time_in.ensures ∙ ap (λ (z : ℤ). (point_of z).time) (last-back (numbers past))
 
   early-is : lt_z (to_z w32 (of_z w32 c.time_in.result)) (to_z w32 (of_z w32 (start (numbers past)).args.job.ready))

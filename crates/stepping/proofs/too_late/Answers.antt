@@ -19,11 +19,11 @@ returns c =
     let told = l.before in
     let s : Start = told.before in
     let last-is : to_z w32 (of_z w32 l.last_start.result) ≡ last_start s.args.job s.args.rate =
-    read_back_lem l.last_start.result l.last_start.type-inv ∙ l.last_start.ensures in
+    read_back_lem l.last_start.result l.last_start.type_inv ∙ l.last_start.ensures in
     let free-is : to_z w32 (of_z w32 t.time_in.result) ≡ (point_of s.args.first).time =
-    read_back_lem t.time_in.result t.time_in.type-inv ∙ t.time_in.ensures ∙ ap (λ (z : ℤ). (point_of z).time) (to_z-of_z s.ranges.first) in
+    read_back_lem t.time_in.result t.time_in.type_inv ∙ t.time_in.ensures ∙ ap (λ (z : ℤ). (point_of z).time) (to_z-of_z s.ranges.first) in
     let ready-is : to_z w32 (of_z w32 s.args.job.ready) ≡ s.args.job.ready =
     read_back_lem s.args.job.ready told.struct_told-1.given.1.0.1 in
     let start_is : to_z w32 (of_z w32 c.greater.result) ≡ max_z s.args.job.ready (point_of s.args.first).time =
-    read_back_lem c.greater.result c.greater.type-inv ∙ c.greater.ensures ∙ ap₂ max_z ready-is free-is in
+    read_back_lem c.greater.result c.greater.type_inv ∙ c.greater.ensures ∙ ap₂ max_z ready-is free-is in
     ap₂ lt_z last-is start_is

@@ -49,5 +49,5 @@ returns c =
     let r : After-time_in-arg-1 = c.before in
     let enough : ltb (start r).args.list.count 20 ≡ false = omega (signed, (many r).if-count-lt-MANY.false) in
     let time-is : to_z w32 (of_z w32 c.time_in.result) ≡ (point_of (at0 (start r).args.work.now (place r))).time =
-    read_back_lem c.time_in.result c.time_in.type-inv ∙ c.time_in.ensures ∙ ap (λ (z : ℤ). (point_of z).time) (number-back r) in
+    read_back_lem c.time_in.result c.time_in.type_inv ∙ c.time_in.ensures ∙ ap (λ (z : ℤ). (point_of z).time) (number-back r) in
     rw enough (ap₂ lt_z (to_z-of_z (start r).ranges.time) time-is)

@@ -86,10 +86,10 @@ module _ (c : After-delta_of) where
   ready-back = read_back_lem entry.args.job.ready struct.struct_told-1.given.1.0.1
 
   limit_is : to_z w32 (of_z w32 c.limit_by.result) ≡ limit_of entry.args.job.ready
-  limit_is = read_back_lem c.limit_by.result c.limit_by.type-inv ∙ c.limit_by.ensures ∙ ap limit_of ready-back
+  limit_is = read_back_lem c.limit_by.result c.limit_by.type_inv ∙ c.limit_by.ensures ∙ ap limit_of ready-back
 
   delta-is : to_z w32 (of_z w32 c.delta_of.result) ≡ delta_of entry.args.rate
-  delta-is = read_back_lem c.delta_of.result c.delta_of.type-inv ∙ c.delta_of.ensures
+  delta-is = read_back_lem c.delta_of.result c.delta_of.type_inv ∙ c.delta_of.ensures
 
 pub limit_by-requires : goal.limit_by-requires
 limit_by-requires c =

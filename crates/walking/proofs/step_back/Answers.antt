@@ -102,7 +102,7 @@ module _ (c : After-last_start-last) where
       let deadline = to_z w32 (of_z w32 s.args.job.deadline) in
       let by = to_z w32 (of_z w32 s.args.trail.by) in
       let made : c.last_start-last.result ≡ last_start_of long deadline by = c.last_start-last.ensures in
-      read_back_lem c.last_start-last.result c.last_start-last.type-inv
+      read_back_lem c.last_start-last.result c.last_start-last.type_inv
       ∙ made
       ∙ rw (to_z-of_z (fitting s).long, to_z-of_z (fitting s).deadline, by-back s)
 
@@ -164,7 +164,7 @@ module _ (c : After-either_time) where
   time-is : to_z w32 (of_z w32 c.either_time.result)
       ≡ cond (out given) (start given).args.trail.by (last (start given))
   time-is =
-      read_back_lem c.either_time.result c.either_time.type-inv
+      read_back_lem c.either_time.result c.either_time.type_inv
       ∙ c.either_time.ensures
       ∙ ap₂ (λ (x y : ℤ). cond (out given) x y) (by-back (start given)) (last-is (told given))
 
