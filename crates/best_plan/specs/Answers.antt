@@ -2,7 +2,7 @@
 -- feasible; what a refusal names, when 6, 10, 14 and 15 are given, and that 8, 11, 12 and 13 never are.
 use Rattle.std.specs.Prelude.{ℕ, ◌<◌, ◌≡◌, refl, true, false, ◌↔◌, ◌≢◌, List, T, ltb, ℤ}
 use Rattle.std.proofs.Common.{sym, ap, ◌∙◌, true≢false, arith}
-use Rattle.std.proofs.Math.Logic.{Iff·trans}
+use Rattle.std.proofs.Math.Logic.Iff
 use Rattle.std.proofs.Math.ListN.{length}
 use borrow.Author.Tests.{ltb-true, lt-ltb}
 use borrow.Table.Steps.{cases}
@@ -90,21 +90,21 @@ module _ (order plan : List ℕ) (work : List ℤ) where
 
   pub best-six : (p f : ℕ) → best_numbers.refusal ≡ in_field 6 p f
       ↔ ((judge (header_checks order) ≡ fine) × BadField (numbers_of order) p f)
-  best-six p f = Iff·trans (checked-says all (best_in order plan) (in_field 6 p f) (λ e. omega arith)) (best-checks-six p f)
+  best-six p f = Iff.trans (checked-says all (best_in order plan) (in_field 6 p f) (λ e. omega arith)) (best-checks-six p f)
 
   pub best-ten : best_numbers.refusal ≡ plainly 10 ↔ ((judge (legal_checks order plan) ≡ fine) × (length work < area))
-  best-ten = Iff·trans (checked-says all (best_in order plan) (plainly 10) (λ e. omega arith)) ten-is
+  best-ten = Iff.trans (checked-says all (best_in order plan) (plainly 10) (λ e. omega arith)) ten-is
 
   pub best-fourteen : best_numbers.refusal ≡ plainly 14 ↔ ((judge (order_checks order) ≡ fine) × NotWhole plan)
   best-fourteen =
-      Iff·trans (checked-says all (best_in order plan) (plainly 14) (λ e. omega arith))
-      (Iff·trans (as-legal (plainly 14) tt) (checks-fourteen order plan))
+      Iff.trans (checked-says all (best_in order plan) (plainly 14) (λ e. omega arith))
+      (Iff.trans (as-legal (plainly 14) tt) (checks-fourteen order plan))
 
   pub best-fifteen : best_numbers.refusal ≡ plainly 15
       ↔ ((judge (order_checks order) ≡ fine) × ((¬ NotWhole plan) × SetBits (count_of order) plan))
   best-fifteen =
-      Iff·trans (checked-says all (best_in order plan) (plainly 15) (λ e. omega arith))
-      (Iff·trans (as-legal (plainly 15) tt) (checks-fifteen order plan))
+      Iff.trans (checked-says all (best_in order plan) (plainly 15) (λ e. omega arith))
+      (Iff.trans (as-legal (plainly 15) tt) (checks-fifteen order plan))
 
   pub best-never : let n = best_numbers.refusal.number in (n ≢ 8) × (n ≢ 11) × (n ≢ 12) × (n ≢ 13)
   unfolding best_checks legal_checks sent_checks header_checks job_checks weight_checks

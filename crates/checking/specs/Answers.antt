@@ -2,7 +2,7 @@
 -- when the checks are passed and the plan is legal.
 use Rattle.std.specs.Prelude.{ℕ, ◌≡◌, refl, Bool, true, false, cond, ◌↔◌, ◌≢◌, List, [], T, ℤ}
 use Rattle.std.proofs.Common.{sym, ap, arith}
-use Rattle.std.proofs.Math.Logic.{Iff·trans}
+use Rattle.std.proofs.Math.Logic.Iff
 use Rattle.packed.specs.declared.Refusal.{Refusal}
 use Rattle.packed.specs.Judge.{in_field, plainly, no_refusal, Check, Verdict, fine, refused, judge}
 use Rattle.packed.specs.JudgeLaws.{refused-fine, refused-same, without, never, given-behind, every_number, number-passes}
@@ -132,16 +132,16 @@ module _ (order plan : List ℕ) where
   pub legal-six : (p f : ℕ) → legal_numbers.refusal ≡ in_field 6 p f
       ↔ ((judge (header_checks order) ≡ fine) × BadField (numbers_of order) p f)
   legal-six p f =
-      Iff·trans (checked-says (legal_checks order plan) (legal_in order plan) (in_field 6 p f) (λ e. omega arith)) (legal-checks-six p f)
+      Iff.trans (checked-says (legal_checks order plan) (legal_in order plan) (in_field 6 p f) (λ e. omega arith)) (legal-checks-six p f)
 
   pub legal-fourteen : legal_numbers.refusal ≡ plainly 14 ↔ ((judge (order_checks order) ≡ fine) × NotWhole plan)
   legal-fourteen =
-      Iff·trans (checked-says (legal_checks order plan) (legal_in order plan) (plainly 14) (λ e. omega arith)) checks-fourteen
+      Iff.trans (checked-says (legal_checks order plan) (legal_in order plan) (plainly 14) (λ e. omega arith)) checks-fourteen
 
   pub legal-fifteen : legal_numbers.refusal ≡ plainly 15
       ↔ ((judge (order_checks order) ≡ fine) × ((¬ NotWhole plan) × SetBits (count_of order) plan))
   legal-fifteen =
-      Iff·trans (checked-says (legal_checks order plan) (legal_in order plan) (plainly 15) (λ e. omega arith)) checks-fifteen
+      Iff.trans (checked-says (legal_checks order plan) (legal_in order plan) (plainly 15) (λ e. omega arith)) checks-fifteen
 
   pub legal-never : let n = legal_numbers.refusal.number in (n ≢ 8) × (n ≢ 10) × (n ≢ 11) × (n ≢ 12) × (n ≢ 13)
   unfolding legal_checks sent_checks header_checks job_checks weight_checks

@@ -3,7 +3,8 @@
 use Rattle.std.specs.Prelude.{ℕ, ◌*◌, ◌≤◌, ◌≡◌, Bool, true, false, cond, List, ◌++◌, ◌↔◌, ◌≢◌, ◌⊎◌, ltb, ℤ, length, drop, ◌≤ℤ◌}
 use Rattle.std.proofs.Math.Path.{refl}
 use Rattle.std.proofs.Common.{sym, ap, ◌∙◌, ⊎_elim}
-use Rattle.std.proofs.Math.Logic.{inl, inr, Iff·trans}
+use Rattle.std.proofs.Math.Logic.{inl, inr}
+use Rattle.std.proofs.Math.Logic.Iff
 use Rattle.std.proofs.Math.Option.{Option, none, some, map}
 use Rattle.seconds.specs.Signed.{signed}
 use Rattle.order.specs.Job.{Point}
@@ -154,7 +155,7 @@ module _ (first second : List ℕ) (work : List ℤ) where
   unfolding choosing_checks
   verdict-six p f =
       let orders = order_checks first ++ order_checks second in
-      Iff·trans (given-before orders (room_checks area (length work)) (in_field 6 p f) tt) (there, back)
+      Iff.trans (given-before orders (room_checks area (length work)) (in_field 6 p f) tt) (there, back)
     where
       go : (v : Judged) → judge (order_checks first) ≡ v → or_else v (judge (order_checks second)) ≡ refused (in_field 6 p f)
           → (judge (order_checks first) ≡ refused (in_field 6 p f))

@@ -2,7 +2,7 @@
 -- empty profile and the bus-free time of the order do.
 use Rattle.std.specs.Prelude.{ℕ, ◌+◌, ◌≡◌, refl, not, ◌↔◌, ◌≢◌, List, [], ltb, ℤ, length}
 use Rattle.std.proofs.Common.{ap, arith}
-use Rattle.std.proofs.Math.Logic.{Iff·trans}
+use Rattle.std.proofs.Math.Logic.Iff
 use Rattle.seconds.specs.Limits.{most_weight}
 use Rattle.order.specs.Job.{weight_of}
 use Rattle.profile.specs.Profile.{extend, last_weight}
@@ -87,7 +87,7 @@ module _ (ns : List ℤ) (bytes : List ℕ) (out work : List ℤ) where
   pub extend-six : (p f : ℕ) → extend_refusal (extended_of ns bytes out work) ≡ in_field 6 p f
       ↔ ((judge (header_checks bytes) ≡ fine) × BadField (numbers_of bytes) p f)
   extend-six p f =
-      Iff·trans
+      Iff.trans
       (answer-says (numbers_of bytes) told (λ r. refl) (nowhere {n = 0} refl) (in_field 6 p f) (λ e. omega arith)
       (extend_verdict ns bytes out work))
       (extend-checks-six p f)

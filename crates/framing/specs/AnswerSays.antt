@@ -2,7 +2,7 @@
 -- the frame, whose every job leaves the bus free by its end.
 use Rattle.std.specs.Prelude.{ℕ, ◌+◌, ◌*◌, ◌%◌, ◌≤◌, ◌<◌, ◌≡◌, refl, Bool, ◌↔◌, ◌≢◌, List, [], ◌++◌, T, ltb, eqb, ℤ, pos, length, take, drop}
 use Rattle.std.proofs.Common.{sym, ap, ◌∙◌, arith, take_at, ltb-true, ltb-false, lt-ltb, le-ltb, eqb-true, eq-eqb}
-use Rattle.std.proofs.Math.Logic.{Iff·trans}
+use Rattle.std.proofs.Math.Logic.Iff
 use borrow.Table.Steps.{cases}
 use Rattle.order.specs.Job.{Order}
 use Rattle.order.specs.Later.{AllInFrame}
@@ -153,10 +153,10 @@ unfolding record_bytes made_checks weight_checks
 sixteen-is zs room p =
     let rooms = room_checks (4 + 8 * repeat_count zs) room in
     let told : Verdict → Refusal = λ v. refusal_of (framed_by zs v) in
-    Iff·trans (answer-says [] told (λ r. refl) (nowhere {n = 0} refl) (at_place 16 p) (λ e. omega arith) (judge (frame_checks zs room)))
-    (Iff·trans (given-before (making_checks zs) rooms (at_place 16 p) tt)
-    (Iff·trans (given-before (given_checks zs ++ made_checks zs) (weight_checks 0 (frame_numbers zs)) (at_place 16 p) tt)
-    (Iff·trans (given-before (given_checks zs) (made_checks zs) (at_place 16 p) tt) (given-sixteen zs p))))
+    Iff.trans (answer-says [] told (λ r. refl) (nowhere {n = 0} refl) (at_place 16 p) (λ e. omega arith) (judge (frame_checks zs room)))
+    (Iff.trans (given-before (making_checks zs) rooms (at_place 16 p) tt)
+    (Iff.trans (given-before (given_checks zs ++ made_checks zs) (weight_checks 0 (frame_numbers zs)) (at_place 16 p) tt)
+    (Iff.trans (given-before (given_checks zs) (made_checks zs) (at_place 16 p) tt) (given-sixteen zs p))))
 
 -- A test that 0 and the number of every check pass is passed by the number told.
 pub frame-passes : (zs : List ℤ) (room : ℕ) (test : ℕ → Bool) → T (test 0) → T (every_number test (frame_checks zs room))

@@ -59,6 +59,7 @@ module _ (o : Order) (w : ℕ) where
   less_one c h = cases (can c) (λ f. rw (f, le-ltb w (keeps c) (h f))) (λ f. rw f)
 
   listed-less : (cs : List Choice) → none_more o w cs ≡ true → (c : Choice) → Memᴰ c cs → can c ≡ true → keeps c ≤ w
+  listed-less [] e c x3 f = elim x3 [ ]
   listed-less (d ∷ cs) e c (Memᴰ.head same) f =
       let b = both (not (can d && ltb w (keeps d))) (none_more o w cs) e in
       rw same (one_less d b.0 (rw same at f))

@@ -197,6 +197,7 @@ from_more f (q ∷ ps) p = from_more (lcm f q) ps p
 
 -- A multiple of each number of the list.
 from_each : (f : ℕ) (ps : List ℕ) (p : ℕ) → Memᴰ p ps → Multiple p (lcm_from f ps)
+from_each f [] p x' = elim x' [ ]
 from_each f (q ∷ ps) p (Memᴰ.head e) =
     rw e (multiple-trans q (lcm f q) (lcm_from (lcm f q) ps) (lcm-right f q) (from-multiple (lcm f q) ps))
 from_each f (q ∷ ps) p (Memᴰ.tail m) = from_each (lcm f q) ps p m

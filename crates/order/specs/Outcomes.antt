@@ -23,6 +23,7 @@ module _ {ℓ ℓ'} {A : Type ℓ} {B : Type ℓ'} (f : A → Option B) where
 
   -- What something listed gives is among the results,
   pub result-in : (l : List A) {a : A} {b : B} → Memᴰ a l → f a ≡ some b → Memᴰ b (results f l)
+  result-in [] {a = a} {b = b} x'' g = elim x'' [ ]
   result-in (x ∷ l) (Memᴰ.head e) g = rw (← e) (rw g (Memᴰ.head refl))
   result-in (x ∷ l) (Memᴰ.tail m) g = still-in (f x) (results f l) (result-in l m g)
 
@@ -57,6 +58,7 @@ outcomes_from js p = results (λ (c : Choice). run js c p) (choices js)
 -- Where a choice runs to from a listed point is an outcome,
 pub outcome-in : (js : List Job) (ps : List Point) (c : Choice) {p r : Point}
     → Memᴰ p ps → run js c p ≡ some r → Memᴰ r (outcomes js ps)
+outcome-in js [] c {p = p} {r = r} x'' g = elim x'' [ ]
 outcome-in js (q ∷ ps) c {p} (Memᴰ.head e) g =
     let here = result-in (λ (d : Choice). run js d q) (choices js) (choice-listed js c p g) (rw e at g) in
     Memᴰ.append_left (outcomes js ps) here

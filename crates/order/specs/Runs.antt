@@ -204,6 +204,7 @@ run-in-range (j ∷ js) (x ∷ c) p w h e =
 
 with_each_lem : (xs : List ℕ) (cs : List Choice) {x : ℕ} {c : Choice}
     → Memᴰ x xs → Memᴰ c cs → Memᴰ (x ∷ c) (with_each xs cs)
+with_each_lem [] cs {c = c} x4 n = elim x4 [ ]
 with_each_lem (y ∷ xs) cs (Memᴰ.head e) n = rw e (Memᴰ.append_left (with_each xs cs) (Memᴰ.map (λ (c : Choice). y ∷ c) n))
 with_each_lem (y ∷ xs) cs (Memᴰ.tail m) n = Memᴰ.append_right (map (λ (c : Choice). y ∷ c) cs) (with_each_lem xs cs m n)
 

@@ -2,7 +2,7 @@
 use Rattle.std.specs.Prelude.{ℕ, ◌<◌, ◌≡◌, refl, not, ◌&&◌, ◌↔◌, ◌≢◌, ◌⊎◌, List, ◌++◌, T, eqb, pos}
 use Rattle.std.proofs.Common.{sym, ap, ◌∙◌, inl, inr, arith, eqb-true, eq-eqb}
 use Rattle.std.proofs.Math.Bool.{and-eq-true_iff}
-use Rattle.std.proofs.Math.Logic.{Iff·trans}
+use Rattle.std.proofs.Math.Logic.Iff
 use Rattle.std.proofs.lemmas.Bool.{not-false}
 use borrow.Table.Steps.{cases}
 use Rattle.seconds.specs.RangesLaws.{same-yes}
@@ -28,7 +28,7 @@ pub record NineteenIs (bytes : List ℕ) (cs : List Check) : Type 0 where
 pub nineteen-behind : {bytes : List ℕ} {cs : List Check} (ds : List Check) → T (without 19 ds) → NineteenIs bytes cs
     → NineteenIs bytes (cs ++ ds)
 nineteen-behind {bytes} {cs} ds none is =
-    record { given = Iff·trans (given-before cs ds (plainly 19) none) is.given; plain = λ e n. go (judge cs) refl (sym (judge-append cs ds) ∙ e) n }
+    record { given = Iff.trans (given-before cs ds (plainly 19) none) is.given; plain = λ e n. go (judge cs) refl (sym (judge-append cs ds) ∙ e) n }
   where
     go : (v : Verdict) → judge cs ≡ v → {r : Refusal} → or_else v (judge ds) ≡ refused r → r.number ≡ 19 → r ≡ plainly 19
     go fine d e n = absurd (never 19 ds none e n)

@@ -2,7 +2,7 @@
 -- written reads back as the plan's mask and the starts of the jobs that it keeps.
 use Rattle.std.specs.Prelude.{ℕ, ◌*◌, ◌^◌, ◌≤◌, ◌≡◌, refl, false, ◌↔◌, ◌≢◌, List, ◌++◌, ℤ, length, take, drop}
 use Rattle.std.proofs.Common.{sym, ap, ap₂, ◌∙◌, arith}
-use Rattle.std.proofs.Math.Logic.{Iff·trans}
+use Rattle.std.proofs.Math.Logic.Iff
 use Rattle.std.proofs.Math.Option.{Option, none, some, map-eq-none_iff}
 use Rattle.std.proofs.Math.Seq.{take-append_seam, drop-append_seam}
 use Rattle.order.specs.Choice.{Choice, feasible}
@@ -78,7 +78,7 @@ module _ (order out : List ℕ) (work : List ℤ) where
   pub write-six : (p f : ℕ) → told (write_verdict order out work) ≡ in_field 6 p f
       ↔ ((judge (header_checks order) ≡ fine) × BadField (numbers_of order) p f)
   write-six p f =
-      Iff·trans
+      Iff.trans
       (answer-says (numbers_of order) told (λ r. refl) passed-told.0 (in_field 6 p f) passed-told.1 (write_verdict order out work))
       (write-checks-six p f)
 

@@ -3,7 +3,7 @@
 use Rattle.std.specs.Prelude.{ℕ, ◌+◌, ◌≤◌, ◌≡◌, false, ◌↔◌, ◌≢◌, List, ◌++◌, ℤ, pos, length}
 use Rattle.std.proofs.Math.Path.{refl, sym}
 use Rattle.std.proofs.Common.{ap, ◌∙◌, arith}
-use Rattle.std.proofs.Math.Logic.{Iff·trans}
+use Rattle.std.proofs.Math.Logic.Iff
 use Rattle.std.proofs.Math.Option.{Option, none, some, map-eq-none_iff, map-eq-some_iff}
 use Rattle.std.specs.Int.Count.{ones}
 use Rattle.seconds.specs.Limits.{most_jobs}
@@ -148,7 +148,7 @@ module _ (bytes : List ℕ) (starts work : List ℤ) where
       ↔ ((judge (header_checks bytes) ≡ fine) × BadField (numbers_of bytes) p f)
   plan-six p f =
       let other : (told fine).number ≢ 6 = passed-told.1 6 (λ e. omega arith) (λ e. omega arith) in
-      Iff·trans
+      Iff.trans
       (answer-says (numbers_of bytes) told (λ r. refl) passed-told.0 (in_field 6 p f) other (plan_verdict bytes starts work))
       (plan-checks-six p f)
 

@@ -34,6 +34,7 @@ pub record ValidProfile (ps : List Point) : Type 0 where
   pub within : (p : Point) → Memᴰ p ps → PointWithin p
 
 points-within : (ps : List Point) → T (points_within ps) → (p : Point) → Memᴰ p ps → PointWithin p
+points-within [] t p x'' = elim x'' [ ]
 points-within (q ∷ ps) t p (Memᴰ.head e) =
     rw e (record {
       time = (between-true earliest latest_free q.time).0 (is_true (is_free q.time) (search and_l));

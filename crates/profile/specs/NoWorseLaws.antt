@@ -68,6 +68,7 @@ pub start-no-worse : {s t : ℤ} → s ≤ℤ t → NoWorse (start_point s ∷ [
 start-no-worse {s} {t} h = (no-worse-gives (rising-one (start_point s)) (rising-one (start_point t))).1 sooner
   where
     sooner : start_point t ∷ [] ⊑ start_point s ∷ []
+    sooner r (Rattle.order.specs.Given.there x3) = elim x3 [ ]
     sooner r (here c) = here {p = start_point s} (record { soon = omega (signed, h, c.soon); heavy = c.heavy })
 
 -- so an easier order's profile is no worse.

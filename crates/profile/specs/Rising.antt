@@ -34,6 +34,7 @@ below-further h (below_more k b) = below_more (below-trans h k) (below-further h
 
 -- A point below a list is below each member of it.
 pub below-member : {p q : Point} {ps : List Point} → BelowAll p ps → Memᴰ q ps → Below p q
+below-member {p = p} {q = q} below_none x3 = elim x3 [ ]
 below-member (below_more h b) (Memᴰ.head e) = rw e h
 below-member (below_more h b) (Memᴰ.tail m) = below-member b m
 

@@ -150,6 +150,7 @@ lookup-by (q ∷ ps) t {p} e = go (lookup ps t) refl (le_z q.time t) refl (λ f.
 -- The heavier of two points of a rising list is the later.
 rising-later : {ps : List Point} {p q : Point} → Rising ps → Memᴰ p ps → Memᴰ q ps → p.weight ≤ q.weight
     → p.time ≤ℤ q.time
+rising-later {p = p} {q = q} rising_none x7 _ h = elim x7 [ ]
 rising-later (rising-more b r) (Memᴰ.head d) (Memᴰ.head e) h = omega (signed, ap (λ (x : Point). x.time) (d ∙ sym e))
 rising-later (rising-more b r) (Memᴰ.head d) (Memᴰ.tail m) h =
     let k = below-member b m in omega (signed, ap (λ (x : Point). x.time) d)

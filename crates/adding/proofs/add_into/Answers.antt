@@ -16,7 +16,7 @@ use Rattle.adding.proofs.add_into.Goals.{After-join_into, After-one_order-one, A
 
 -- Where planning was called.
 abbrev start : After-plan → Start
-start p = p.before.before.before.before.before
+start p = (goal.at.After-plan p).Start
 
 -- What it answered is the answer for the bytes,
 is-answered : (p : After-plan) → p.plan.result ≡ answered (start p).args.bytes.now
@@ -26,26 +26,26 @@ is-answered p =
 
 -- and its figures are those of one order.
 abbrev planned : After-one_order-one → After-plan
-planned o = o.before.before.before
+planned o = (goal.at.After-one_order-one o).After-plan
 
 one-is : (o : After-one_order-one) → o.one_order-one.result ≡ numbers_of (one_order (answered (start (planned o)).args.bytes.now))
 one-is o = o.one_order-one.ensures ∙ ap (λ p. numbers_of (one_order p)) (is-answered (planned o))
 
 pub one_order-one-requires : goal.one_order-one-requires
 one_order-one-requires c =
-    let p : After-plan = c.before.before in
+    let p : After-plan = (goal.at.one_order-one-requires c).After-plan in
     rw (is-answered p) (answer-countable (start p).args.bytes.now)
 
 pub join_into-requires : goal.join_into-requires
 join_into-requires c =
-    let o : After-one_order-one = c.before.before in
+    let o : After-one_order-one = (goal.at.join_into-requires c).After-one_order-one in
     let s = start (planned o) in
     one-joins s.args.figures.now s.args.bytes.now s.args.work.now s.requires o.one_order-one.result (one-is o)
 
 pub returns : goal.returns
 returns c =
-    let j : After-join_into = c.before.before in
-    let o : After-one_order-one = j.before.before.before in
+    let j : After-join_into = (goal.at.returns c).After-join_into in
+    let o : After-one_order-one = (goal.at.After-join_into j).After-one_order-one in
     let p = planned o in
     let s = start p in
     let one = o.one_order-one.result in

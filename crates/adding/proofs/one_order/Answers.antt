@@ -8,13 +8,13 @@ use Rattle.adding.proofs.one_order.Goals.{Start}
 
 pub one_refused-requires : goal.one_refused-requires
 one_refused-requires c =
-    let s : Start = c.before.before.before in
+    let s : Start = (goal.at.one_refused-requires c).Start in
     let is : s.args.planned ≡ Refused c.in-Refused.refusal = c.in-Refused.is in
     rw is at s.requires
 
 pub one_made-requires : goal.one_made-requires
 one_made-requires c =
-    let s : Start = c.before.before.before in
+    let s : Start = (goal.at.one_made-requires c).Start in
     let is : s.args.planned ≡ Made c.in-Made.figures = c.in-Made.is in
     rw is at s.requires
 

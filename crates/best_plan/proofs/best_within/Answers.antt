@@ -14,12 +14,12 @@ use Rattle.best_plan.proofs.best_within.Goals.{After-is_best-yes, Else-work-lt-A
 
 -- Where the code starts.
 abbrev start : Else-work-lt-AREA → Start
-start c = c.before.before.before
+start c = (goal.at.Else-work-lt-AREA c).Start
 
 pub returns-then-work-lt-AREA : goal.returns-then-work-lt-AREA
 returns-then-work-lt-AREA c =
     let t = c.before in
-    let s : Start = t.before.before.before in
+    let s : Start = (goal.at.returns-then-work-lt-AREA c).Start in
     rw c.plainly.ensures
     (no_room s.args.order.now s.args.plan.now s.args.work.now s.requires t.if-work-lt-AREA.true)
 
@@ -31,19 +31,19 @@ lent c =
     length-take-le area s.args.work.now c.if-work-lt-AREA.false
 
 pub slice_bounds-is_best-end-2 : goal.slice_bounds-is_best-end-2
-slice_bounds-is_best-end-2 c = omega (arith, lent c.before)
+slice_bounds-is_best-end-2 c = omega (arith, lent (goal.at.slice_bounds-is_best-end-2 c).Else-work-lt-AREA)
 
 pub is_best-yes-requires : goal.is_best-yes-requires
 is_best-yes-requires c =
     let d = c.before in
-    let s = start d in
-    record { accepted = s.requires; room = omega (arith, lent d) }
+    let s = start (goal.at.is_best-yes-requires c).Else-work-lt-AREA in
+    record { accepted = s.requires; room = omega (arith, lent (goal.at.is_best-yes-requires c).Else-work-lt-AREA) }
 
 pub returns : goal.returns
 returns c =
     let k = c.before in
-    let b : After-is_best-yes = k.before.before.before in
-    let d : Else-work-lt-AREA = b.before.before in
+    let b : After-is_best-yes = (goal.at.returns c).After-is_best-yes in
+    let d : Else-work-lt-AREA = (goal.at.After-is_best-yes b).Else-work-lt-AREA in
     let s = start d in
     let part = b.is_best-yes.new.work in
     let long : length part ≡ area = omega (arith, lent d) in

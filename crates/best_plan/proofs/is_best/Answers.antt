@@ -7,7 +7,7 @@ use Rattle.best_plan.proofs.is_best.Goals.{Then-is_legal}
 pub returns-then-is_legal : goal.returns-then-is_legal
 returns-then-is_legal c =
     let m = c.before in
-    let t : Then-is_legal = m.before.before in
+    let t : Then-is_legal = (goal.at.returns-then-is_legal c).Then-is_legal in
     let l = t.before in
     let a = l.args in
     legal-then a.order.now a.plan.now l.is_legal.ensures t.if-is_legal.true m.keeps_most.ensures

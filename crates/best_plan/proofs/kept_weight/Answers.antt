@@ -19,10 +19,10 @@ module _ (c : In-loop-place) where
   few : c.loop-place.place < 48
   few = let i = c.loop-place.invariant in omega (arith, c.loop-place-test.true, i.count, i.order.header.few)
 
-  room : let s : Start = c.before.before.before in
+  room : let s : Start = (goal.at.In-loop-place c).Start in
       RecordIn s.args.order.now c.loop-place.place
   room =
-      let s : Start = c.before.before.before in
+      let s : Start = (goal.at.In-loop-place c).Start in
       let i = c.loop-place.invariant in
       record-in s.args.order.now c.loop-place.place i.order.header (omega (arith, c.loop-place-test.true, i.count))
 
@@ -30,7 +30,7 @@ pub job_in-job-requires : goal.job_in-job-requires
 job_in-job-requires c = room c
 
 pub keeps-requires : goal.keeps-requires
-keeps-requires c = few c.before
+keeps-requires c = few (goal.at.keeps-requires c).In-loop-place
 
 pub weight_of-weight-requires : goal.weight_of-weight-requires
 weight_of-weight-requires c =
@@ -49,15 +49,15 @@ small c =
 
 pub overflow_add-weight : goal.overflow_add-weight
 overflow_add-weight c =
-    let t : In-loop-place = c.before.before.before in
+    let t : In-loop-place = (goal.at.overflow_add-weight c).In-loop-place in
     omega (arith, small c, few t, t.loop-place.invariant.light)
 
 pub overflow_add-place : goal.overflow_add-place
-overflow_add-place c = omega (arith, few c.before.before.before)
+overflow_add-place c = omega (arith, few (goal.at.overflow_add-place c).In-loop-place)
 
 pub loop-place-smaller : goal.loop-place-smaller
 loop-place-smaller c =
-    let turn : In-loop-place = c.before.before.before in
+    let turn : In-loop-place = (goal.at.loop-place-smaller c).In-loop-place in
     omega (arith, turn.loop-place-test.true)
 
 pub loop-place-preserved : goal.loop-place-preserved

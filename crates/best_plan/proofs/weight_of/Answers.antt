@@ -9,7 +9,7 @@ use Rattle.best_plan.proofs.weight_of.Goals.{Start}
 
 pub overflow_cast-result : goal.overflow_cast-result
 overflow_cast-result c =
-    let a : Start = c.before.before.before in
+    let a : Start = (goal.at.overflow_cast-result c).Start in
     let f = (job-facts a.args.job).0 a.requires in
     rw (to_z-of_z (facts-fit a.args.job f).weight)
     (omega (signed, f.weight), omega (signed, f.weight, abs_is a.args.job.weight))

@@ -12,7 +12,7 @@ use Rattle.better.proofs.better_of.Goals.{After-valid, Else-not-valid-2, Else-ou
 
 -- Where the code starts.
 abbrev start : Else-not-valid-2 → Start
-start c = c.before.before.before.before
+start c = (goal.at.Else-not-valid-2 c).Start
 
 pub returns-then-not-valid : goal.returns-then-not-valid
 returns-then-not-valid c =
@@ -29,7 +29,7 @@ module _ (c : Else-not-valid-2) where
   first : let s = start c in
       holds_profile s.args.p.now ≡ true
   first =
-      let after-valid : After-valid = c.before.before.before in
+      let after-valid : After-valid = (goal.at.Else-not-valid-2 c).After-valid in
       sym after-valid.valid.ensures ∙ not-false _ c.if-not-valid.false
 
   second : let s = start c in
@@ -39,20 +39,20 @@ module _ (c : Else-not-valid-2) where
 pub returns-then-out-lt-MOST_NUMBERS : goal.returns-then-out-lt-MOST_NUMBERS
 returns-then-out-lt-MOST_NUMBERS c =
     let a = c.args in
-    joins-no-room a.p.now a.q.now a.out-1.now (first c.before) (second c.before) c.if-out-lt-MOST_NUMBERS.true
+    joins-no-room a.p.now a.q.now a.out-1.now (first (goal.at.returns-then-out-lt-MOST_NUMBERS c).Else-not-valid-2) (second (goal.at.returns-then-out-lt-MOST_NUMBERS c).Else-not-valid-2) c.if-out-lt-MOST_NUMBERS.true
 
 -- Past the third there is room.
 joinable : (c : Else-out-lt-MOST_NUMBERS)
-    → let s = start c.before in
+    → let s = start (goal.at.Else-out-lt-MOST_NUMBERS c).Else-not-valid-2 in
     Joinable s.args.p.now s.args.q.now
     s.args.out.now
-joinable c = record { first = first c.before; second = second c.before; room = c.if-out-lt-MOST_NUMBERS.false }
+joinable c = record { first = first (goal.at.Else-out-lt-MOST_NUMBERS c).Else-not-valid-2; second = second (goal.at.Else-out-lt-MOST_NUMBERS c).Else-not-valid-2; room = c.if-out-lt-MOST_NUMBERS.false }
 
 pub merge-written-requires : goal.merge-written-requires
-merge-written-requires c = joinable c.before
+merge-written-requires c = joinable (goal.at.merge-written-requires c).Else-out-lt-MOST_NUMBERS
 
 pub returns : goal.returns
 returns c =
-    let else3 : Else-out-lt-MOST_NUMBERS = c.before.before.before in
+    let else3 : Else-out-lt-MOST_NUMBERS = (goal.at.returns c).Else-out-lt-MOST_NUMBERS in
     let a = c.args in
     joins-written a.p.now a.q.now a.out-1.now _ _ (joinable else3) c.merge-written.ensures

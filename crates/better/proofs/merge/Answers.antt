@@ -31,7 +31,7 @@ first_goes-requires c = (c.loop-i.invariant.first, c.loop-i.invariant.second)
 -- The places of a turn, what holds before it, and that a point is left.
 module _ (c : After-first_goes) where
   abbrev head : At-loop-i
-  head = c.before.before
+  head = (goal.at.After-first_goes c).At-loop-i
 
   abbrev p : List ℤ
   p = head.args.p.now
@@ -52,18 +52,18 @@ module _ (c : After-first_goes) where
   left = ⊎_elim (λ w. inl w.taken) (λ w. inr (ltb-true _ _ w.1.taken)) c.if-i-p.branch
 
 -- Its point is the first profile's,
-first_next : (c : Then-first_goes) → NextPoint (p c.before) (i c.before)
+first_next : (c : Then-first_goes) → NextPoint (p (goal.at.Then-first_goes c).After-first_goes) (i (goal.at.Then-first_goes c).After-first_goes)
 first_next c =
     let h = c.before in
     let goes = sym h.first_goes.ensures ∙ c.if-first_goes.true in
-    next-point (p h) (i h) (now h).first (first-left (p h) (i h) (q h) (j h) goes)
+    next-point (p (goal.at.Then-first_goes c).After-first_goes) (i (goal.at.Then-first_goes c).After-first_goes) (now (goal.at.Then-first_goes c).After-first_goes).first (first-left (p (goal.at.Then-first_goes c).After-first_goes) (i (goal.at.Then-first_goes c).After-first_goes) (q (goal.at.Then-first_goes c).After-first_goes) (j (goal.at.Then-first_goes c).After-first_goes) goes)
 
 -- or the second's.
-second-next : (c : Else-first_goes) → NextPoint (q c.before) (j c.before)
+second-next : (c : Else-first_goes) → NextPoint (q (goal.at.Else-first_goes c).After-first_goes) (j (goal.at.Else-first_goes c).After-first_goes)
 second-next c =
     let h = c.before in
     let goes = sym h.first_goes.ensures ∙ c.if-first_goes.false in
-    next-point (q h) (j h) (now h).second (second-left (p h) (i h) (q h) (j h) (now h).first (left h) goes)
+    next-point (q (goal.at.Else-first_goes c).After-first_goes) (j (goal.at.Else-first_goes c).After-first_goes) (now (goal.at.Else-first_goes c).After-first_goes).second (second-left (p (goal.at.Else-first_goes c).After-first_goes) (i (goal.at.Else-first_goes c).After-first_goes) (q (goal.at.Else-first_goes c).After-first_goes) (j (goal.at.Else-first_goes c).After-first_goes) (now (goal.at.Else-first_goes c).After-first_goes).first (left (goal.at.Else-first_goes c).After-first_goes) goes)
 
 pub offset_bounds-p-i : goal.offset_bounds-p-i
 offset_bounds-p-i c = omega (arith, (first_next c).more)
@@ -72,16 +72,16 @@ pub bounds-p-i : goal.bounds-p-i
 bounds-p-i c = omega (arith, (first_next c).more)
 
 pub overflow_add-weight : goal.overflow_add-weight
-overflow_add-weight c = omega (arith, (first_next c.before).more)
+overflow_add-weight c = omega (arith, (first_next (goal.at.overflow_add-weight c).Then-first_goes).more)
 
 pub offset_bounds-p-i-then-first_goes : goal.offset_bounds-p-i-then-first_goes
-offset_bounds-p-i-then-first_goes c = omega (arith, (first_next c.before).more)
+offset_bounds-p-i-then-first_goes c = omega (arith, (first_next (goal.at.offset_bounds-p-i-then-first_goes c).Then-first_goes).more)
 
 pub bounds-p-i-then-first_goes : goal.bounds-p-i-then-first_goes
-bounds-p-i-then-first_goes c = (first_next c.before).more
+bounds-p-i-then-first_goes c = (first_next (goal.at.bounds-p-i-then-first_goes c).Then-first_goes).more
 
 pub overflow_add-i : goal.overflow_add-i
-overflow_add-i c = omega (arith, (first_next c.before.before).more)
+overflow_add-i c = omega (arith, (first_next (goal.at.overflow_add-i c).Then-first_goes).more)
 
 pub offset_bounds-q-j : goal.offset_bounds-q-j
 offset_bounds-q-j c = omega (arith, (second-next c).more)
@@ -90,16 +90,16 @@ pub bounds-q-j : goal.bounds-q-j
 bounds-q-j c = omega (arith, (second-next c).more)
 
 pub overflow_add-weight-else-first_goes : goal.overflow_add-weight-else-first_goes
-overflow_add-weight-else-first_goes c = omega (arith, (second-next c.before).more)
+overflow_add-weight-else-first_goes c = omega (arith, (second-next (goal.at.overflow_add-weight-else-first_goes c).Else-first_goes).more)
 
 pub offset_bounds-q-j-else-first_goes : goal.offset_bounds-q-j-else-first_goes
-offset_bounds-q-j-else-first_goes c = omega (arith, (second-next c.before).more)
+offset_bounds-q-j-else-first_goes c = omega (arith, (second-next (goal.at.offset_bounds-q-j-else-first_goes c).Else-first_goes).more)
 
 pub bounds-q-j-else-first_goes : goal.bounds-q-j-else-first_goes
-bounds-q-j-else-first_goes c = (second-next c.before).more
+bounds-q-j-else-first_goes c = (second-next (goal.at.bounds-q-j-else-first_goes c).Else-first_goes).more
 
 pub overflow_add-j : goal.overflow_add-j
-overflow_add-j c = omega (arith, (second-next c.before.before).more)
+overflow_add-j c = omega (arith, (second-next (goal.at.overflow_add-j c).Else-first_goes).more)
 
 -- A point taken, as the code holds it: its numbers by their bits.
 as-held : {p q : List ℤ} {i j k l k' l' time weight : ℕ} {x y : ℤ} → Taken p i q j x y k l → SFits w32 x → SFits w32 y
@@ -109,7 +109,7 @@ as-held t f g d e a b = rw (d, e, a, b, to_z-of_z f, to_z-of_z g) t
 -- Either way the turn takes the point that it then holds.
 module _ (c : Joined-first_goes) where
   abbrev h : After-first_goes
-  h = c.before
+  h = (goal.at.Joined-first_goes c).After-first_goes
 
   taken : Taken (p h) (i h) (q h) (j h) (to_z w32 c.if-first_goes.time) (to_z w32 c.if-first_goes.weight) c.if-first_goes.i c.if-first_goes.j
   taken =
@@ -127,13 +127,13 @@ module _ (c : Joined-first_goes) where
 -- A heavier point than the last one kept has room.
 module _ (c : Then-last-weight) where
   abbrev start : At-loop-i
-  start = head (h c.before)
+  start = head (h (goal.at.Then-last-weight c).Joined-first_goes)
 
   is-heavier : to_z w32 start.loop-i.last <ℤ to_z w32 c.if-first_goes.weight
   is-heavier = omega (signed, c.if-last-weight.true)
 
   room : start.loop-i.n + 1 < length start.loop-i.out
-  room = merging-room (now (h c.before)) (taken c.before) start.requires.room is-heavier
+  room = merging-room (now (h (goal.at.Then-last-weight c).Joined-first_goes)) (taken (goal.at.Then-last-weight c).Joined-first_goes) start.requires.room is-heavier
 
 pub offset_bounds-out-n : goal.offset_bounds-out-n
 offset_bounds-out-n c = omega (arith, room c)
@@ -154,16 +154,16 @@ pub overflow_add-n : goal.overflow_add-n
 overflow_add-n c = omega (arith, room c)
 
 pub loop-i-smaller-then-last-weight : goal.loop-i-smaller-then-last-weight
-loop-i-smaller-then-last-weight c = falls c.before
+loop-i-smaller-then-last-weight c = falls (goal.at.loop-i-smaller-then-last-weight c).Joined-first_goes
 
 pub loop-i-preserved-then-last-weight : goal.loop-i-preserved-then-last-weight
-loop-i-preserved-then-last-weight c = merging-kept (now (h c.before)) (taken c.before) (start c).requires.room (is-heavier c)
+loop-i-preserved-then-last-weight c = merging-kept (now (h (goal.at.loop-i-preserved-then-last-weight c).Joined-first_goes)) (taken (goal.at.loop-i-preserved-then-last-weight c).Joined-first_goes) (start c).requires.room (is-heavier c)
 
 pub loop-i-smaller : goal.loop-i-smaller
-loop-i-smaller c = falls c.before
+loop-i-smaller c = falls (goal.at.loop-i-smaller c).Joined-first_goes
 
 pub loop-i-preserved : goal.loop-i-preserved
-loop-i-preserved c = merging-past (now (h c.before)) (taken c.before) (omega (signed, c.if-last-weight.false))
+loop-i-preserved c = merging-past (now (h (goal.at.loop-i-preserved c).Joined-first_goes)) (taken (goal.at.loop-i-preserved c).Joined-first_goes) (omega (signed, c.if-last-weight.false))
 
 pub shape_of-out : goal.shape_of-out
 shape_of-out c = c.loop-i.invariant.writing.size

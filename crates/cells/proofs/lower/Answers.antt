@@ -35,15 +35,15 @@ pub slice_copy_out-lesser : goal.slice_copy_out-lesser
 slice_copy_out-lesser c = (there c).0
 
 pub offset_bounds-pushed-x : goal.offset_bounds-pushed-x
-offset_bounds-pushed-x c = omega (arith, there c.before)
+offset_bounds-pushed-x c = omega (arith, there (goal.at.offset_bounds-pushed-x c).In-loop-x)
 
 pub bounds-pushed-x : goal.bounds-pushed-x
-bounds-pushed-x c = (there c.before).1
+bounds-pushed-x c = (there (goal.at.bounds-pushed-x c).In-loop-x).1
 
 -- The lesser is made.
 module _ (c : After-lesser-cell) where
   abbrev turn : In-loop-x
-  turn = c.before.before.before
+  turn = (goal.at.After-lesser-cell c).In-loop-x
 
   abbrev begun : Start
   begun = turn.before.before
@@ -76,7 +76,7 @@ bounds-work-at c = (there (turn c)).3
 -- And counted.
 module _ (c : After-one_if-n) where
   abbrev made : After-lesser-cell
-  made = c.before
+  made = (goal.at.After-one_if-n c).After-lesser-cell
 
   more : (turn made).loop-x.n + c.one_if-n.result
       ≡ rises_to (lowered (begun made).args.row.now (begun made).args.pushed.now) ((turn made).loop-x.x + 1)

@@ -41,22 +41,22 @@ moved_on-requires c =
     let r : to_z w32 (of_z w32 z) ≡ z = read_back_lem z c.moved_on-arg-1.given in
     record {
       cell = rw r (p.cells d.loop-x.x d.loop-x-test.true);
-      few = omega (arith, there d);
+      few = omega (arith, there (goal.at.moved_on-requires c).In-loop-x);
       ready = rw (to_z-of_z s.ranges.limit) p.ready;
       adds = rw (to_z-of_z s.ranges.delta) p.adds;
     }
 
 pub overflow_add-gain : goal.overflow_add-gain
-overflow_add-gain c = omega (arith, there c.before.before)
+overflow_add-gain c = omega (arith, there (goal.at.overflow_add-gain c).In-loop-x)
 
 pub offset_bounds-pushed-gain : goal.offset_bounds-pushed-gain
-offset_bounds-pushed-gain c = omega (arith, there c.before.before)
+offset_bounds-pushed-gain c = omega (arith, there (goal.at.offset_bounds-pushed-gain c).In-loop-x)
 
 pub bounds-pushed-gain : goal.bounds-pushed-gain
-bounds-pushed-gain c = (there c.before.before).1
+bounds-pushed-gain c = (there (goal.at.bounds-pushed-gain c).In-loop-x).1
 
 pub overflow_add-x : goal.overflow_add-x
-overflow_add-x c = omega (arith, there c.before.before)
+overflow_add-x c = omega (arith, there (goal.at.overflow_add-x c).In-loop-x)
 
 pub loop-x-smaller : goal.loop-x-smaller
 loop-x-smaller c = omega (arith, c.loop-x-test.true)
@@ -75,7 +75,7 @@ loop-x-preserved c =
     ∙ ap (λ (z : ℤ). moved_on (to_z w32 (of_z w32 s.args.limit)) (to_z w32 (of_z w32 s.args.delta)) z x) cell-is
     ∙ ap (λ (k : ℕ). moved_on (to_z w32 (of_z w32 s.args.limit)) (to_z w32 (of_z w32 s.args.delta)) (at0 s.args.row.now k) k) (sym back) in
     let low : gain ≤ gain + x = omega arith in
-    let more = put-more i.1 low (there d).2 (to_z w32 (of_z w32 c.moved_on.result)) z-is in
+    let more = put-more i.1 low (there (goal.at.loop-x-preserved c).In-loop-x).2 (to_z w32 (of_z w32 c.moved_on.result)) z-is in
     (omega (arith, d.loop-x-test.true), rw next at more)
 
 pub shape_of-pushed : goal.shape_of-pushed

@@ -18,7 +18,7 @@ below-requires c =
 
 module _ (c : After-greater) where
   abbrev start : Start
-  start = c.before.before
+  start = (goal.at.After-greater c).Start
 
   abbrev cell : ℤ
   cell = start.args.cell

@@ -16,7 +16,7 @@ use Rattle.cells.proofs.push_cells.Goals.{After-above-first, After-move_cells, S
 -- The cells are moved on.
 module _ (c : After-move_cells) where
   abbrev begun : Start
-  begun = c.before.before
+  begun = (goal.at.After-move_cells c).Start
 
   mid-is : Put (λ y. moved_on begun.args.limit begun.args.delta (at0 begun.args.row.now (y - begun.args.gain)) (y - begun.args.gain))
       begun.args.gain (begun.args.gain + begun.args.end) begun.args.pushed.now c.move_cells.new.pushed
@@ -25,15 +25,15 @@ module _ (c : After-move_cells) where
 pub above-first-requires : goal.above-first-requires
 above-first-requires c =
     let m = c.before.before in
-    let s = begun m in
+    let s = begun (goal.at.above-first-requires c).After-move_cells in
     let z = at0 m.move_cells.new.pushed s.args.gain in
     let r : to_z w32 (of_z w32 z) ≡ z = read_back_lem z c.above-arg-1.given in
-    rw r (can-count s.requires (mid-is m))
+    rw r (can-count s.requires (mid-is (goal.at.above-first-requires c).After-move_cells))
 
 -- The number of the first at no weight.
 module _ (c : After-above-first) where
   abbrev pushed-on : After-move_cells
-  pushed-on = c.before.before.before
+  pushed-on = (goal.at.After-above-first c).After-move_cells
 
   abbrev first : ℤ
   first = to_z w32 (of_z w32 c.above-first.result)
@@ -48,11 +48,11 @@ module _ (c : After-above-first) where
 pub put_run-requires : goal.put_run-requires
 put_run-requires c =
     let a = c.before in
-    let m = pushed-on a in
-    can-run (begun m).requires (mid-is m) (first a) (first-is a)
+    let m = pushed-on (goal.at.put_run-requires c).After-above-first in
+    can-run (begun m).requires (mid-is m) (first (goal.at.put_run-requires c).After-above-first) (first-is (goal.at.put_run-requires c).After-above-first)
 
 pub returns : goal.returns
 returns c =
     let a = c.before.before.before in
-    let m = pushed-on a in
-    pushes (begun m).requires (mid-is m) (first a) (first-is a) c.put_run.ensures
+    let m = pushed-on (goal.at.returns c).After-above-first in
+    pushes (begun m).requires (mid-is m) (first (goal.at.returns c).After-above-first) (first-is (goal.at.returns c).After-above-first) c.put_run.ensures

@@ -10,7 +10,7 @@ use Rattle.seconds.specs.Signed.{signed, read_back_lem}
 use Rattle.codes.specs.Code.{at0, lightness}
 use Rattle.cells.specs.Spreading.{Spreading, spread_none, number-least, end_is, can-count, can-run, spread-more, spread-all}
 use Rattle.cells.proofs.put_list.Goals as goal
-use Rattle.cells.proofs.put_list.Goals.{After-above, After-cells_to-end, After-code-1, In-loop-i, Start}
+use Rattle.cells.proofs.put_list.Goals.{After-above, After-cells_to-end, In-loop-i, Start}
 
 pub loop-i-init : goal.loop-i-init
 loop-i-init c = spread_none _ _ _ c.requires.1
@@ -28,9 +28,9 @@ pub bounds-work-place : goal.bounds-work-place
 bounds-work-place c = there c
 
 -- The point's number is read.
-module _ (c : After-code-1) where
+module _ (c : In-loop-i) where
   abbrev turn : In-loop-i
-  turn = c.before
+  turn = c
 
   abbrev begun : Start
   begun = turn.before.before
@@ -43,31 +43,31 @@ module _ (c : After-code-1) where
 
 pub cells_to-end-requires : goal.cells_to-end-requires
 cells_to-end-requires c =
-    let t = turn c in
-    let h = number-least (begun c).requires.0 t.loop-i.invariant t.loop-i-test.taken in
-    let r = read c in
+    let t = turn (goal.at.cells_to-end-requires c).In-loop-i in
+    let h = number-least (begun (goal.at.cells_to-end-requires c).In-loop-i).requires.0 t.loop-i.invariant t.loop-i-test.taken in
+    let r = read (goal.at.cells_to-end-requires c).In-loop-i in
     omega signed
 
 -- Its cells end here.
 module _ (c : After-cells_to-end) where
-  abbrev code_read : After-code-1
-  code_read = c.before
+  abbrev code_read : In-loop-i
+  code_read = (goal.at.After-cells_to-end c).In-loop-i
 
   told : c.cells_to-end.result ≡ 512 - lightness (z code_read)
   told = c.cells_to-end.ensures ∙ ap (λ (y : ℤ). 512 - lightness y) (read code_read)
 
 pub overflow_sub-end : goal.overflow_sub-end
-overflow_sub-end c = omega (arith, told c.before, end_is (begun (code_read c.before)).requires.0 (turn (code_read c.before)).loop-i.invariant (turn (code_read c.before)).loop-i-test.taken)
+overflow_sub-end c = omega (arith, told (goal.at.overflow_sub-end c).After-cells_to-end, end_is (begun (code_read (goal.at.overflow_sub-end c).After-cells_to-end)).requires.0 (turn (code_read (goal.at.overflow_sub-end c).After-cells_to-end)).loop-i.invariant (turn (code_read (goal.at.overflow_sub-end c).After-cells_to-end)).loop-i-test.taken)
 
 pub above-requires : goal.above-requires
 above-requires c =
-    let d = code_read c.before in
+    let d = code_read (goal.at.above-requires c).After-cells_to-end in
     let t = turn d in
-    rw (read d) (can-count (begun d).requires.0 t.loop-i.invariant t.loop-i-test.taken _ (told c.before))
+    rw (read d) (can-count (begun d).requires.0 t.loop-i.invariant t.loop-i-test.taken _ (told (goal.at.above-requires c).After-cells_to-end))
 
 module _ (c : After-above) where
   abbrev ended : After-cells_to-end
-  ended = c.before.before
+  ended = (goal.at.After-above c).After-cells_to-end
 
   abbrev top : ℤ
   top = to_z w32 (of_z w32 c.above.result)
@@ -85,18 +85,18 @@ put_run-requires c =
     can-run (begun d).requires.0 t.loop-i.invariant t.loop-i-test.taken _ (told e) (top c) (top-is c)
 
 pub overflow_add-i : goal.overflow_add-i
-overflow_add-i c = omega (arith, there (turn (code_read (ended c.before.before))))
+overflow_add-i c = omega (arith, there (turn (code_read (ended (goal.at.overflow_add-i c).After-above))))
 
 pub loop-i-smaller : goal.loop-i-smaller
-loop-i-smaller c = omega (arith, (turn (code_read (ended c.before.before))).loop-i-test.taken)
+loop-i-smaller c = omega (arith, (turn (code_read (ended (goal.at.loop-i-smaller c).After-above))).loop-i-test.taken)
 
 pub loop-i-preserved : goal.loop-i-preserved
 loop-i-preserved c =
     let a = c.before.before in
-    let e = ended a in
+    let e = ended (goal.at.loop-i-preserved c).After-above in
     let d = code_read e in
     let t = turn d in
-    spread-more (begun d).requires.0 t.loop-i.invariant t.loop-i-test.taken _ (told e) (top a) (top-is a) c.put_run.ensures
+    spread-more (begun d).requires.0 t.loop-i.invariant t.loop-i-test.taken _ (told e) (top (goal.at.loop-i-preserved c).After-above) (top-is (goal.at.loop-i-preserved c).After-above) c.put_run.ensures
 
 pub shape_of-row : goal.shape_of-row
 shape_of-row c = c.loop-i.invariant.cells.size ∙ sym c.requires.0.size

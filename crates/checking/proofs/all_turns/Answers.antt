@@ -38,13 +38,13 @@ loop-place-init c =
 
 pub job_in-job-requires : goal.job_in-job-requires
 job_in-job-requires c =
-    let s = start c.before in
+    let s = start (goal.at.job_in-job-requires c).At-loop-place in
     record-in s.args.order.now c.loop-place.place s.requires.accepted.header (omega (arith, s.requires.count))
 
 -- The job at the place has been read.
 module _ (c : After-job_in-job) where
   abbrev entry : Start
-  entry = c.before.before.before.before.before
+  entry = (goal.at.After-job_in-job c).Start
 
   there : get_elem? (jobs_in entry.args.order.now) c.loop-place.place ≡ some (as_job c.job_in-job.result)
   there =
@@ -68,7 +68,7 @@ take_turn-turn-requires c =
 -- Its turn has been taken.
 module _ (c : After-take_turn-turn) where
   abbrev at : After-job_in-job
-  at = c.before
+  at = (goal.at.After-take_turn-turn c).After-job_in-job
 
   abbrev taken : Turn
   taken =
@@ -82,41 +82,41 @@ module _ (c : After-take_turn-turn) where
 pub returns-then-not-fine : goal.returns-then-not-fine
 returns-then-not-fine c =
     let t = c.before in
-    let d = at t in
+    let d = at (goal.at.returns-then-not-fine c).After-take_turn-turn in
     let s = entry d in
     let l = d.loop-place in
     rw (to_z-of_z s.fits.t0) at
     (judging-stops (jobs_in s.args.order.now) s.args.n (to_z w32 (of_z w32 s.args.t0)) s.args.mask s.args.plan.now
     l.inv d.loop-place-test.taken (as_job d.job_in-job.result) (there d)
-    (sym (ap (λ (r : Turn). r.fine) (turn_is t)) ∙ not-true t.take_turn-turn.result.fine c.if-not-fine.true))
+    (sym (ap (λ (r : Turn). r.fine) (turn_is (goal.at.returns-then-not-fine c).After-take_turn-turn)) ∙ not-true t.take_turn-turn.result.fine c.if-not-fine.true))
 
 pub overflow_mul-left : goal.overflow_mul-left
 overflow_mul-left c =
-    let head : At-loop-place = c.before.before.before.before.before in
+    let head : At-loop-place = (goal.at.overflow_mul-left c).At-loop-place in
     omega (arith, head.loop-place.invariant.fits)
 
 pub overflow_add-place : goal.overflow_add-place
-overflow_add-place c = omega (arith, few (entry (at c.before.before)))
+overflow_add-place c = omega (arith, few (entry (at (goal.at.overflow_add-place c).After-take_turn-turn)))
 
 pub loop-place-preserved : goal.loop-place-preserved
 loop-place-preserved c =
     let t = c.before.before in
-    let d = at t in
+    let d = at (goal.at.loop-place-preserved c).After-take_turn-turn in
     let s = entry d in
     let l = d.loop-place in
     let on =
     judging-on (jobs_in s.args.order.now) s.args.n (to_z w32 (of_z w32 s.args.t0)) s.args.mask s.args.plan.now
     l.inv d.loop-place-test.taken (as_job d.job_in-job.result) (there d) (few s)
-    (sym (ap (λ (r : Turn). r.fine) (turn_is t)) ∙ not-false t.take_turn-turn.result.fine c.if-not-fine.false) in
+    (sym (ap (λ (r : Turn). r.fine) (turn_is (goal.at.loop-place-preserved c).After-take_turn-turn)) ∙ not-false t.take_turn-turn.result.fine c.if-not-fine.false) in
     let same : Judging (jobs_in s.args.order.now) s.args.n (to_z w32 (of_z w32 s.args.t0)) s.args.mask
     s.args.plan.now t.take_turn-turn.result.free (l.left % 2 ^ 63 * 2) t.take_turn-turn.result.next (l.place + 1) =
     subst (λ (r : Turn). Judging (jobs_in s.args.order.now) s.args.n (to_z w32 (of_z w32 s.args.t0)) s.args.mask
-    s.args.plan.now r.free (l.left % 2 ^ 63 * 2) r.next (l.place + 1)) (sym (turn_is t)) on in
+    s.args.plan.now r.free (l.left % 2 ^ 63 * 2) r.next (l.place + 1)) (sym (turn_is (goal.at.loop-place-preserved c).After-take_turn-turn)) on in
     rw (read_back_lem t.take_turn-turn.result.free c.struct_told-1.given.1.1.0.1) same
 
 pub returns : goal.returns
 returns c =
-    let s = start c.before in
+    let s = start (goal.at.returns c).At-loop-place in
     rw (to_z-of_z s.fits.t0) at
     (judging-ends (jobs_in s.args.order.now) s.args.n (to_z w32 (of_z w32 s.args.t0)) s.args.mask s.args.plan.now
     (omega arith) (omega (arith, jobs-count s.args.order.now, s.requires.count)) c.loop-place.invariant)

@@ -14,7 +14,7 @@ use Rattle.fields.specs.Facts.{HeaderRead, header_read}
 use Rattle.checking.specs.Marks.{raised-fits}
 use Rattle.checking.specs.CallLaws.{order-accepted, plan-accepted, can-go, turns-tell}
 use Rattle.checking.proofs.is_legal.Goals as goal
-use Rattle.checking.proofs.is_legal.Goals.{After-mask_of-mask, After-struct_told-1, Start}
+use Rattle.checking.proofs.is_legal.Goals.{After-header_at-header, After-mask_of-mask, Start}
 
 pub header_at-header-requires : goal.header_at-header-requires
 header_at-header-requires c =
@@ -22,9 +22,9 @@ header_at-header-requires c =
     (order-accepted s.args.order.now s.args.plan.now s.requires).header.long
 
 -- The header that was read is the order's, and the plan has bytes.
-module _ (c : After-struct_told-1) where
+module _ (c : After-header_at-header) where
   abbrev entry : Start
-  entry = c.before.before.before.before
+  entry = (goal.at.After-header_at-header c).Start
 
   abbrev order : List ℕ
   order = entry.args.order.now
@@ -42,19 +42,19 @@ module _ (c : After-struct_told-1) where
   begins = rw read.t0 (time-fits (order-accepted order plan entry.requires).header.timely)
 
 pub mask_of-mask-requires : goal.mask_of-mask-requires
-mask_of-mask-requires c = (plan-accepted (order c) (plan c) (entry c).requires).long
+mask_of-mask-requires c = (plan-accepted (order (goal.at.mask_of-mask-requires c).After-header_at-header) (plan (goal.at.mask_of-mask-requires c).After-header_at-header) (entry (goal.at.mask_of-mask-requires c).After-header_at-header).requires).long
 
 -- The mask that was read, raised.
-raised : (c : After-mask_of-mask) → c.mask_of-mask.result * 65536 ≡ mask_in (plan c.before) * 2 ^ 16
+raised : (c : After-mask_of-mask) → c.mask_of-mask.result * 65536 ≡ mask_in (plan (goal.at.After-mask_of-mask c).After-header_at-header) * 2 ^ 16
 raised c = ap (λ x. x * 65536) c.mask_of-mask.ensures
 
 pub overflow_mul-mask : goal.overflow_mul-mask
-overflow_mul-mask c = omega (arith, raised c, raised-fits (plan c.before) (bytes c.before))
+overflow_mul-mask c = omega (arith, raised c, raised-fits (plan (goal.at.overflow_mul-mask c).After-header_at-header) (bytes (goal.at.overflow_mul-mask c).After-header_at-header))
 
 pub all_turns-requires : goal.all_turns-requires
 all_turns-requires c =
     let h = c.before in
-    can-go (order h) (plan h) (entry h).requires (bytes h) h.header_at-header.result.count (c.mask_of-mask.result * 65536) (read h).count
+    can-go (order (goal.at.all_turns-requires c).After-header_at-header) (plan (goal.at.all_turns-requires c).After-header_at-header) (entry (goal.at.all_turns-requires c).After-header_at-header).requires (bytes (goal.at.all_turns-requires c).After-header_at-header) h.header_at-header.result.count (c.mask_of-mask.result * 65536) (read (goal.at.all_turns-requires c).After-header_at-header).count
     (raised c)
 
 pub returns : goal.returns
@@ -62,5 +62,5 @@ returns c =
     let m = c.before in
     let h = m.before in
     c.all_turns.ensures
-    ∙ turns-tell (order h) (plan h) (entry h).requires (bytes h) h.header_at-header.result.count (m.mask_of-mask.result * 65536)
-    (read h).count (raised m) (to_z-of_z (begins h) ∙ (read h).t0)
+    ∙ turns-tell (order (goal.at.returns c).After-header_at-header) (plan (goal.at.returns c).After-header_at-header) (entry (goal.at.returns c).After-header_at-header).requires (bytes (goal.at.returns c).After-header_at-header) h.header_at-header.result.count (m.mask_of-mask.result * 65536)
+    (read (goal.at.returns c).After-header_at-header).count (raised (goal.at.returns c).After-mask_of-mask) (to_z-of_z (begins (goal.at.returns c).After-header_at-header) ∙ (read (goal.at.returns c).After-header_at-header).t0)

@@ -28,12 +28,12 @@ returns-then-plan-lt-MASK_BYTES c =
 module _ (c : After-mask_of-mask) where
   abbrev plan : List ℕ
   plan =
-      let s : Start = c.before.before.before in
+      let s : Start = (goal.at.After-mask_of-mask c).Start in
       s.args.plan.now
 
   abbrev n : ℕ
   n =
-      let s : Start = c.before.before.before in
+      let s : Start = (goal.at.After-mask_of-mask c).Start in
       s.args.n
 
   bytes : AreBytes plan
@@ -53,23 +53,23 @@ pub plan_bytes-requires : goal.plan_bytes-requires
 plan_bytes-requires c = few c
 
 -- The length that the mask asks for.
-asked : (c : After-plan_bytes) → c.plan_bytes.result ≡ plan_bytes (count_in (plan c.before))
-asked c = c.plan_bytes.ensures ∙ ap plan_bytes (counted c.before)
+asked : (c : After-plan_bytes) → c.plan_bytes.result ≡ plan_bytes (count_in (plan (goal.at.After-plan_bytes c).After-mask_of-mask))
+asked c = c.plan_bytes.ensures ∙ ap plan_bytes (counted (goal.at.After-plan_bytes c).After-mask_of-mask)
 
 pub returns-then-plan-plan_bytes : goal.returns-then-plan-plan_bytes
 returns-then-plan-plan_bytes c =
     let p = c.before.before in
     let m = p.before in
     rw c.plainly-then-plan-plan_bytes.ensures
-    (sym (ap verdict_of (other_length (n m) (plan m) m.if-plan-lt-MASK_BYTES.false (λ e. c.if-plan-plan_bytes.true (e ∙ sym (asked p))))))
+    (sym (ap verdict_of (other_length (n (goal.at.returns-then-plan-plan_bytes c).After-mask_of-mask) (plan (goal.at.returns-then-plan-plan_bytes c).After-mask_of-mask) m.if-plan-lt-MASK_BYTES.false (λ e. c.if-plan-plan_bytes.true (e ∙ sym (asked (goal.at.returns-then-plan-plan_bytes c).After-plan_bytes))))))
 
 -- Past the second, the length is that, and the mask is judged.
 module _ (c : After-last_bit) where
   abbrev masked : After-mask_of-mask
-  masked = c.before.before.before
+  masked = (goal.at.After-last_bit c).After-mask_of-mask
 
   whole : length (plan masked) ≡ plan_bytes (count_in (plan masked))
-  whole = c.if-plan-plan_bytes.false ∙ asked c.before.before
+  whole = c.if-plan-plan_bytes.false ∙ asked (goal.at.After-last_bit c).After-plan_bytes
 
   beyond : masked.mask_of-mask.result % c.last_bit.result ≡ mask_in (plan masked) % 2 ^ (48 - n masked)
   beyond = ap₂ (λ x y. x % y) masked.mask_of-mask.ensures c.last_bit.ensures
@@ -80,14 +80,14 @@ nonzero_rem-mask c = rw c.last_bit.ensures (pow_pos (48 - n (masked c)))
 pub returns-then-mask-last_bit-ne0 : goal.returns-then-mask-last_bit-ne0
 returns-then-mask-last_bit-ne0 c =
     let l = c.before.before in
-    let m = masked l in
+    let m = masked (goal.at.returns-then-mask-last_bit-ne0 c).After-last_bit in
     rw c.plainly-then-mask-last_bit-ne0.ensures
-    (sym (ap verdict_of (bits-beyond (n m) (plan m) m.if-plan-lt-MASK_BYTES.left (whole l) (λ e. c.if-mask-last_bit-ne0.true (beyond l ∙ e)))))
+    (sym (ap verdict_of (bits-beyond (n m) (plan m) m.if-plan-lt-MASK_BYTES.left (whole (goal.at.returns-then-mask-last_bit-ne0 c).After-last_bit) (λ e. c.if-mask-last_bit-ne0.true (beyond (goal.at.returns-then-mask-last_bit-ne0 c).After-last_bit ∙ e)))))
 
 -- Past the third, none is beyond the jobs, and the padding is judged.
 module _ (c : After-padding_clear) where
   abbrev judged : After-last_bit
-  judged = c.before.before
+  judged = (goal.at.After-padding_clear c).After-last_bit
 
   none : mask_in (plan (masked judged)) % 2 ^ (48 - n (masked judged)) ≡ 0
   none = sym (beyond judged) ∙ c.if-mask-last_bit-ne0.false
@@ -102,16 +102,16 @@ module _ (c : After-padding_clear) where
 pub returns-then-not-padding_clear : goal.returns-then-not-padding_clear
 returns-then-not-padding_clear c =
     let p = c.before.before in
-    let l = judged p in
+    let l = judged (goal.at.returns-then-not-padding_clear c).After-padding_clear in
     let m = masked l in
     rw c.plainly-then-not-padding_clear.ensures
-    (sym (ap verdict_of (bits-at-end (n m) (plan m) m.if-plan-lt-MASK_BYTES.left (whole l) (none p)
-    (eqb-false (pad_in (plan m)) 0 (sym (clear-is p) ∙ not-true p.padding_clear.result c.if-not-padding_clear.true)))))
+    (sym (ap verdict_of (bits-at-end (n m) (plan m) m.if-plan-lt-MASK_BYTES.left (whole l) (none (goal.at.returns-then-not-padding_clear c).After-padding_clear)
+    (eqb-false (pad_in (plan m)) 0 (sym (clear-is (goal.at.returns-then-not-padding_clear c).After-padding_clear) ∙ not-true p.padding_clear.result c.if-not-padding_clear.true)))))
 
 pub returns : goal.returns
 returns c =
     let p = c.before in
-    let l = judged p in
+    let l = judged (goal.at.returns c).After-padding_clear in
     let m = masked l in
-    sym (ap verdict_of (all-passed (n m) (plan m) m.if-plan-lt-MASK_BYTES.left (whole l) (none p)
-    (eqb-true (pad_in (plan m)) 0 (sym (clear-is p) ∙ not-false p.padding_clear.result c.if-not-padding_clear.false))))
+    sym (ap verdict_of (all-passed (n m) (plan m) m.if-plan-lt-MASK_BYTES.left (whole l) (none (goal.at.returns c).After-padding_clear)
+    (eqb-true (pad_in (plan m)) 0 (sym (clear-is (goal.at.returns c).After-padding_clear) ∙ not-false p.padding_clear.result c.if-not-padding_clear.false))))

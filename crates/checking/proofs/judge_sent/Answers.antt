@@ -15,7 +15,7 @@ use Rattle.checking.proofs.judge_sent.Goals.{After-header_at-header, After-judge
 
 -- Where the code starts.
 abbrev start : In-Fine → Start
-start c = c.before.before.before.before.before
+start c = (goal.at.In-Fine c).Start
 
 -- Past the order's own checks.
 module _ (c : In-Fine) where
@@ -37,19 +37,19 @@ header_at-header-requires c = (accepted c).header.long
 
 -- The header's count is that of the jobs.
 counted : (c : After-header_at-header) → let e = c.before in
-    let s = start e in
+    let s = start (goal.at.After-header_at-header c).In-Fine in
     c.header_at-header.result.count ≡ count_of s.args.order.now
 counted c =
-    let s = start c.before in
+    let s = start (goal.at.After-header_at-header c).In-Fine in
     (header_read s.args.order.now c.header_at-header.result c.header_at-header.ensures).count
 
 pub judge_plan-requires : goal.judge_plan-requires
-judge_plan-requires c = omega (arith, counted c, (accepted c.before).header.few)
+judge_plan-requires c = omega (arith, counted c, (accepted (goal.at.judge_plan-requires c).In-Fine).header.few)
 
 pub returns-in-Refused : goal.returns-in-Refused
 returns-in-Refused c =
     let r = c.refusal-1.given in
-    let j : After-judge_order = c.before.before.before in
+    let j : After-judge_order = (goal.at.returns-in-Refused c).After-judge_order in
     let a = j.args in
     stopped-by-order a.order.now a.plan.now r.0.0 (sym j.judge_order.ensures ∙ r.1)
 
@@ -57,4 +57,4 @@ pub returns-in-Fine : goal.returns-in-Fine
 returns-in-Fine c =
     let h = c.before in
     let a = h.args in
-    judged-by-plan a.order.now a.plan.now (passed h.before) (counted h) c.judge_plan.ensures
+    judged-by-plan a.order.now a.plan.now (passed (goal.at.returns-in-Fine c).In-Fine) (counted (goal.at.returns-in-Fine c).After-header_at-header) c.judge_plan.ensures

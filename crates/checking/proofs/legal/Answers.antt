@@ -22,7 +22,7 @@ is_legal-requires c = passed c
 pub returns-in-Refused : goal.returns-in-Refused
 returns-in-Refused c =
     let r = c.refusal-1.given in
-    let j : After-judge_sent = c.before.before.before in
+    let j : After-judge_sent = (goal.at.returns-in-Refused c).After-judge_sent in
     let a = j.args in
     legal-refused a.order.now a.plan.now r.0.0 (sym j.judge_sent.ensures ∙ r.1)
 
@@ -30,4 +30,4 @@ pub returns-in-Fine : goal.returns-in-Fine
 returns-in-Fine c =
     let e = c.before in
     let a = e.args in
-    legal-answered a.order.now a.plan.now (passed e) c.is_legal.ensures
+    legal-answered a.order.now a.plan.now (passed (goal.at.returns-in-Fine c).In-Fine) c.is_legal.ensures

@@ -34,7 +34,7 @@ module _ (s : Start) where
 
 pub returns-then-not-kept : goal.returns-then-not-kept
 returns-then-not-kept c =
-    let s : Start = c.before.before.before.before.before.before in
+    let s : Start = (goal.at.returns-then-not-kept c).Start in
     ap (λ z. record { fine = mathlib.Core.Bool.not (lib.Dec.eqb (of_z w32 s.args.job.critical) 1); next = s.args.k; free = z })
     (to_z-of_z s.ranges.free)
     ∙ sym (turn-left s.args.job (facts s) (start_from s.args.plan.now s.args.k) s.args.free s.args.k)
@@ -42,13 +42,13 @@ returns-then-not-kept c =
 
 pub start_at-start-requires : goal.start_at-start-requires
 start_at-start-requires c =
-    let s : Start = c.before.before.before.before.before.before in
+    let s : Start = (goal.at.start_at-start-requires c).Start in
     s.requires.there (not-false s.args.kept c.if-not-kept.false)
 
 -- The start has been read.
 module _ (c : After-start_at-start) where
   abbrev entry : Start
-  entry = c.before.before.before.before.before.before.before
+  entry = (goal.at.After-start_at-start c).Start
 
   abbrev start : ℤ
   start = start_from entry.args.plan.now entry.args.k
@@ -87,26 +87,26 @@ overflow_add-end c = sum_fits c
 pub rested-requires : goal.rested-requires
 rested-requires c =
     let d = c.before in
-    let e = entry d in
-    subst InTime (sym (end_back d))
-    (end-in e.args.job (facts e) (start d) e.args.free (start-in e.args.plan.now e.args.k) (sym (tested d) ∙ c.if-free-start.true))
+    let e = entry (goal.at.rested-requires c).After-start_at-start in
+    subst InTime (sym (end_back (goal.at.rested-requires c).After-start_at-start))
+    (end-in e.args.job (facts e) (start (goal.at.rested-requires c).After-start_at-start) e.args.free (start-in e.args.plan.now e.args.k) (sym (tested (goal.at.rested-requires c).After-start_at-start) ∙ c.if-free-start.true))
 
 pub returns-then-free-start : goal.returns-then-free-start
 returns-then-free-start c =
     let d = c.before.before in
-    let e = entry d in
-    let free : to_z w32 (of_z w32 c.rested.result) ≡ (start d +ℤ e.args.job.length) +ℤ pos rest =
-    to_z-of_z (record { sfits = c.rested.type_inv }) ∙ c.rested.ensures ∙ ap (λ (z : ℤ). z +ℤ pos rest) (end_back d) in
+    let e = entry (goal.at.returns-then-free-start c).After-start_at-start in
+    let free : to_z w32 (of_z w32 c.rested.result) ≡ (start (goal.at.returns-then-free-start c).After-start_at-start +ℤ e.args.job.length) +ℤ pos rest =
+    to_z-of_z (record { sfits = c.rested.type_inv }) ∙ c.rested.ensures ∙ ap (λ (z : ℤ). z +ℤ pos rest) (end_back (goal.at.returns-then-free-start c).After-start_at-start) in
     ap (λ z. record { fine = true; next = e.args.k + 1; free = z }) free
-    ∙ sym (turn-legal e.args.job (facts e) (start d) e.args.free (start-in e.args.plan.now e.args.k) e.args.k
-    (sym (tested d) ∙ c.if-free-start.true))
-    ∙ sym (ap (goes e) (kept d))
+    ∙ sym (turn-legal e.args.job (facts e) (start (goal.at.returns-then-free-start c).After-start_at-start) e.args.free (start-in e.args.plan.now e.args.k) e.args.k
+    (sym (tested (goal.at.returns-then-free-start c).After-start_at-start) ∙ c.if-free-start.true))
+    ∙ sym (ap (goes e) (kept (goal.at.returns-then-free-start c).After-start_at-start))
 
 pub returns : goal.returns
 returns c =
     let d = c.before in
-    let e = entry d in
+    let e = entry (goal.at.returns c).After-start_at-start in
     ap (λ z. record { fine = false; next = e.args.k; free = z }) (to_z-of_z e.fits.free)
-    ∙ sym (turn-not e.args.job (facts e) (start d) e.args.free (start-in e.args.plan.now e.args.k) e.args.k
-    (sym (tested d) ∙ c.if-free-start.false))
-    ∙ sym (ap (goes e) (kept d))
+    ∙ sym (turn-not e.args.job (facts e) (start (goal.at.returns c).After-start_at-start) e.args.free (start-in e.args.plan.now e.args.k) e.args.k
+    (sym (tested (goal.at.returns c).After-start_at-start) ∙ c.if-free-start.false))
+    ∙ sym (ap (goes e) (kept (goal.at.returns c).After-start_at-start))

@@ -8,9 +8,9 @@ use Rattle.choosing.proofs.weigh_both.Goals.{After-weigh-one, After-weigh-other,
 
 pub returns : goal.returns
 returns c =
-    let other : After-weigh-other = c.before.before in
-    let one : After-weigh-one = other.before.before.before in
-    let start : Start = one.before.before.before.before in
+    let other : After-weigh-other = (goal.at.returns c).After-weigh-other in
+    let one : After-weigh-one = (goal.at.After-weigh-other other).After-weigh-one in
+    let start : Start = (goal.at.After-weigh-one one).Start in
     let kept = to_z-of_z start.ranges.t in
     c.winner.ensures
     ∙ ap₂ (by_points (rule_of start.args.tie)) (rw kept at one.weigh-one.ensures) (rw kept at other.weigh-other.ensures)

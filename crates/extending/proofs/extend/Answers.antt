@@ -9,13 +9,13 @@ use Rattle.extending.proofs.extend.Goals.{After-judge_jobs, In-Fine}
 
 pub extend_profile-requires : goal.extend_profile-requires
 extend_profile-requires c =
-    let e : In-Fine = c.before.before in
+    let e : In-Fine = (goal.at.extend_profile-requires c).In-Fine in
     let a = e.args in
     told-fine (seven a.profile.now a.bytes.now) (sym e.judge_jobs.ensures ∙ e.in-Fine.is)
 
 pub returns-in-Refused : goal.returns-in-Refused
 returns-in-Refused c =
-    let j : After-judge_jobs = c.before.before.before in
+    let j : After-judge_jobs = (goal.at.returns-in-Refused c).After-judge_jobs in
     let a = j.args in
     let r = c.refusal-1.given in
     extend-stopped a.profile.now a.bytes.now a.out-1.now a.work-1.now r.0.0

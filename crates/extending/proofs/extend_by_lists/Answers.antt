@@ -16,7 +16,7 @@ header_at-header-requires c = header-there c.requires
 
 pub start_profile-count-requires : goal.start_profile-count-requires
 start_profile-count-requires c =
-    let s : Start = c.before.before.before in
+    let s : Start = (goal.at.start_profile-count-requires c).Start in
     can-begin s.requires
 
 -- The header that was read has the order's count.
@@ -31,20 +31,20 @@ pub fill_last-last-requires : goal.fill_last-last-requires
 fill_last-last-requires c =
     let p = c.before.before in
     let h = p.before.before in
-    can-fill h.requires (counted h) p.start_profile-count.ensures (room p)
+    can-fill h.requires (counted (goal.at.fill_last-last-requires c).After-header_at-header) p.start_profile-count.ensures (room (goal.at.fill_last-last-requires c).After-start_profile-count)
 
 pub write_list-requires : goal.write_list-requires
 write_list-requires c =
-    let f : After-fill_last-last = c.before.before.before in
-    let p : After-start_profile-count = f.before.before.before in
-    let h : After-header_at-header = p.before.before in
+    let f : After-fill_last-last = (goal.at.write_list-requires c).After-fill_last-last in
+    let p : After-start_profile-count = (goal.at.After-fill_last-last f).After-start_profile-count in
+    let h : After-header_at-header = (goal.at.After-start_profile-count p).After-header_at-header in
     can-put h.requires (counted h) p.start_profile-count.ensures (room p) f.fill_last-last.ensures
 
 pub returns : goal.returns
 returns c =
     let w = c.before in
-    let f : After-fill_last-last = w.before.before.before.before in
-    let p : After-start_profile-count = f.before.before.before in
-    let h : After-header_at-header = p.before.before in
+    let f : After-fill_last-last = (goal.at.returns c).After-fill_last-last in
+    let p : After-start_profile-count = (goal.at.After-fill_last-last f).After-start_profile-count in
+    let h : After-header_at-header = (goal.at.After-start_profile-count p).After-header_at-header in
     extended h.requires (counted h) p.start_profile-count.ensures (room p) f.fill_last-last.ensures
     w.write_list.ensures

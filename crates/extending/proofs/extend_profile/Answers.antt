@@ -13,12 +13,12 @@ use Rattle.extending.proofs.extend_profile.Goals.{After-judge_weight, After-last
 
 -- Where the code starts.
 abbrev start : Else-not-valid → Start
-start c = c.before.before.before
+start c = (goal.at.Else-not-valid c).Start
 
 pub returns-then-not-valid : goal.returns-then-not-valid
 returns-then-not-valid c =
     let t = c.before in
-    let s : Start = t.before.before.before in
+    let s : Start = (goal.at.returns-then-not-valid c).Start in
     rw c.plainly.ensures
     (extend-not-valid s.args.profile.now s.args.bytes.now s.args.out.now s.args.work.now s.requires
     (sym t.valid.ensures ∙ not-true _ t.if-not-valid.true))
@@ -34,27 +34,27 @@ last_weight-before-requires c = is-valid c
 pub overflow_cast-before : goal.overflow_cast-before
 overflow_cast-before c =
     let v = c.before in
-    let s = start v in
-    omega (arith, c.last_weight-before.ensures, last-light s.args.profile.now (is-valid v))
+    let s = start (goal.at.overflow_cast-before c).Else-not-valid in
+    omega (arith, c.last_weight-before.ensures, last-light s.args.profile.now (is-valid (goal.at.overflow_cast-before c).Else-not-valid))
 
 pub extend_with_room-requires : goal.extend_with_room-requires
 extend_with_room-requires c =
-    let e : In-Fine = c.before.before in
-    let w : After-last_weight-before = e.before.before.before in
+    let e : In-Fine = (goal.at.extend_with_room-requires c).In-Fine in
+    let w : After-last_weight-before = (goal.at.In-Fine e).After-last_weight-before in
     let v = w.before in
-    let s = start v in
-    extend-passed s.args.profile.now s.args.bytes.now s.requires (is-valid v) w.last_weight-before.ensures
+    let s = start (goal.at.After-last_weight-before w).Else-not-valid in
+    extend-passed s.args.profile.now s.args.bytes.now s.requires (is-valid (goal.at.After-last_weight-before w).Else-not-valid) w.last_weight-before.ensures
     (sym e.judge_weight.ensures ∙ e.in-Fine.is)
 
 pub returns-in-Refused : goal.returns-in-Refused
 returns-in-Refused c =
-    let after-judge-weight : After-judge_weight = c.before.before.before in
+    let after-judge-weight : After-judge_weight = (goal.at.returns-in-Refused c).After-judge_weight in
     let r = c.refusal-1.given in
-    let w : After-last_weight-before = c.before.before.before.before in
+    let w : After-last_weight-before = (goal.at.returns-in-Refused c).After-last_weight-before in
     let v = w.before in
-    let s = start v in
+    let s = start (goal.at.After-last_weight-before w).Else-not-valid in
     extend-too-heavy s.args.profile.now s.args.bytes.now s.args.out.now s.args.work.now s.requires
-    r.0.0 (is-valid v) w.last_weight-before.ensures
+    r.0.0 (is-valid (goal.at.After-last_weight-before w).Else-not-valid) w.last_weight-before.ensures
     (sym after-judge-weight.judge_weight.ensures ∙ r.1)
 
 pub returns-in-Fine : goal.returns-in-Fine

@@ -13,7 +13,7 @@ use Rattle.extending.proofs.extend_with_room.Goals.{After-extend_by_lists-points
 
 -- Where the code starts.
 abbrev start : Else-work-lt-AREA → Start
-start c = c.before.before.before
+start c = (goal.at.Else-work-lt-AREA c).Start
 
 pub returns-then-out-lt-MOST_NUMBERS : goal.returns-then-out-lt-MOST_NUMBERS
 returns-then-out-lt-MOST_NUMBERS c =
@@ -25,7 +25,7 @@ returns-then-out-lt-MOST_NUMBERS c =
 pub returns-then-work-lt-AREA : goal.returns-then-work-lt-AREA
 returns-then-work-lt-AREA c =
     let t = c.before in
-    let s : Start = t.before.before.before in
+    let s : Start = (goal.at.returns-then-work-lt-AREA c).Start in
     rw c.plainly-then-work-lt-AREA.ensures
     (extend-no-space s.args.profile.now s.args.bytes.now s.args.out.now s.args.work.now s.requires
     t.if-out-lt-MOST_NUMBERS.false t.if-work-lt-AREA.true)
@@ -38,18 +38,18 @@ lent c =
     length-take-le area s.args.work.now c.if-work-lt-AREA.false
 
 pub slice_bounds-extend_by_lists-end-2 : goal.slice_bounds-extend_by_lists-end-2
-slice_bounds-extend_by_lists-end-2 c = omega (arith, lent c.before.before)
+slice_bounds-extend_by_lists-end-2 c = omega (arith, lent (goal.at.slice_bounds-extend_by_lists-end-2 c).Else-work-lt-AREA)
 
 pub extend_by_lists-points-requires : goal.extend_by_lists-points-requires
 extend_by_lists-points-requires c =
-    let d : Else-work-lt-AREA = c.before.before in
+    let d : Else-work-lt-AREA = (goal.at.extend_by_lists-points-requires c).Else-work-lt-AREA in
     let s = start d in
     record { accepted = s.requires; places = d.if-out-lt-MOST_NUMBERS.false; room = omega (arith, lent d) }
 
 pub returns : goal.returns
 returns c =
-    let x : After-extend_by_lists-points = c.before.before.before.before.before in
-    let d : Else-work-lt-AREA = x.before.before.before in
+    let x : After-extend_by_lists-points = (goal.at.returns c).After-extend_by_lists-points in
+    let d : Else-work-lt-AREA = (goal.at.After-extend_by_lists-points x).Else-work-lt-AREA in
     let s = start d in
     let part = x.extend_by_lists-points.new.work in
     let long : length part ≡ area = omega (arith, lent d) in

@@ -48,7 +48,7 @@ returns-then-is_state c =
     let a = e.args in
     let t = took.take_piece in
     piece-taken a.feed-1.now a.front-1.now a.piece.now a.work-1.now e.if-feed-lt-FEED.false f.if-front-lt-FRONT.false (omega (arith, g.if-work-lt-AREA.false))
-    (sym s.is_state.ensures ∙ then.if-is_state.true) t.result t.new.0 t.new.1.0 t.new.1.1.1.0 t.ensures
+    (sym s.is_state.ensures ∙ then.if-is_state.true) t.result t.new.feed t.new.front t.new.work t.ensures
 
 pub returns : goal.returns
 returns c =

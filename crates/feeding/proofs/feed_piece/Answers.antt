@@ -67,12 +67,12 @@ loop-at-preserved c =
     let t = r.one_turn-t in
     let l = r.before.before.before.before.before.before.before.before in
     let piece = l.args.piece.now in
-    let rest : run (seen t.result.part t.new.1.0 t.new.1.1.0) (drop t.result.next piece)
+    let rest : run (seen t.result.part t.new.figures t.new.front) (drop t.result.next piece)
     ≡ run (seen l.loop-at.state l.loop-at.figures l.loop-at.front) (drop l.loop-at.at piece) =
     t.ensures.rest in (
       t.ensures.inside,
       t.ensures.sound,
-      less-again (left l.loop-at.state l.loop-at.figures) (left t.result.part t.new.1.0) l.loop-at.at t.result.next _ t.ensures.less
+      less-again (left l.loop-at.state l.loop-at.figures) (left t.result.part t.new.figures) l.loop-at.at t.result.next _ t.ensures.less
           t.ensures.on l.loop-at.invariant.2,
       rest ∙ l.loop-at.invariant.3,
       t.ensures.behind ∙ l.loop-at.invariant.4,

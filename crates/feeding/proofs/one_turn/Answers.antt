@@ -9,7 +9,7 @@ returns-then-known-eq0 c =
     let if = c.before.before in
     let s = if.before.before.before.before in
     let a = s.args in
-    turn-high a.part a.figures-1.now a.front-1.now a.piece.now a.at a.work-1.now s.requires if.if-known-eq0.true c.wide-high.result c.wide-high.ensures.0 c.wide-high.ensures.1
+    turn-high a.part a.figures-1.now a.front-1.now a.piece.now a.at a.work-1.now s.requires if.if-known-eq0.true c.wide-high.result c.wide-high.ensures.value c.wide-high.ensures.upper_bound
 
 pub settle-begun-requires : goal.settle-begun-requires
 settle-begun-requires c =
@@ -20,7 +20,7 @@ settle-begun-requires c =
     record {
       can = few-enough a.part a.figures-1.now a.front-1.now a.piece.now a.at a.work-1.now s.requires;
       wide = s.requires.sound.wide;
-      most = omega (arith, s.requires.sound.half if.if-known-eq1.true, w.wide-low.ensures.1);
+      most = omega (arith, s.requires.sound.half if.if-known-eq1.true, w.wide-low.ensures.upper_bound);
       come = omega arith;
     }
 
@@ -31,7 +31,7 @@ returns-then-known-eq1 c =
     let if = w.before.before in
     let s = if.before.before.before.before.before in
     let a = s.args in
-    turn_low a.part a.figures-1.now a.front-1.now a.piece.now a.at a.work-1.now s.requires if.if-known-eq1.true w.wide-low.result w.wide-low.ensures.0
+    turn_low a.part a.figures-1.now a.front-1.now a.piece.now a.at a.work-1.now s.requires if.if-known-eq1.true w.wide-low.result w.wide-low.ensures.value
     t.settle-begun.result t.settle-begun.new.figures t.settle-begun.new.work t.settle-begun.ensures
 
 pub overflow_sub-size : goal.overflow_sub-size

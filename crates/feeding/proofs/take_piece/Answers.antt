@@ -24,7 +24,7 @@ put_part-requires c =
     let fed = c.before.before.before.before.before.before.before.before in
     let s = fed.before.before.before.before.before.before.before.before.before in
     let f = fed.feed_piece-part in
-    sound-put f.result f.new.1.0 f.new.1.1.0 f.ensures.sound (omega (arith, s.requires.long, f.auto.1.0))
+    sound-put f.result f.new.figures f.new.front f.ensures.sound (omega (arith, s.requires.long, f.auto.1.0))
 
 pub returns : goal.returns
 returns c =

@@ -19,12 +19,12 @@ fits : (c : Start) → JobFits c.args.job
 fits c = facts-fit c.args.job (facts c)
 
 pub plain_bits-length-requires : goal.plain_bits-length-requires
-plain_bits-length-requires c = omega (signed, (facts c.before).long, (fits c.before).long)
+plain_bits-length-requires c = omega (signed, (facts (goal.at.plain_bits-length-requires c).Start).long, (fits (goal.at.plain_bits-length-requires c).Start).long)
 
 pub time_bits-deadline-requires : goal.time_bits-deadline-requires
 time_bits-deadline-requires c =
     let a = c.before.before.before in
-    omega (signed, (facts a).deadline, (fits a).deadline)
+    omega (signed, (facts (goal.at.time_bits-deadline-requires c).Start).deadline, (fits (goal.at.time_bits-deadline-requires c).Start).deadline)
 
 word : (c : After-time_bits-deadline)
     → c.plain_bits-length.result * 2 ^ 18 + c.time_bits-deadline.result ≡ encode back_layout (back_of c.args.job)

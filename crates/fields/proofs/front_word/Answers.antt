@@ -22,27 +22,27 @@ fits c = facts-fit c.args.job (facts c)
 pub plain_bits-number-requires : goal.plain_bits-number-requires
 plain_bits-number-requires c =
     let a = c.before in
-    omega (signed, (facts a).number, (fits a).number)
+    omega (signed, (facts (goal.at.plain_bits-number-requires c).Start).number, (fits (goal.at.plain_bits-number-requires c).Start).number)
 
 pub plain_bits-pack-requires : goal.plain_bits-pack-requires
 plain_bits-pack-requires c =
     let a = c.before.before.before in
-    omega (signed, (facts a).pack, (fits a).pack)
+    omega (signed, (facts (goal.at.plain_bits-pack-requires c).Start).pack, (fits (goal.at.plain_bits-pack-requires c).Start).pack)
 
 pub plain_bits-critical-requires : goal.plain_bits-critical-requires
 plain_bits-critical-requires c =
     let a = c.before.before.before.before.before in
-    omega (signed, (facts a).critical, (fits a).critical)
+    omega (signed, (facts (goal.at.plain_bits-critical-requires c).Start).critical, (fits (goal.at.plain_bits-critical-requires c).Start).critical)
 
 pub plain_bits-weight-requires : goal.plain_bits-weight-requires
 plain_bits-weight-requires c =
     let a = c.before.before.before.before.before.before.before in
-    omega (signed, (facts a).weight, (fits a).weight)
+    omega (signed, (facts (goal.at.plain_bits-weight-requires c).Start).weight, (fits (goal.at.plain_bits-weight-requires c).Start).weight)
 
 pub time_bits-ready-requires : goal.time_bits-ready-requires
 time_bits-ready-requires c =
     let a = c.before.before.before.before.before.before.before.before.before in
-    omega (signed, (facts a).ready, (fits a).ready)
+    omega (signed, (facts (goal.at.time_bits-ready-requires c).Start).ready, (fits (goal.at.time_bits-ready-requires c).Start).ready)
 
 pub head_word-head-requires : goal.head_word-head-requires
 head_word-head-requires c =
@@ -54,7 +54,7 @@ head_word-head-requires c =
 -- All bits are at hand.
 module _ (c : After-head_word-head) where
   abbrev start : Start
-  start = c.before.before.before.before.before.before.before.before.before.before.before
+  start = (goal.at.After-head_word-head c).Start
 
   abbrev job : Job
   job = start.args.job

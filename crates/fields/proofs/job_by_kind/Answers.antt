@@ -16,7 +16,7 @@ use Rattle.fields.specs.Asked.{WordIs}
 use Rattle.fields.specs.Words.{job-words, pack-small}
 use Rattle.fields.specs.Facts.{record-known, record-room, record-says}
 use Rattle.fields.proofs.job_by_kind.Goals as goal
-use Rattle.fields.proofs.job_by_kind.Goals.{After-shared_slice_known-2-1, After-word_at-back, After-word_at-front, Start}
+use Rattle.fields.proofs.job_by_kind.Goals.{After-word_at-back, After-word_at-front, Start}
 
 -- The kind is known, and the record stands in the bytes, of which there are not too many.
 module _ (c : Start) where
@@ -36,55 +36,55 @@ module _ (c : Start) where
   room = record-room bytes c.args.place kind c.requires.there c.requires.kinded
 
 pub overflow_add-size : goal.overflow_add-size
-overflow_add-size c = omega (arith, known c.before)
+overflow_add-size c = omega (arith, known (goal.at.overflow_add-size c).Start)
 
 pub overflow_mul-first : goal.overflow_mul-first
-overflow_mul-first c = omega (arith, room c.before, c.well-formed)
+overflow_mul-first c = omega (arith, room (goal.at.overflow_mul-first c).Start, c.well-formed)
 
 pub overflow_add-first : goal.overflow_add-first
-overflow_add-first c = omega (arith, room c.before, c.well-formed)
+overflow_add-first c = omega (arith, room (goal.at.overflow_add-first c).Start, c.well-formed)
 
 pub bounds-bytes-size : goal.bounds-bytes-size
-bounds-bytes-size c = omega (arith, room c.before.before)
+bounds-bytes-size c = omega (arith, room (goal.at.bounds-bytes-size c).Start)
 
 pub overflow_cast-first : goal.overflow_cast-first
-overflow_cast-first c = omega (arith, c.shared_slice_known-2-1.given (at c.before.before))
+overflow_cast-first c = omega (arith, c.shared_slice_known-2-1.given (at (goal.at.overflow_cast-first c).Start))
 
 pub overflow_mul-edge : goal.overflow_mul-edge
-overflow_mul-edge c = omega (arith, room c.before.before, c.well-formed)
+overflow_mul-edge c = omega (arith, room (goal.at.overflow_mul-edge c).Start, c.well-formed)
 
 pub overflow_add-edge : goal.overflow_add-edge
-overflow_add-edge c = omega (arith, room c.before.before, c.well-formed)
+overflow_add-edge c = omega (arith, room (goal.at.overflow_add-edge c).Start, c.well-formed)
 
 pub word_at-front-requires : goal.word_at-front-requires
-word_at-front-requires c = record { short = omega arith; room = omega (arith, room c.before.before) }
+word_at-front-requires c = record { short = omega arith; room = omega (arith, room (goal.at.word_at-front-requires c).Start) }
 
 pub word_at-back-requires : goal.word_at-back-requires
-word_at-back-requires c = record { short = omega arith; room = omega (arith, room c.before.before.before) }
+word_at-back-requires c = record { short = omega arith; room = omega (arith, room (goal.at.word_at-back-requires c).Start) }
 
 pub pack_of-pack-requires : goal.pack_of-pack-requires
 pack_of-pack-requires c =
-    let a : Start = c.before.before.before.before in
-    let first : After-shared_slice_known-2-1 = c.before.before in
+    let a : Start = (goal.at.pack_of-pack-requires c).Start in
+    let first : Start = (goal.at.pack_of-pack-requires c).Start in
     record { byte = (first.shared_slice_known-2-1.given (at a)).fits; few = omega (arith, c.word_at-front.ensures.small) }
 
 pub overflow_cast-result : goal.overflow_cast-result
 overflow_cast-result c =
-    let first : After-shared_slice_known-2-1 = c.before.before.before.before.before in
-    omega (signed, first.shared_slice_known-2-1.given (at first.before.before))
+    let first : Start = (goal.at.overflow_cast-result c).Start in
+    omega (signed, first.shared_slice_known-2-1.given (at first))
 
 pub overflow_cast-result-2 : goal.overflow_cast-result-2
 overflow_cast-result-2 c =
-    let front : After-word_at-front = c.before.before.before.before in
-    let a : Start = front.before.before.before in
+    let front : After-word_at-front = (goal.at.overflow_cast-result-2 c).After-word_at-front in
+    let a : Start = (goal.at.After-word_at-front front).Start in
     let bits : ℕ = get_or (bytes a) (at a) 0 * 2 ^ 6 + front.word_at-front.result / 2 ^ 26 in
     omega (signed, c.pack_of-pack.ensures, pack-small (kind a) bits)
 
 pub returns : goal.returns
 returns c =
-    let back : After-word_at-back = c.before.before.before in
-    let front : After-word_at-front = back.before in
-    let a : Start = front.before.before.before in
+    let back : After-word_at-back = (goal.at.returns c).After-word_at-back in
+    let front : After-word_at-front = (goal.at.After-word_at-back back).After-word_at-front in
+    let a : Start = (goal.at.After-word_at-front front).Start in
     let ready : SFits w32 c.time_of-ready.result = record { sfits = c.time_of-ready.type_inv } in
     let deadline : SFits w32 c.time_of-deadline.result = record { sfits = c.time_of-deadline.type_inv } in
     let edge : ℕ = (8 + kind a) * a.args.place + (8 + kind a) in

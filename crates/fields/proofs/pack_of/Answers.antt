@@ -19,10 +19,10 @@ of-both (suc kind) first behind h bits = omega (arith, bits.few)
 
 pub returns-then-kind-eq0 : goal.returns-then-kind-eq0
 returns-then-kind-eq0 c =
-    let a : Start = c.before in
+    let a : Start = (goal.at.returns-then-kind-eq0 c).Start in
     without a.args.kind (a.args.first * 2 ^ 6 + a.args.behind) (omega arith)
 
 pub returns : goal.returns
 returns c =
-    let a : Start = c.before in
+    let a : Start = (goal.at.returns c).Start in
     of-both a.args.kind a.args.first a.args.behind (omega arith) a.requires

@@ -33,16 +33,16 @@ overflow_add-word-2 c = omega (arith, small c, c.requires.few, c.requires.known)
 
 pub put_word-requires : goal.put_word-requires
 put_word-requires c =
-    let s : Start = c.before.before.before in
-    omega (arith, small c.before, s.requires)
+    let s : Start = (goal.at.put_word-requires c).Start in
+    omega (arith, small (goal.at.put_word-requires c).After-time_bits, s.requires)
 
 pub returns : goal.returns
 unfolding packed_header
 returns c =
-    let after-time-bits : After-time_bits = c.before.before.before.before in
-    let a : Start = c.before.before.before.before.before.before in
+    let after-time-bits : After-time_bits = (goal.at.returns c).After-time_bits in
+    let a : Start = (goal.at.returns c).Start in
     let l : List ℕ = a.args.bytes.now in
     c.put_word.ensures
     ∙ ap (λ w. bytes_of 4 w ++ drop 4 l)
-    (ap (λ b. a.args.count * 2 ^ 26 + (b * 2 ^ 8 + a.args.kind)) (bits c.before.before.before.before)
+    (ap (λ b. a.args.count * 2 ^ 26 + (b * 2 ^ 8 + a.args.kind)) (bits (goal.at.returns c).After-time_bits)
     ∙ sym (header-encode a.args.kind a.args.count a.args.t0))

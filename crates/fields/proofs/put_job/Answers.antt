@@ -26,12 +26,12 @@ put_word-requires c =
     let f = c.front_word-front in
     let e = c.front_bytes-edge in
     record {
-      room = record { short = omega (arith, e.ensures, front-least a.args.kind); room = omega (arith, room c.before) };
+      room = record { short = omega (arith, e.ensures, front-least a.args.kind); room = omega (arith, room (goal.at.put_word-requires c).After-front_bytes-edge) };
       small = rw (f.ensures, e.ensures) (front-small a.args.job a.args.kind a.requires.fits);
     }
 
 pub overflow_add-at : goal.overflow_add-at
-overflow_add-at c = omega (arith, room c.before.before.before.before.before, c.well-formed)
+overflow_add-at c = omega (arith, room (goal.at.overflow_add-at c).After-front_bytes-edge, c.well-formed)
 
 pub put_word-requires-2 : goal.put_word-requires-2
 put_word-requires-2 c =
@@ -39,7 +39,7 @@ put_word-requires-2 c =
     let w = c.back_word-back in
     let same : length c.put_word.new.bytes ≡ length a.args.bytes.now = search rules in
     record {
-      room = record { short = omega arith; room = omega (arith, same, room c.before.before.before.before.before) };
+      room = record { short = omega arith; room = omega (arith, same, room (goal.at.put_word-requires-2 c).After-front_bytes-edge) };
       small = rw w.ensures (back-small a.args.job a.requires.fits.within);
     }
 
@@ -51,10 +51,10 @@ returns c =
     let f = c.front_word-front in
     let w = c.back_word-back in
     let e = c.front_bytes-edge in
-    words-written l c.put_word.new.bytes c.put_word-2.new.bytes at e.result 4 f.result w.result (room c.before.before.before.before.before.before.before.before)
+    words-written l c.put_word.new.bytes c.put_word-2.new.bytes at e.result 4 f.result w.result (room (goal.at.returns c).After-front_bytes-edge)
     c.put_word.ensures c.put_word-2.ensures
     ∙ ap₂ (λ bs n. take at l ++ bs ++ drop (at + n) l)
     (ap (λ n. bytes_of n f.result ++ bytes_of 4 w.result) e.ensures
     ∙ ap₂ (λ x y. bytes_of (front_bytes a.args.kind) x ++ bytes_of 4 y) f.ensures w.ensures
     ∙ record-parts a.args.job a.args.kind a.requires.fits)
-    (edge c.before.before.before.before.before.before.before.before)
+    (edge (goal.at.returns c).After-front_bytes-edge)

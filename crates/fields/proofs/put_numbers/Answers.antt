@@ -11,7 +11,7 @@ use Rattle.fields.specs.Facts.{JobFits, bounds-fit, from_bits, fields-kept}
 use Rattle.fields.specs.Numbers.{seven-written}
 use Rattle.fields.specs.declared.Job.{Job}
 use Rattle.fields.proofs.put_numbers.Goals as goal
-use Rattle.fields.proofs.put_numbers.Goals.{After-struct_told-1}
+use Rattle.fields.proofs.put_numbers.Goals.{Start}
 
 pub bounds-numbers-at-2 : goal.bounds-numbers-at-2
 bounds-numbers-at-2 c = simp length-set (omega arith)
@@ -35,7 +35,7 @@ pub shape_of-numbers : goal.shape_of-numbers
 shape_of-numbers c = simp length-set
 
 -- Each number of the job is an i32.
-fits : (c : After-struct_told-1) → JobFits c.args.job
+fits : (c : Start) → JobFits c.args.job
 fits c =
     let g = c.struct_told-1.given in
     bounds-fit c.args.job g.0.1 g.1.0.1 g.1.1.0.1 g.1.1.1.0.1 g.1.1.1.1.0.1 g.1.1.1.1.1.0.1 g.1.1.1.1.1.1.0.1
@@ -48,4 +48,4 @@ returns c =
     let j : Job = told.args.job in
     let k : Job = from_bits j in
     seven-written l at k.number k.pack k.critical k.weight k.ready k.length k.deadline told.requires
-    ∙ ap (λ zs. take at l ++ zs ++ drop (at + 7) l) (fields-kept j (fits told))
+    ∙ ap (λ zs. take at l ++ zs ++ drop (at + 7) l) (fields-kept j (fits (goal.at.returns c).Start))

@@ -6,11 +6,11 @@ use Rattle.filling.proofs.cells_one.Goals.{After-sweep-next, After-task_in-task}
 
 pub sweep-next-requires : goal.sweep-next-requires
 sweep-next-requires c =
-    let t : After-task_in-task = c.before.before.before.before in
+    let t : After-task_in-task = (goal.at.sweep-next-requires c).After-task_in-task in
     cells-can (read-task t.task_in-task.ensures) t.requires
 
 pub returns : goal.returns
 returns c =
-    let s : After-sweep-next = c.before.before.before in
-    let t : After-task_in-task = s.before.before.before.before.before in
+    let s : After-sweep-next = (goal.at.returns c).After-sweep-next in
+    let t : After-task_in-task = (goal.at.After-sweep-next s).After-task_in-task in
     cells-filled (read-task t.task_in-task.ensures) t.requires s.sweep-next.ensures

@@ -13,7 +13,7 @@ use Rattle.sweeping.specs.SweepLaws.{by-list, can-spread}
 use Rattle.filling.specs.Lists.{carried_as, CanFill, FilledSofar, Filling}
 use Rattle.filling.specs.ListsLaws.{filling-spread, next-can, filling-more, filling-all, sums-small}
 use Rattle.filling.proofs.fill_by_cells.Goals as goal
-use Rattle.filling.proofs.fill_by_cells.Goals.{After-buffer-pushed, After-cells_one-next, After-spread, After-struct_known-in-loop-k-1, In-loop-k, Start}
+use Rattle.filling.proofs.fill_by_cells.Goals.{After-buffer-pushed, After-cells_one-next, After-spread, In-loop-k, Start}
 
 -- Where the code starts, seen from where the buffer is made.
 abbrev start : After-buffer-pushed → Start
@@ -21,13 +21,13 @@ start c = c.before.before.before.before
 
 pub spread-requires : goal.spread-requires
 spread-requires c =
-    let g = (start c.before.before).requires in
+    let g = (start (goal.at.spread-requires c).After-buffer-pushed).requires in
     can-spread (by-list refl g.filled.filling.holds) g.size
 
 pub loop-k-init : goal.loop-k-init
 loop-k-init c =
-    let s : After-spread = c.before in
-    let b : After-buffer-pushed = s.before.before.before in (
+    let s : After-spread = (goal.at.loop-k-init c).After-spread in
+    let b : After-buffer-pushed = (goal.at.After-spread s).After-buffer-pushed in (
       (λ count first can sofar. filling-spread can sofar.filling refl s.spread.ensures),
       (start b).requires.filled.order,
       b.buffer-pushed.ensures,
@@ -42,7 +42,7 @@ loop-k-init c =
 
 module _ (turn : In-loop-k) where
   abbrev begun : Start
-  begun = start turn.before.before.before.before.before.before
+  begun = start (goal.at.In-loop-k turn).After-buffer-pushed
 
   own : Filling begun.args.bytes.now begun.requires.count begun.requires.work₀ turn.loop-k.k turn.loop-k.list true
       turn.loop-k.points turn.loop-k.weight turn.loop-k.places turn.loop-k.counts
@@ -58,13 +58,13 @@ slice_bounds-cells_one-end c = sym c.loop-k.invariant.7
 -- The next job can be stepped by.
 pub cells_one-next-requires : goal.cells_one-next-requires
 cells_one-next-requires c =
-    let turn : In-loop-k = c.before.before.before in
+    let turn : In-loop-k = (goal.at.cells_one-next-requires c).In-loop-k in
     next-can (begun turn).requires.can (own turn) turn.loop-k-test.true turn.loop-k.invariant.2
 
 -- With its list there is one more.
 module _ (filled : After-cells_one-next) where
   abbrev turn : In-loop-k
-  turn = filled.before.before.before.before
+  turn = (goal.at.After-cells_one-next filled).In-loop-k
 
   one_more : (count : ℕ) (first : List ℤ) → CanFill (begun turn).args.bytes.now (begun turn).args.n count first
       → Filling (begun turn).args.bytes.now count first turn.loop-k.k turn.loop-k.list true
@@ -84,40 +84,40 @@ module _ (filled : After-cells_one-next) where
 
 pub overflow_add-points : goal.overflow_add-points
 overflow_add-points c =
-    let filled : After-cells_one-next = c.before.before.before.before in
+    let filled : After-cells_one-next = (goal.at.overflow_add-points c).After-cells_one-next in
     omega (arith, (small filled).0, few (turn filled))
 
 pub overflow_add-weight : goal.overflow_add-weight
 overflow_add-weight c =
-    let filled : After-cells_one-next = c.before.before.before.before.before in
+    let filled : After-cells_one-next = (goal.at.overflow_add-weight c).After-cells_one-next in
     omega (arith, (small filled).1)
 
 -- ---- its notes
 
-abbrev noting : After-struct_known-in-loop-k-1 → After-cells_one-next
+abbrev noting : After-cells_one-next → After-cells_one-next
 noting c = c.before.before.before.before.before
 
 pub overflow_add-k : goal.overflow_add-k
-overflow_add-k c = omega (arith, few (turn (noting c)))
+overflow_add-k c = omega (arith, few (turn (noting (goal.at.overflow_add-k c).After-cells_one-next)))
 
 pub offset_bounds-places-k : goal.offset_bounds-places-k
-offset_bounds-places-k c = omega (arith, few (turn (noting c)))
+offset_bounds-places-k c = omega (arith, few (turn (noting (goal.at.offset_bounds-places-k c).After-cells_one-next)))
 
 pub bounds-places-k : goal.bounds-places-k
-bounds-places-k c = let t = turn (noting c) in omega (arith, few t, (own t).room_places)
+bounds-places-k c = let t = turn (noting (goal.at.bounds-places-k c).After-cells_one-next) in omega (arith, few t, (own t).room_places)
 
 pub offset_bounds-counts-k : goal.offset_bounds-counts-k
-offset_bounds-counts-k c = omega (arith, few (turn (noting c)))
+offset_bounds-counts-k c = omega (arith, few (turn (noting (goal.at.offset_bounds-counts-k c).After-cells_one-next)))
 
 pub bounds-counts-k : goal.bounds-counts-k
-bounds-counts-k c = let t = turn (noting c) in omega (arith, few t, (own t).room_counts)
+bounds-counts-k c = let t = turn (noting (goal.at.bounds-counts-k c).After-cells_one-next) in omega (arith, few t, (own t).room_counts)
 
 pub loop-k-smaller : goal.loop-k-smaller
-loop-k-smaller c = omega (arith, (turn (noting c)).loop-k-test.taken)
+loop-k-smaller c = omega (arith, (turn (noting (goal.at.loop-k-smaller c).After-cells_one-next)).loop-k-test.taken)
 
 pub loop-k-preserved : goal.loop-k-preserved
 loop-k-preserved c =
-    let filled = noting c in
+    let filled = noting (goal.at.loop-k-preserved c).After-cells_one-next in
     let t = turn filled in
     let l = t.loop-k in
     let sized : length filled.cells_one-next.last.1.1.1.1.0 ≡ length l.pushed-1 = search rules in
@@ -145,8 +145,8 @@ shape_of-counts c = c.loop-k.invariant.5
 
 pub shape_of-row : goal.shape_of-row
 shape_of-row c =
-    let s : After-spread = c.before.before.before in
-    let sized : length s.spread.new.row ≡ length (start s.before.before.before).args.row.now = search rules in
+    let s : After-spread = (goal.at.shape_of-row c).After-spread in
+    let sized : length s.spread.new.row ≡ length (start (goal.at.After-spread s).After-buffer-pushed).args.row.now = search rules in
     c.loop-k.invariant.6 ∙ sized
 
 pub returns : goal.returns

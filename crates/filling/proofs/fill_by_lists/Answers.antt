@@ -11,18 +11,18 @@ use Rattle.stepping.specs.Stepping.{Buffer}
 use Rattle.filling.specs.Lists.{as_stretch, listed_as, Filling}
 use Rattle.filling.specs.ListsLaws.{filling-start, next-can, filling-more, sums-small}
 use Rattle.filling.proofs.fill_by_lists.Goals as goal
-use Rattle.filling.proofs.fill_by_lists.Goals.{After-list_one-next, After-slice_known-3-1, After-struct_known-in-loop-k-1, In-loop-k, Start}
+use Rattle.filling.proofs.fill_by_lists.Goals.{After-buffer-pushed, After-list_one-next, In-loop-k, Start}
 
 -- Where the code starts, seen from where the first list's count is read.
-abbrev start : After-slice_known-3-1 → Start
+abbrev start : After-buffer-pushed → Start
 start c = c.before.before.before.before.before
 
 pub bounds-counts-0 : goal.bounds-counts-0
-bounds-counts-0 c = omega (arith, (start c).requires.room_counts)
+bounds-counts-0 c = omega (arith, (start (goal.at.bounds-counts-0 c).After-buffer-pushed).requires.room_counts)
 
 pub loop-k-init : goal.loop-k-init
 loop-k-init c =
-    let g = (start c).requires in (
+    let g = (start (goal.at.loop-k-init c).After-buffer-pushed).requires in (
       filling-start g.filling g.first refl g.room_places g.room_counts,
       omega arith,
       omega arith,
@@ -36,7 +36,7 @@ loop-k-init c =
 
 module _ (turn : In-loop-k) where
   abbrev begun : Start
-  begun = start turn.before.before
+  begun = start (goal.at.In-loop-k turn).After-buffer-pushed
 
   below : turn.loop-k.k < begun.args.n
   below = omega (arith, turn.loop-k-test.taken, turn.loop-k.invariant.2)
@@ -50,14 +50,14 @@ slice_bounds-list_one-end c = sym c.loop-k.invariant.6
 -- The next job can be stepped by.
 pub list_one-next-requires : goal.list_one-next-requires
 list_one-next-requires c =
-    let turn : In-loop-k = c.before.before in
+    let turn : In-loop-k = (goal.at.list_one-next-requires c).In-loop-k in
     let l = turn.loop-k.invariant in
     next-can (begun turn).requires.filling l.0 (below turn) l.3
 
 -- With its list there is one more.
 module _ (filled : After-list_one-next) where
   abbrev turn : In-loop-k
-  turn = filled.before.before.before
+  turn = (goal.at.After-list_one-next filled).In-loop-k
 
   one_more : Filling (begun turn).args.bytes.now (get_or (begun turn).args.counts.now 0 0) (begun turn).args.work.now
       (turn.loop-k.k + 1) (listed_as filled.list_one-next.result) false
@@ -73,33 +73,33 @@ module _ (filled : After-list_one-next) where
 
 pub overflow_add-points : goal.overflow_add-points
 overflow_add-points c =
-    let filled : After-list_one-next = c.before.before.before in
+    let filled : After-list_one-next = (goal.at.overflow_add-points c).After-list_one-next in
     omega (arith, (small filled).0, few (turn filled))
 
 pub overflow_add-weight : goal.overflow_add-weight
 overflow_add-weight c =
-    let filled : After-list_one-next = c.before.before.before.before in
+    let filled : After-list_one-next = (goal.at.overflow_add-weight c).After-list_one-next in
     omega (arith, (small filled).1)
 
 -- ---- its notes
 
-abbrev noting : After-struct_known-in-loop-k-1 → After-list_one-next
+abbrev noting : After-list_one-next → After-list_one-next
 noting c = c.before.before.before.before
 
 pub overflow_add-k : goal.overflow_add-k
-overflow_add-k c = omega (arith, few (turn (noting c)))
+overflow_add-k c = omega (arith, few (turn (noting (goal.at.overflow_add-k c).After-list_one-next)))
 
 pub offset_bounds-places-k : goal.offset_bounds-places-k
-offset_bounds-places-k c = omega (arith, few (turn (noting c)))
+offset_bounds-places-k c = omega (arith, few (turn (noting (goal.at.offset_bounds-places-k c).After-list_one-next)))
 
 pub bounds-places-k : goal.bounds-places-k
-bounds-places-k c = let t = turn (noting c) in omega (arith, few t, t.loop-k.invariant.0.room_places)
+bounds-places-k c = let t = turn (noting (goal.at.bounds-places-k c).After-list_one-next) in omega (arith, few t, t.loop-k.invariant.0.room_places)
 
 pub offset_bounds-counts-k : goal.offset_bounds-counts-k
-offset_bounds-counts-k c = omega (arith, few (turn (noting c)))
+offset_bounds-counts-k c = omega (arith, few (turn (noting (goal.at.offset_bounds-counts-k c).After-list_one-next)))
 
 pub bounds-counts-k : goal.bounds-counts-k
-bounds-counts-k c = let t = turn (noting c) in omega (arith, few t, t.loop-k.invariant.0.room_counts)
+bounds-counts-k c = let t = turn (noting (goal.at.bounds-counts-k c).After-list_one-next) in omega (arith, few t, t.loop-k.invariant.0.room_counts)
 
 -- The end is here or at the last job.
 between : (late : Bool) (k n : ℕ) → k ≤ n → (k ≤ cond late k n) × (cond late k n ≤ n)
@@ -107,11 +107,11 @@ between true k n h = (omega arith, h)
 between false k n h = (h, omega arith)
 
 pub loop-k-smaller : goal.loop-k-smaller
-loop-k-smaller c = omega (arith, below (turn (noting c.before)))
+loop-k-smaller c = omega (arith, below (turn (noting (goal.at.loop-k-smaller c).After-list_one-next)))
 
 pub loop-k-preserved : goal.loop-k-preserved
 loop-k-preserved c =
-    let filled = noting c.before in
+    let filled = noting (goal.at.loop-k-preserved c).After-list_one-next in
     let t = turn filled in
     let l = t.loop-k in
     let sized : length filled.list_one-next.last.1.1.1.1.0 ≡ length l.pushed-1 = search rules in

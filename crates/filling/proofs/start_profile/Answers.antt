@@ -22,7 +22,7 @@ loop-i-init c = (at-start _ c.requires.valid, begin-none _ _)
 -- The point at the place: it is there, there is room for it, and it is within the limits.
 module _ (c : In-loop-i) where
   abbrev begun : Start
-  begun = c.before.before
+  begun = (goal.at.In-loop-i c).Start
 
   next : NextPoint begun.args.numbers.now c.loop-i.i
   next = next-point _ _ c.loop-i.invariant.0 c.loop-i-test.true
@@ -44,14 +44,14 @@ pub bounds-numbers-i : goal.bounds-numbers-i
 bounds-numbers-i c = (next c).more
 
 pub overflow_cast-weight : goal.overflow_cast-weight
-overflow_cast-weight c = rw (weight-back c.before) (tt, omega (arith, (within c.before).weight-1))
+overflow_cast-weight c = rw (weight-back (goal.at.overflow_cast-weight c).In-loop-i) (tt, omega (arith, (within (goal.at.overflow_cast-weight c).In-loop-i).weight-1))
 
 pub code_of-requires : goal.code_of-requires
 code_of-requires c =
     let d = c.before.before in
-    let time = time_at (begun d).args.numbers.now d.loop-i.i in
+    let time = time_at (begun (goal.at.code_of-requires c).In-loop-i).args.numbers.now d.loop-i.i in
     let time-back : to_z w32 (of_z w32 time) ≡ time = read_back_lem time c.code_of-arg-1.given in
-    rw (time-back, weight-back d) ((within d).time, (within d).weight-1)
+    rw (time-back, weight-back (goal.at.code_of-requires c).In-loop-i) ((within (goal.at.code_of-requires c).In-loop-i).time, (within (goal.at.code_of-requires c).In-loop-i).weight-1)
 
 -- The turn in which a point is coded.
 abbrev turn : After-code_of → In-loop-i

@@ -24,21 +24,21 @@ frame_of-frame-requires c = passed c
 
 pub returns-then-frame : goal.returns-then-frame
 returns-then-frame c =
-    let f : After-frame_of-frame = c.before.before in
+    let f : After-frame_of-frame = (goal.at.returns-then-frame c).After-frame_of-frame in
     let a = f.args in
-    let frames = frames-long a.numbers.now a.order-1.now (passed f.before)
+    let frames = frames-long a.numbers.now a.order-1.now (passed (goal.at.After-frame_of-frame f).In-Fine)
     (found-past f.frame_of-frame.ensures c.if-frame.true) in
-    (ap Refused c.plainly.ensures ∙ frames.0, frames.1)
+    (record { answer = ap Refused c.plainly.ensures ∙ frames.0; lent = frames.1 })
 
 pub make-requires : goal.make-requires
 make-requires c =
-    let e : Else-frame = c.before in
-    let f : After-frame_of-frame = e.before in
-    record { given = passed f.before; is = found-whole f.frame_of-frame.ensures e.if-frame.false; short = e.if-frame.false }
+    let e : Else-frame = (goal.at.make-requires c).Else-frame in
+    let f : After-frame_of-frame = (goal.at.Else-frame e).After-frame_of-frame in
+    record { given = passed (goal.at.After-frame_of-frame f).In-Fine; is = found-whole f.frame_of-frame.ensures e.if-frame.false; short = e.if-frame.false }
 
 pub returns-in-Refused : goal.returns-in-Refused
 returns-in-Refused c =
-    let j : After-judge_given = c.before.before.before in
+    let j : After-judge_given = (goal.at.returns-in-Refused c).After-judge_given in
     let a = j.args in
     let said = c.refusal-1.given in
     frames-refused a.numbers.now a.order-1.now said.0.0 (sym j.judge_given.ensures ∙ said.1)

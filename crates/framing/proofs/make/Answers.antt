@@ -11,58 +11,58 @@ use Rattle.framing.proofs.make.Goals.{After-put_header, After-totals_of-made, Af
 
 pub returns-then-count-gt-MOST_JOBS : goal.returns-then-count-gt-MOST_JOBS
 returns-then-count-gt-MOST_JOBS c =
-    let t : After-totals_of-made = c.before.before.before.before in
+    let t : After-totals_of-made = (goal.at.returns-then-count-gt-MOST_JOBS c).After-totals_of-made in
     let a = t.before.before in
     let frames = frames-many a.args.numbers.now a.args.order.now a.requires t.totals_of-made.ensures c.if-count-gt-MOST_JOBS.true in
-    (ap Refused c.plainly.ensures ∙ frames.0, frames.1)
+    (record { answer = ap Refused c.plainly.ensures ∙ frames.0; lent = frames.1 })
 
 pub returns-then-weight-gt-MOST_WEIGHT : goal.returns-then-weight-gt-MOST_WEIGHT
 returns-then-weight-gt-MOST_WEIGHT c =
-    let e : Else-count-gt-MOST_JOBS = c.before.before in
-    let t : After-totals_of-made = e.before.before.before in
+    let e : Else-count-gt-MOST_JOBS = (goal.at.returns-then-weight-gt-MOST_WEIGHT c).Else-count-gt-MOST_JOBS in
+    let t : After-totals_of-made = (goal.at.Else-count-gt-MOST_JOBS e).After-totals_of-made in
     let a = t.before.before in
     let frames = frames-heavy a.args.numbers.now a.args.order.now a.requires t.totals_of-made.ensures e.if-count-gt-MOST_JOBS.false
     c.if-weight-gt-MOST_WEIGHT.true in
-    (ap Refused c.plainly-then-weight-gt-MOST_WEIGHT.ensures ∙ frames.0, frames.1)
+    (record { answer = ap Refused c.plainly-then-weight-gt-MOST_WEIGHT.ensures ∙ frames.0; lent = frames.1 })
 
 pub returns-then-order-written : goal.returns-then-order-written
 returns-then-order-written c =
-    let f : Else-weight-gt-MOST_WEIGHT = c.before.before in
-    let e : Else-count-gt-MOST_JOBS = f.before in
-    let t : After-totals_of-made = e.before.before.before in
+    let f : Else-weight-gt-MOST_WEIGHT = (goal.at.returns-then-order-written c).Else-weight-gt-MOST_WEIGHT in
+    let e : Else-count-gt-MOST_JOBS = (goal.at.Else-weight-gt-MOST_WEIGHT f).Else-count-gt-MOST_JOBS in
+    let t : After-totals_of-made = (goal.at.Else-count-gt-MOST_JOBS e).After-totals_of-made in
     let a = t.before.before in
     let frames = frames-no-room a.args.numbers.now a.args.order.now a.requires t.totals_of-made.ensures e.if-count-gt-MOST_JOBS.false
     f.if-weight-gt-MOST_WEIGHT.false c.if-order-written.true in
-    (ap Refused c.plainly-then-order-written.ensures ∙ frames.0, frames.1)
+    (record { answer = ap Refused c.plainly-then-order-written.ensures ∙ frames.0; lent = frames.1 })
 
 pub put_header-requires : goal.put_header-requires
 put_header-requires c =
-    let f : Else-weight-gt-MOST_WEIGHT = c.before.before in
-    let e : Else-count-gt-MOST_JOBS = f.before in
-    let t : After-totals_of-made = e.before.before.before in
+    let f : Else-weight-gt-MOST_WEIGHT = (goal.at.put_header-requires c).Else-weight-gt-MOST_WEIGHT in
+    let e : Else-count-gt-MOST_JOBS = (goal.at.Else-weight-gt-MOST_WEIGHT f).Else-count-gt-MOST_JOBS in
+    let t : After-totals_of-made = (goal.at.Else-count-gt-MOST_JOBS e).After-totals_of-made in
     let a = t.before.before in
     header-room a.args.numbers.now a.args.order.now a.requires t.totals_of-made.ensures e.if-count-gt-MOST_JOBS.false f.if-weight-gt-MOST_WEIGHT.false
     c.if-order-written.false
 
 pub write_repeats-requires : goal.write_repeats-requires
 write_repeats-requires c =
-    let h : After-put_header = c.before.before.before in
-    let g : Else-order-written = h.before.before in
-    let f : Else-weight-gt-MOST_WEIGHT = g.before in
-    let e : Else-count-gt-MOST_JOBS = f.before in
-    let t : After-totals_of-made = e.before.before.before in
+    let h : After-put_header = (goal.at.write_repeats-requires c).After-put_header in
+    let g : Else-order-written = (goal.at.After-put_header h).Else-order-written in
+    let f : Else-weight-gt-MOST_WEIGHT = (goal.at.Else-order-written g).Else-weight-gt-MOST_WEIGHT in
+    let e : Else-count-gt-MOST_JOBS = (goal.at.Else-weight-gt-MOST_WEIGHT f).Else-count-gt-MOST_JOBS in
+    let t : After-totals_of-made = (goal.at.Else-count-gt-MOST_JOBS e).After-totals_of-made in
     let a = t.before.before in
     can_write a.args.numbers.now a.args.order.now a.requires t.totals_of-made.ensures e.if-count-gt-MOST_JOBS.false f.if-weight-gt-MOST_WEIGHT.false
     g.if-order-written.false h.put_header.new.bytes h.put_header.auto.0
 
 pub returns : goal.returns
 returns c =
-    let w : After-write_repeats = c.before.before in
-    let h : After-put_header = w.before.before.before.before in
-    let g : Else-order-written = h.before.before in
-    let f : Else-weight-gt-MOST_WEIGHT = g.before in
-    let e : Else-count-gt-MOST_JOBS = f.before in
-    let t : After-totals_of-made = e.before.before.before in
+    let w : After-write_repeats = (goal.at.returns c).After-write_repeats in
+    let h : After-put_header = (goal.at.After-write_repeats w).After-put_header in
+    let g : Else-order-written = (goal.at.After-put_header h).Else-order-written in
+    let f : Else-weight-gt-MOST_WEIGHT = (goal.at.Else-order-written g).Else-weight-gt-MOST_WEIGHT in
+    let e : Else-count-gt-MOST_JOBS = (goal.at.Else-weight-gt-MOST_WEIGHT f).Else-count-gt-MOST_JOBS in
+    let t : After-totals_of-made = (goal.at.Else-count-gt-MOST_JOBS e).After-totals_of-made in
     let a = t.before.before in
     frames-written a.args.numbers.now a.args.order.now a.requires t.totals_of-made.ensures e.if-count-gt-MOST_JOBS.false f.if-weight-gt-MOST_WEIGHT.false
     g.if-order-written.false w.write_repeats.new.order

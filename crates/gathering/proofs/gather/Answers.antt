@@ -23,22 +23,22 @@ pub bounds-row-x : goal.bounds-row-x
 bounds-row-x c = omega (arith, there c)
 
 pub overflow_add-b : goal.overflow_add-b
-overflow_add-b c = omega (arith, there c.before)
+overflow_add-b c = omega (arith, there (goal.at.overflow_add-b c).In-loop-x)
 
 pub offset_bounds-row-x-in-loop-x : goal.offset_bounds-row-x-in-loop-x
-offset_bounds-row-x-in-loop-x c = omega (arith, there c.before)
+offset_bounds-row-x-in-loop-x c = omega (arith, there (goal.at.offset_bounds-row-x-in-loop-x c).In-loop-x)
 
 pub bounds-row-x-in-loop-x : goal.bounds-row-x-in-loop-x
-bounds-row-x-in-loop-x c = omega (arith, there c.before)
+bounds-row-x-in-loop-x c = omega (arith, there (goal.at.bounds-row-x-in-loop-x c).In-loop-x)
 
 pub keep-n-requires : goal.keep-n-requires
 keep-n-requires c =
-    let t : In-loop-x = c.before.before.before in
+    let t : In-loop-x = (goal.at.keep-n-requires c).In-loop-x in
     let i = t.loop-x.invariant in
     gather-room t.requires i.0 t.loop-x-test.true
 
 pub overflow_add-x : goal.overflow_add-x
-overflow_add-x c = omega (arith, there c.before.before.before.before.before)
+overflow_add-x c = omega (arith, there (goal.at.overflow_add-x c).In-loop-x)
 
 pub loop-x-smaller : goal.loop-x-smaller
 loop-x-smaller c = omega (arith, c.loop-x-test.true)
@@ -47,11 +47,11 @@ pub loop-x-preserved : goal.loop-x-preserved
 loop-x-preserved c =
     let k = c.before in
     let r = k.before.before in
-    let t : In-loop-x = r.before.before in
+    let t : In-loop-x = (goal.at.loop-x-preserved c).In-loop-x in
     let i = t.loop-x.invariant in
     let next : t.loop-x.x + 1 ≡ suc t.loop-x.x = omega arith in (
       gather-more t.requires i.0 t.loop-x-test.true (t.loop-x.x + 1) next _ _
-          (read_back_lem _ r.a-1.given) (read_back_lem _ r.b-1.given) _ _ k.keep-n.ensures.0 k.keep-n.ensures.1,
+          (read_back_lem _ r.a-1.given) (read_back_lem _ r.b-1.given) _ _ k.keep-n.ensures.place k.keep-n.ensures.written,
       omega (arith, t.loop-x-test.true),
     )
 

@@ -26,4 +26,4 @@ returns c =
     let s = c.before in
     let one : c.one_if.result ≡ cond (is_point s.args.cell s.args.next) 1 0 =
     c.one_if.ensures ∙ ap₂ (λ (cell next : ℤ). cond (is_point cell next) 1 0) (to_z-of_z s.ranges.cell) (to_z-of_z s.ranges.next) in
-    (ap (λ (k : ℕ). s.args.at + k) one, rw (to_z-of_z s.ranges.cell) refl)
+    (record { place = ap (λ (k : ℕ). s.args.at + k) one; written = rw (to_z-of_z s.ranges.cell) refl })

@@ -42,42 +42,42 @@ take_half-requires c =
 
 pub shape_of-awaited-then-take_half : goal.shape_of-awaited-then-take_half
 shape_of-awaited-then-take_half c =
-    let h : After-take_half = c.before.before.before in
-    let j : After-job_in-job = h.before.before in
+    let h : After-take_half = (goal.at.shape_of-awaited-then-take_half c).After-take_half in
+    let j : After-job_in-job = (goal.at.After-take_half h).After-job_in-job in
     let t = j.before in
-    let s = start t in
-    room-kept t.loop-place.invariant t.loop-place-test.true j.job_in-job.result j.job_in-job.ensures _ h.take_half.ensures.1
+    let s = start (goal.at.After-job_in-job j).In-loop-place in
+    room-kept t.loop-place.invariant t.loop-place-test.true j.job_in-job.result j.job_in-job.ensures _ h.take_half.ensures.notes
     ∙ sym (search-room s.args.bytes.now s.args.n s.args.awaited.now s.requires)
 
 pub returns-then-take_half : goal.returns-then-take_half
 returns-then-take_half c =
-    let h : After-take_half = c.before.before.before in
-    let j : After-job_in-job = h.before.before in
+    let h : After-take_half = (goal.at.returns-then-take_half c).After-take_half in
+    let j : After-job_in-job = (goal.at.After-take_half h).After-job_in-job in
     let t = j.before in
     search-ends t.loop-place.invariant t.loop-place-test.true j.job_in-job.result j.job_in-job.ensures
-    (sym c.if-take_half.true ∙ h.take_half.ensures.0)
+    (sym c.if-take_half.true ∙ h.take_half.ensures.tells)
 
 pub overflow_add-place : goal.overflow_add-place
 overflow_add-place c =
-    let turn : In-loop-place = c.before.before.before.before.before.before in
+    let turn : In-loop-place = (goal.at.overflow_add-place c).In-loop-place in
     omega (arith, few turn)
 
 pub loop-place-smaller : goal.loop-place-smaller
 loop-place-smaller c =
-    let turn : In-loop-place = c.before.before.before.before.before.before in
+    let turn : In-loop-place = (goal.at.loop-place-smaller c).In-loop-place in
     omega (arith, turn.loop-place-test.true)
 
 pub loop-place-preserved : goal.loop-place-preserved
 loop-place-preserved c =
-    let h : After-take_half = c.before.before.before in
-    let j : After-job_in-job = h.before.before in
+    let h : After-take_half = (goal.at.loop-place-preserved c).After-take_half in
+    let j : After-job_in-job = (goal.at.After-take_half h).After-job_in-job in
     let t = j.before in
     search-on t.loop-place.invariant t.loop-place-test.true j.job_in-job.result j.job_in-job.ensures _
-    (sym c.if-take_half.false ∙ h.take_half.ensures.0) h.take_half.ensures.1
+    (sym c.if-take_half.false ∙ h.take_half.ensures.tells) h.take_half.ensures.notes
 
 pub shape_of-awaited : goal.shape_of-awaited
 shape_of-awaited c =
-    let s : Start = c.before.before.before.before in
+    let s : Start = (goal.at.shape_of-awaited c).Start in
     c.loop-place.invariant.room ∙ sym (search-room s.args.bytes.now s.args.n s.args.awaited.now s.requires)
 
 pub returns : goal.returns

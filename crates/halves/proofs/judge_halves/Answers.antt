@@ -37,11 +37,11 @@ returns-then-place-n c =
     let h = f.before.before in
     ap Refused c.at_place.ensures
     ∙ offending-told (numbers_of h.args.bytes.now) f.first_offending-place.result h.header_at-header.result.count
-    f.first_offending-place.ensures (counted h) t.if-place-n.true
+    f.first_offending-place.ensures (counted (goal.at.returns-then-place-n c).After-header_at-header) t.if-place-n.true
 
 pub returns : goal.returns
 returns c =
     let f = c.before.before in
     let h = f.before.before in
     none_told (numbers_of h.args.bytes.now) f.first_offending-place.result h.header_at-header.result.count
-    f.first_offending-place.ensures (counted h) c.if-place-n.false
+    f.first_offending-place.ensures (counted (goal.at.returns c).After-header_at-header) c.if-place-n.false

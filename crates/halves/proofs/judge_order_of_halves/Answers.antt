@@ -12,7 +12,7 @@ use Rattle.halves.proofs.judge_order_of_halves.Goals.{After-judge_order, In-Fine
 
 -- Where the code starts.
 abbrev start : In-Fine → Start
-start c = c.before.before.before.before
+start c = (goal.at.In-Fine c).Start
 
 -- Past the order's own checks.
 passed : (c : In-Fine) → let s = start c in
@@ -28,7 +28,7 @@ judge_halves-requires c = passed c
 pub returns-in-Refused : goal.returns-in-Refused
 returns-in-Refused c =
     let r = c.refusal-1.given in
-    let j : After-judge_order = c.before.before.before in
+    let j : After-judge_order = (goal.at.returns-in-Refused c).After-judge_order in
     let bytes = j.args.bytes.now in
     sym (told-refused (order_checks bytes) (halves_checks (numbers_of bytes)) r.0.0
     (sym j.judge_order.ensures ∙ r.1))
@@ -36,7 +36,7 @@ returns-in-Refused c =
 pub returns-in-Fine : goal.returns-in-Fine
 returns-in-Fine c =
     let e = c.before in
-    let s = start e in
+    let s = start (goal.at.returns-in-Fine c).In-Fine in
     let bytes = s.args.bytes.now in
     c.judge_halves.ensures
-    ∙ sym (ap verdict_of (told-next (order_checks bytes) (halves_checks (numbers_of bytes)) (passed e)))
+    ∙ sym (ap verdict_of (told-next (order_checks bytes) (halves_checks (numbers_of bytes)) (passed (goal.at.returns-in-Fine c).In-Fine)))

@@ -19,14 +19,14 @@ header_at-header-requires c = let s = c.before.before in ((header-fine s.args.by
 
 pub loop-jobs-init : goal.loop-jobs-init
 loop-jobs-init c =
-    let s : Start = c.before.before.before in
+    let s : Start = (goal.at.loop-jobs-init c).Start in
     there-starts s.args.bytes.now s.requires.there c.header_at-header.result c.header_at-header.ensures s.requires.room
 
 pub job_by_kind-job-requires : goal.job_by_kind-job-requires
 job_by_kind-job-requires c =
-    let l : At-loop-jobs = c.before.before in
+    let l : At-loop-jobs = (goal.at.job_by_kind-job-requires c).At-loop-jobs in
     let s = entry l in
-    let read : After-header_at-header = l.before in
+    let read : After-header_at-header = (goal.at.At-loop-jobs l).After-header_at-header in
     record {
       there = there-room s.args.bytes.now s.requires.there c.loop-jobs-test.true l.loop-jobs.invariant;
       kinded = (header_read s.args.bytes.now read.header_at-header.result read.header_at-header.ensures).kind;
@@ -34,36 +34,36 @@ job_by_kind-job-requires c =
 
 -- The job that was read is the job at the place.
 turn : (c : After-job_by_kind-job)
-    → let l : At-loop-jobs = c.before.before.before in
+    → let l : At-loop-jobs = (goal.at.After-job_by_kind-job c).At-loop-jobs in
     let start = entry l in
     Turn (numbers_of start.args.bytes.now) l.loop-jobs.numbers l.loop-jobs.jobs c.job_by_kind-job.result
 turn c =
-    let l : At-loop-jobs = c.before.before.before in
+    let l : At-loop-jobs = (goal.at.After-job_by_kind-job c).At-loop-jobs in
     let s = entry l in
     there-turn s.args.bytes.now s.requires.there c.loop-jobs-test.true l.loop-jobs.invariant c.job_by_kind-job.result c.job_by_kind-job.ensures
 
 pub take_in-jobs-requires : goal.take_in-jobs-requires
-take_in-jobs-requires c = can-take-in (turn c.before)
+take_in-jobs-requires c = can-take-in (turn (goal.at.take_in-jobs-requires c).After-job_by_kind-job)
 
 pub loop-jobs-smaller : goal.loop-jobs-smaller
 loop-jobs-smaller c =
-    let read : After-job_by_kind-job = c.before.before.before.before in
+    let read : After-job_by_kind-job = (goal.at.loop-jobs-smaller c).After-job_by_kind-job in
     let made = c.take_in-jobs in
-    passing-less (turn read) made.result made.ensures.0
+    passing-less (turn read) made.result made.ensures.goes
 
 pub loop-jobs-preserved : goal.loop-jobs-preserved
 loop-jobs-preserved c =
-    let read : After-job_by_kind-job = c.before.before.before.before in
+    let read : After-job_by_kind-job = (goal.at.loop-jobs-preserved c).After-job_by_kind-job in
     let made = c.take_in-jobs in
-    passing-on (turn read) made.result made.ensures.0 made.new.1.1.0 made.ensures.1
+    passing-on (turn read) made.result made.ensures.goes made.new.numbers made.ensures.notes
 
 pub shape_of-numbers : goal.shape_of-numbers
 shape_of-numbers c =
-    let s = entry c.before.before in
+    let s = entry (goal.at.shape_of-numbers c).At-loop-jobs in
     c.loop-jobs.invariant.long ∙ sym s.requires.room
 
 pub returns : goal.returns
 returns c =
-    let l : At-loop-jobs = c.before.before in
+    let l : At-loop-jobs = (goal.at.returns c).At-loop-jobs in
     let s = entry l in
     passing-ends (numbers_of s.args.bytes.now) l.loop-jobs.numbers l.loop-jobs.jobs c.loop-jobs-test.false l.loop-jobs.invariant

@@ -13,42 +13,42 @@ loop-jobs-init c = let s = c.before in given-starts s.args.given.now s.requires.
 
 pub overflow_mul-jobs : goal.overflow_mul-jobs
 overflow_mul-jobs c =
-    let l : At-loop-jobs = c.before.before.before in
+    let l : At-loop-jobs = (goal.at.overflow_mul-jobs c).At-loop-jobs in
     omega (arith, c.loop-jobs-test.true, l.loop-jobs.invariant.few, l.loop-jobs.invariant.room)
 
 pub job_from-job-requires : goal.job_from-job-requires
 job_from-job-requires c =
-    let l : At-loop-jobs = c.before.before.before in
-    let s : Start = l.before.before in
+    let l : At-loop-jobs = (goal.at.job_from-job-requires c).At-loop-jobs in
+    let s : Start = (goal.at.At-loop-jobs l).Start in
     given-room s.args.given.now s.requires.there c.loop-jobs-test.true l.loop-jobs.invariant
 
 -- The job that was read is the job at the place.
 turn : (c : After-job_from-job)
-    → let l : At-loop-jobs = c.before.before.before.before in
+    → let l : At-loop-jobs = (goal.at.After-job_from-job c).At-loop-jobs in
     Turn l.args.given.now l.loop-jobs.numbers l.loop-jobs.jobs c.job_from-job.result
 turn c =
-    let l : At-loop-jobs = c.before.before.before.before in
-    let s : Start = l.before.before in
+    let l : At-loop-jobs = (goal.at.After-job_from-job c).At-loop-jobs in
+    let s : Start = (goal.at.At-loop-jobs l).Start in
     given-turn s.args.given.now s.requires.there c.loop-jobs-test.true l.loop-jobs.invariant c.job_from-job.result c.job_from-job.ensures
 
 pub take_in-jobs-requires : goal.take_in-jobs-requires
-take_in-jobs-requires c = can-take-in (turn c.before)
+take_in-jobs-requires c = can-take-in (turn (goal.at.take_in-jobs-requires c).After-job_from-job)
 
 pub loop-jobs-smaller : goal.loop-jobs-smaller
 loop-jobs-smaller c =
-    let after-job-from : After-job_from-job = c.before.before.before.before in
+    let after-job-from : After-job_from-job = (goal.at.loop-jobs-smaller c).After-job_from-job in
     let made = c.take_in-jobs in
-    passing-less (turn after-job-from) made.result made.ensures.0
+    passing-less (turn after-job-from) made.result made.ensures.goes
 
 pub loop-jobs-preserved : goal.loop-jobs-preserved
 loop-jobs-preserved c =
-    let after-job-from : After-job_from-job = c.before.before.before.before in
+    let after-job-from : After-job_from-job = (goal.at.loop-jobs-preserved c).After-job_from-job in
     let made = c.take_in-jobs in
-    passing-on (turn after-job-from) made.result made.ensures.0 made.new.1.1.0 made.ensures.1
+    passing-on (turn after-job-from) made.result made.ensures.goes made.new.numbers made.ensures.notes
 
 pub shape_of-numbers : goal.shape_of-numbers
 shape_of-numbers c =
-    let s : Start = c.before.before.before.before in
+    let s : Start = (goal.at.shape_of-numbers c).Start in
     c.loop-jobs.invariant.long ∙ sym s.requires.room
 
 pub returns : goal.returns

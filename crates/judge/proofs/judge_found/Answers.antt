@@ -17,7 +17,7 @@ returns-then-bad-count c =
 
 pub slice_bounds-repeat_in-end : goal.slice_bounds-repeat_in-end
 slice_bounds-repeat_in-end c =
-    let s : Start = c.before.before.before in
+    let s : Start = (goal.at.slice_bounds-repeat_in-end c).Start in
     sym (length-take-le s.args.jobs.count s.args.numbers.now s.requires)
 
 -- What the search found.
@@ -34,7 +34,7 @@ returns-then-again-count c =
     rw (
       c.at_place.ensures,
       le-ltb a.jobs.place a.jobs.count r.if-bad-count.false,
-      ← (found r),
+      ← (found (goal.at.returns-then-again-count c).After-repeat_in-again),
       lt-ltb r.repeat_in-again.result a.jobs.count t.if-again-count.true,
     )
 
@@ -44,6 +44,6 @@ returns c =
     let a = r.args in
     rw (
       le-ltb a.jobs.place a.jobs.count r.if-bad-count.false,
-      ← (found r),
+      ← (found (goal.at.returns c).After-repeat_in-again),
       le-ltb r.repeat_in-again.result a.jobs.count c.if-again-count.false,
     )

@@ -18,14 +18,14 @@ module _ (s : Start) where
 
 pub returns-in-Refused : goal.returns-in-Refused
 returns-in-Refused c =
-    let after-judge-found : After-judge_found = c.before.before.before in
+    let after-judge-found : After-judge_found = (goal.at.returns-in-Refused c).After-judge_found in
     let r = c.refusal-1.given in
-    let s : Start = c.before.before.before.before.before in
+    let s : Start = (goal.at.returns-in-Refused c).Start in
     sym (else-refused (found s) (sum s) r.0.0 (sym after-judge-found.judge_found.ensures ∙ r.1))
 
 pub returns-in-Fine : goal.returns-in-Fine
 returns-in-Fine c =
     let e = c.before in
-    let s : Start = e.before.before.before.before in
+    let s : Start = (goal.at.returns-in-Fine c).Start in
     let passed = fine-told (found s) (sym e.judge_found.ensures ∙ e.in-Fine.is) in
     c.judge_sum.ensures ∙ sym (ap (λ (v : Verdict). verdict_of (or_else v (sum s))) passed)

@@ -24,7 +24,7 @@ use Rattle.fields.specs.declared.Header.{Header}
 use Rattle.judge.specs.Verdicts.{kind_judged}
 use Rattle.judge.specs.Told.{header-told}
 use Rattle.judge.proofs.judge_header.Goals as goal
-use Rattle.judge.proofs.judge_header.Goals.{After-is_time, After-record_bytes, After-struct_told-1, Else-kind-gt1, Start}
+use Rattle.judge.proofs.judge_header.Goals.{After-header_at-header, After-is_time, After-record_bytes, Else-kind-gt1, Start}
 
 pub returns-then-bytes-lt4 : goal.returns-then-bytes-lt4
 returns-then-bytes-lt4 c =
@@ -33,10 +33,10 @@ returns-then-bytes-lt4 c =
     rw (c.plainly.ensures, header-judge bytes, lt-ltb (length bytes) 4 t.if-bytes-lt4.true)
 
 -- Past the first test, the header has been read.
-module _ (c : After-struct_told-1) where
+module _ (c : After-header_at-header) where
   abbrev bytes : List ℕ
   bytes =
-      let s : Start = c.before.before.before.before in
+      let s : Start = (goal.at.After-header_at-header c).Start in
       s.args.bytes.now
 
   abbrev header : Header
@@ -54,9 +54,9 @@ returns-then-kind-gt1 c =
     let h = t.before in
     rw (
       c.plainly-then-kind-gt1.ensures,
-      header-told (bytes h) (header h) (says h),
-      le-ltb (length (bytes h)) 4 h.if-bytes-lt4.false,
-      lt-ltb 1 (header h).kind t.if-kind-gt1.true,
+      header-told (bytes (goal.at.returns-then-kind-gt1 c).After-header_at-header) (header (goal.at.returns-then-kind-gt1 c).After-header_at-header) (says (goal.at.returns-then-kind-gt1 c).After-header_at-header),
+      le-ltb (length (bytes (goal.at.returns-then-kind-gt1 c).After-header_at-header)) 4 h.if-bytes-lt4.false,
+      lt-ltb 1 (header (goal.at.returns-then-kind-gt1 c).After-header_at-header).kind t.if-kind-gt1.true,
     )
 
 pub returns-then-count-gt-MOST_JOBS : goal.returns-then-count-gt-MOST_JOBS
@@ -65,16 +65,16 @@ returns-then-count-gt-MOST_JOBS c =
     let h = t.before.before in
     rw (
       c.plainly-then-count-gt-MOST_JOBS.ensures,
-      header-told (bytes h) (header h) (says h),
-      le-ltb (length (bytes h)) 4 h.if-bytes-lt4.false,
-      le-ltb 1 (header h).kind t.if-kind-gt1.false,
-      lt-ltb 48 (header h).count t.if-count-gt-MOST_JOBS.true,
+      header-told (bytes (goal.at.returns-then-count-gt-MOST_JOBS c).After-header_at-header) (header (goal.at.returns-then-count-gt-MOST_JOBS c).After-header_at-header) (says (goal.at.returns-then-count-gt-MOST_JOBS c).After-header_at-header),
+      le-ltb (length (bytes (goal.at.returns-then-count-gt-MOST_JOBS c).After-header_at-header)) 4 h.if-bytes-lt4.false,
+      le-ltb 1 (header (goal.at.returns-then-count-gt-MOST_JOBS c).After-header_at-header).kind t.if-kind-gt1.false,
+      lt-ltb 48 (header (goal.at.returns-then-count-gt-MOST_JOBS c).After-header_at-header).count t.if-count-gt-MOST_JOBS.true,
     )
 
 -- The length that the header asks for.
 module _ (c : After-record_bytes) where
-  abbrev its : After-struct_told-1
-  its = c.before.before.before
+  abbrev its : After-header_at-header
+  its = (goal.at.After-record_bytes c).After-header_at-header
 
   few : c.record_bytes.result * (header its).count ≤ 9 * 48
   few =
@@ -99,55 +99,55 @@ overflow_add-record_bytes c = omega (arith, few c)
 pub returns-then-bytes-record_bytes : goal.returns-then-bytes-record_bytes
 returns-then-bytes-record_bytes c =
     let t = c.before in
-    let h : After-struct_told-1 = t.before.before.before.before in
+    let h : After-header_at-header = (goal.at.returns-then-bytes-record_bytes c).After-header_at-header in
     rw (
       c.plainly-then-bytes-record_bytes.ensures,
       header-told (bytes h) (header h) (says h),
       le-ltb (length (bytes h)) 4 h.if-bytes-lt4.false,
       le-ltb 1 (header h).kind t.if-kind-gt1.false,
       le-ltb 48 (header h).count t.if-count-gt-MOST_JOBS.false,
-      ne_eqb (length (bytes h)) (4 + record_bytes (header h).kind * (header h).count) (other t.before t.if-bytes-record_bytes.true),
+      ne_eqb (length (bytes h)) (4 + record_bytes (header h).kind * (header h).count) (other (goal.at.returns-then-bytes-record_bytes c).After-record_bytes t.if-bytes-record_bytes.true),
     )
 
 -- Past the fourth test, the bus-free time has been tested, and only the fifth check is left.
 module _ (c : After-is_time) where
-  abbrev read : After-struct_told-1
-  read = c.before.before.before.before.before
+  abbrev read : After-header_at-header
+  read = (goal.at.After-is_time c).After-header_at-header
 
   timely : c.is_time.result ≡ is_time (header read).t0
   timely = c.is_time.ensures ∙ ap is_time (to_z-of_z (t0-fits read))
 
   left : judge (header_checks (bytes read)) ≡ cond (not (is_time (header read).t0)) (refused (plainly 5)) (kind_judged (bytes read))
   left =
-      let else2 : Else-kind-gt1 = c.before.before.before.before in
+      let else2 : Else-kind-gt1 = (goal.at.After-is_time c).Else-kind-gt1 in
       rw (
         header-told (bytes read) (header read) (says read),
         le-ltb (length (bytes read)) 4 read.if-bytes-lt4.left,
         le-ltb 1 (header read).kind else2.if-kind-gt1.false,
         le-ltb 48 (header read).count c.if-count-gt-MOST_JOBS.false,
-        eq-eqb (length (bytes read)) (4 + record_bytes (header read).kind * (header read).count) (whole c.before.before c.if-bytes-record_bytes.false),
+        eq-eqb (length (bytes read)) (4 + record_bytes (header read).kind * (header read).count) (whole (goal.at.After-is_time c).After-record_bytes c.if-bytes-record_bytes.false),
       )
 
 pub returns-then-not-is_time : goal.returns-then-not-is_time
 returns-then-not-is_time c =
     let t = c.before in
     let e = t.before in
-    rw (c.plainly-then-not-is_time.ensures, left e, sym (timely e) ∙ not-true e.is_time.result t.if-not-is_time.true)
+    rw (c.plainly-then-not-is_time.ensures, left (goal.at.returns-then-not-is_time c).After-is_time, sym (timely (goal.at.returns-then-not-is_time c).After-is_time) ∙ not-true e.is_time.result t.if-not-is_time.true)
 
 pub judge_kind-requires : goal.judge_kind-requires
 judge_kind-requires c =
     let e = c.before in
-    let h = read e in
+    let h = read (goal.at.judge_kind-requires c).After-is_time in
     let r = says h in
     record {
       kind-is = r.kind;
       count-is = r.count;
       known = e.if-kind-gt1.false;
       few = e.if-count-gt-MOST_JOBS.false;
-      whole = rw (← r.kind, ← r.count) (whole e.before.before e.if-bytes-record_bytes.false);
+      whole = rw (← r.kind, ← r.count) (whole (goal.at.judge_kind-requires c).After-record_bytes e.if-bytes-record_bytes.false);
     }
 
 pub returns : goal.returns
 returns c =
     let e = c.before.before in
-    rw (c.judge_kind.ensures, left e, sym (timely e) ∙ not-false e.is_time.result c.if-not-is_time.false)
+    rw (c.judge_kind.ensures, left (goal.at.returns c).After-is_time, sym (timely (goal.at.returns c).After-is_time) ∙ not-false e.is_time.result c.if-not-is_time.false)

@@ -12,7 +12,7 @@ use Rattle.judge.proofs.judge_jobs.Goals.{After-gather-jobs, After-judge_header,
 
 -- Where the code starts.
 abbrev start : In-Fine → Start
-start c = c.before.before.before.before
+start c = (goal.at.In-Fine c).Start
 
 -- Past 1 to 5.
 passed : (c : In-Fine) → let s = start c in
@@ -23,12 +23,12 @@ passed c =
     (sym c.judge_header.ensures ∙ c.in-Fine.is)
 
 pub gather-jobs-requires : goal.gather-jobs-requires
-gather-jobs-requires c = record { there = passed c.before; room = refl }
+gather-jobs-requires c = record { there = passed (goal.at.gather-jobs-requires c).In-Fine; room = refl }
 
 pub returns-in-Refused : goal.returns-in-Refused
 returns-in-Refused c =
-    let s : Start = c.before.before.before.before.before in
-    let after-judge-header : After-judge_header = c.before.before.before in
+    let s : Start = (goal.at.returns-in-Refused c).Start in
+    let after-judge-header : After-judge_header = (goal.at.returns-in-Refused c).After-judge_header in
     let r = c.refusal-1.given in
     let bytes = s.args.bytes.now in
     sym (told-refused (header_checks bytes) (job_checks (numbers_of bytes)) r.0.0
@@ -36,8 +36,8 @@ returns-in-Refused c =
 
 pub returns-in-Fine : goal.returns-in-Fine
 returns-in-Fine c =
-    let g : After-gather-jobs = c.before.before.before in
-    let h : In-Fine = g.before.before in
+    let g : After-gather-jobs = (goal.at.returns-in-Fine c).After-gather-jobs in
+    let h : In-Fine = (goal.at.After-gather-jobs g).In-Fine in
     let s = start h in
     let bytes = s.args.bytes.now in
     c.judge_found.ensures

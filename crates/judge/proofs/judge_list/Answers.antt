@@ -18,7 +18,7 @@ use Rattle.judge.proofs.judge_list.Goals.{After-is_time, Start}
 
 -- Where the code starts.
 abbrev start : After-is_time → Start
-start c = c.before.before.before
+start c = (goal.at.After-is_time c).Start
 
 pub returns-then-given : goal.returns-then-given
 returns-then-given c =
@@ -67,7 +67,7 @@ pub returns-then-not-is_time : goal.returns-then-not-is_time
 returns-then-not-is_time c =
     let t = c.before in
     let e = t.before in
-    rw (c.plainly-then-not-is_time.ensures, left e, sym (timely e) ∙ not-true e.is_time.result t.if-not-is_time.true)
+    rw (c.plainly-then-not-is_time.ensures, left (goal.at.returns-then-not-is_time c).After-is_time, sym (timely (goal.at.returns-then-not-is_time c).After-is_time) ∙ not-true e.is_time.result t.if-not-is_time.true)
 
 pub returns : goal.returns
-returns c = let e = c.before in rw (left e, sym (timely e) ∙ not-false e.is_time.result c.if-not-is_time.false)
+returns c = let e = c.before in rw (left (goal.at.returns c).After-is_time, sym (timely (goal.at.returns c).After-is_time) ∙ not-false e.is_time.result c.if-not-is_time.false)

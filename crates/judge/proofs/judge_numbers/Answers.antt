@@ -23,25 +23,25 @@ list-says c =
 module _ (c : In-Fine) where
   abbrev t0 : ℤ
   t0 =
-      let s : Start = c.before.before.before in
+      let s : Start = (goal.at.In-Fine c).Start in
       s.args.t0
 
   abbrev zs : List ℤ
   zs =
-      let s : Start = c.before.before.before in
+      let s : Start = (goal.at.In-Fine c).Start in
       s.args.given.now
 
   passed : judge (list_checks t0 zs) ≡ fine
-  passed = told-fine (list_checks t0 zs) (sym (list-says c.before.before) ∙ c.in-Fine.is)
+  passed = told-fine (list_checks t0 zs) (sym (list-says (goal.at.In-Fine c).After-judge_list) ∙ c.in-Fine.is)
 
 pub gather_given-jobs-requires : goal.gather_given-jobs-requires
 gather_given-jobs-requires c =
     let l = c.before in
-    record { there = given-told (t0 l) (zs l) (passed l); room = refl }
+    record { there = given-told (t0 (goal.at.gather_given-jobs-requires c).In-Fine) (zs (goal.at.gather_given-jobs-requires c).In-Fine) (passed (goal.at.gather_given-jobs-requires c).In-Fine); room = refl }
 
 pub returns-in-Refused : goal.returns-in-Refused
 returns-in-Refused c =
-    let after-judge-list : After-judge_list = c.before.before.before in
+    let after-judge-list : After-judge_list = (goal.at.returns-in-Refused c).After-judge_list in
     let r = c.refusal-1.given in
     let a = c.args in
     let given = a.given.now in
@@ -50,8 +50,8 @@ returns-in-Refused c =
 
 pub returns-in-Fine : goal.returns-in-Fine
 returns-in-Fine c =
-    let g : After-gather_given-jobs = c.before.before.before in
-    let l : In-Fine = g.before.before in
+    let g : After-gather_given-jobs = (goal.at.returns-in-Fine c).After-gather_given-jobs in
+    let l : In-Fine = (goal.at.After-gather_given-jobs g).In-Fine in
     c.judge_gathered.ensures
     ∙ sym (ap verdict_of (rest-told (zs l) g.gather_given-jobs.new.numbers g.gather_given-jobs.result g.gather_given-jobs.ensures
     (list_checks (t0 l) (zs l)) 0 (passed l)))

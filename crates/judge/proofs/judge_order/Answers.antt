@@ -11,19 +11,19 @@ use Rattle.judge.proofs.judge_order.Goals as goal
 use Rattle.judge.proofs.judge_order.Goals.{After-gather-jobs, After-judge_header, In-Fine, Start}
 
 -- Past 1 to 5.
-passed : (c : In-Fine) → let s : Start = c.before.before.before.before in
+passed : (c : In-Fine) → let s : Start = (goal.at.In-Fine c).Start in
     judge (header_checks s.args.bytes.now) ≡ fine
 passed c =
-    let s : Start = c.before.before.before.before in
+    let s : Start = (goal.at.In-Fine c).Start in
     told-fine (header_checks s.args.bytes.now)
     (sym c.judge_header.ensures ∙ c.in-Fine.is)
 
 pub gather-jobs-requires : goal.gather-jobs-requires
-gather-jobs-requires c = record { there = passed c.before; room = refl }
+gather-jobs-requires c = record { there = passed (goal.at.gather-jobs-requires c).In-Fine; room = refl }
 
 pub returns-in-Refused : goal.returns-in-Refused
 returns-in-Refused c =
-    let after-judge-header : After-judge_header = c.before.before.before in
+    let after-judge-header : After-judge_header = (goal.at.returns-in-Refused c).After-judge_header in
     let r = c.refusal-1.given in
     let a = c.args in
     let zs = numbers_of a.bytes.now in
@@ -32,8 +32,8 @@ returns-in-Refused c =
 
 pub returns-in-Fine : goal.returns-in-Fine
 returns-in-Fine c =
-    let g : After-gather-jobs = c.before.before.before in
-    let h : In-Fine = g.before.before in
+    let g : After-gather-jobs = (goal.at.returns-in-Fine c).After-gather-jobs in
+    let h : In-Fine = (goal.at.After-gather-jobs g).In-Fine in
     let a = h.args in
     c.judge_gathered.ensures
     ∙ sym (ap verdict_of (rest-told (numbers_of a.bytes.now) g.gather-jobs.new.numbers g.gather-jobs.result g.gather-jobs.ensures

@@ -21,12 +21,12 @@ module _ (s : Start) where
   passed = (stages-fine (header_checks bytes) (job_checks (numbers_of bytes))).0 s.requires
 
 pub gather-jobs-requires : goal.gather-jobs-requires
-gather-jobs-requires c = record { there = (passed c.before.before).0; room = refl }
+gather-jobs-requires c = record { there = (passed (goal.at.gather-jobs-requires c).Start).0; room = refl }
 
 pub returns : goal.returns
 returns c =
-    let g : After-gather-jobs = c.before.before in
-    let s : Start = g.before.before.before in
+    let g : After-gather-jobs = (goal.at.returns c).After-gather-jobs in
+    let s : Start = (goal.at.After-gather-jobs g).Start in
     c.judge_sum.ensures
     ∙ sym (ap verdict_of (weight-told (numbers_of (bytes s)) g.gather-jobs.new.numbers g.gather-jobs.result g.gather-jobs.ensures s.args
     (passed s).1))

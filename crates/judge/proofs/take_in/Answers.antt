@@ -30,13 +30,13 @@ returns-then-field-ne0 c =
       weight = a.jobs.weight;
       field = field;
     } in
-    rw out (ap ended named, refl)
+    rw out (record { goes = ap ended named; notes = refl })
 
 -- Past the test the job is within its limits.
 module _ (c : Else-field-ne0) where
   abbrev job : Job
   job =
-      let s : Start = c.before.before.before in
+      let s : Start = (goal.at.Else-field-ne0 c).Start in
       s.args.job
 
   fine : fields_within (fields_of job) ≡ true
@@ -54,16 +54,16 @@ module _ (c : Else-field-ne0) where
 pub overflow_cast-numbers : goal.overflow_cast-numbers
 overflow_cast-numbers c =
     let e = c.before.before in
-    casts w8 63 (job e).number (facts e).number (omega arith) (omega arith)
+    casts w8 63 (job (goal.at.overflow_cast-numbers c).Else-field-ne0).number (facts (goal.at.overflow_cast-numbers c).Else-field-ne0).number (omega arith) (omega arith)
 
 pub overflow_cast-gain : goal.overflow_cast-gain
 overflow_cast-gain c =
     let e = c.before.before in
-    casts w32 50 (job e).weight (facts e).weight (omega arith) (omega arith)
+    casts w32 50 (job (goal.at.overflow_cast-gain c).Else-field-ne0).weight (facts (goal.at.overflow_cast-gain c).Else-field-ne0).weight (omega arith) (omega arith)
 
 pub overflow_add-total : goal.overflow_add-total
 overflow_add-total c =
-    let e : Else-field-ne0 = c.before.before.before in
+    let e : Else-field-ne0 = (goal.at.overflow_add-total c).Else-field-ne0 in
     let asks = e.requires in
     rw (weight-kept e)
     (omega (signed, (facts e).weight, abs_is (job e).weight, asks.light, asks.room, asks.few))
@@ -71,4 +71,4 @@ overflow_add-total c =
 pub returns : goal.returns
 returns c =
     let e = c.before.before.before in
-    rw (weight-kept e, number-kept e, fine e) (refl, refl)
+    rw (weight-kept (goal.at.returns c).Else-field-ne0, number-kept (goal.at.returns c).Else-field-ne0, fine (goal.at.returns c).Else-field-ne0) (record { goes = refl; notes = refl })

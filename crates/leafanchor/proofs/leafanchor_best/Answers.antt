@@ -8,4 +8,4 @@ use Rattle.leafanchor.proofs.leafanchor_best.Goals as goal
 pub returns : goal.returns
 returns c =
     let said = c.best.ensures in
-    (c.verdict_answer.ensures ∙ ap verdict_numbers said.answer, said.area)
+    (record { answer = c.verdict_answer.ensures ∙ ap verdict_numbers said.answer; area = said.area })

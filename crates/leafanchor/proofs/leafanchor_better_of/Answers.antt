@@ -8,4 +8,4 @@ use Rattle.leafanchor.proofs.leafanchor_better_of.Goals as goal
 pub returns : goal.returns
 returns c =
     let said = c.better_of.ensures in
-    (c.better_answer.ensures ∙ ap better_numbers said.0, said.1)
+    (record { answer = c.better_answer.ensures ∙ ap better_numbers said.0; lent = said.1 })

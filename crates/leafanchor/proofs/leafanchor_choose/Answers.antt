@@ -12,10 +12,10 @@ use Rattle.leafanchor.proofs.leafanchor_choose.Goals.{After-question-answer, Sta
 
 pub returns : goal.returns
 returns c =
-    let asked : After-question-answer = c.before.before in
-    let s : Start = asked.before.before.before.before in
+    let asked : After-question-answer = (goal.at.returns c).After-question-answer in
+    let s : Start = (goal.at.After-question-answer asked).Start in
     let said = rw (to_z-of_z s.ranges.t) at asked.question-answer.ensures in
     let numbers : Answer → ChooseAnswer =
     λ answer. choose_numbers answer (length s.args.first.now) (length s.args.second.now) in
     let made : c.choose_answer.result ≡ numbers asked.question-answer.result = c.choose_answer.ensures in
-    (made ∙ ap numbers said.answer, said.area)
+    (record { answer = made ∙ ap numbers said.answer; area = said.area })

@@ -12,10 +12,10 @@ use Rattle.leafanchor.proofs.leafanchor_choose_first.Goals.{After-question_first
 
 pub returns : goal.returns
 returns c =
-    let asked : After-question_first-told = c.before.before in
-    let s : Start = asked.before.before.before.before in
+    let asked : After-question_first-told = (goal.at.returns c).After-question_first-told in
+    let s : Start = (goal.at.After-question_first-told asked).Start in
     let said = rw (to_z-of_z s.ranges.t) at asked.question_first-told.ensures in
     let numbers : Answer → ChooseAnswer =
     λ answer. choose_numbers answer (length s.args.first.now) (length s.args.second.now) in
     let made : c.choose_answer.result ≡ numbers asked.question_first-told.result = c.choose_answer.ensures in
-    (made ∙ ap numbers said.answer, said.area)
+    (record { answer = made ∙ ap numbers said.answer; area = said.area })

@@ -9,7 +9,7 @@ use Rattle.leafanchor.proofs.leafanchor_extend.Goals.{After-extend}
 
 pub returns : goal.returns
 returns c =
-    let called : After-extend = c.before.before.before in
+    let called : After-extend = (goal.at.returns c).After-extend in
     let a = called.args in
     let said = called.extend.ensures in
     let numbers = ap extend_numbers {y = extended_of a.profile.now a.order.now a.out-1.now a.work-1.now} said.answer in

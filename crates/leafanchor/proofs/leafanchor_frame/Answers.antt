@@ -8,5 +8,5 @@ use Rattle.leafanchor.proofs.leafanchor_frame.Goals.{After-frame}
 
 pub returns : goal.returns
 returns c =
-    let called : After-frame = c.before.before.before in
-    (c.frame_answer.ensures ∙ ap framed_numbers called.frame.ensures.0, called.frame.ensures.1)
+    let called : After-frame = (goal.at.returns c).After-frame in
+    (record { answer = c.frame_answer.ensures ∙ ap framed_numbers called.frame.ensures.answer; lent = called.frame.ensures.lent })

@@ -11,8 +11,8 @@ use Rattle.leafanchor.proofs.leafanchor_pack.Goals.{After-pack, Start}
 
 pub returns : goal.returns
 returns c =
-    let called : After-pack = c.before.before.before in
-    let s : Start = called.before.before.before in
+    let called : After-pack = (goal.at.returns c).After-pack in
+    let s : Start = (goal.at.After-pack called).Start in
     let said = rw (to_z-of_z s.ranges.t0) at called.pack.ensures in
     let order = pack_of s.args.t0 s.args.numbers.now (length s.args.order.now) in
-    (c.pack_answer.ensures ∙ ap pack_numbers {y = order} said.0, said.1)
+    (record { answer = c.pack_answer.ensures ∙ ap pack_numbers {y = order} said.0; lent = said.1 })

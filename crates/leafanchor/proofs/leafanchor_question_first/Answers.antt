@@ -9,7 +9,7 @@ use Rattle.leafanchor.proofs.leafanchor_question_first.Goals.{After-question_fir
 
 pub returns : goal.returns
 returns c =
-    let asked : After-question_first = c.before.before in
-    let s : Start = asked.before.before.before.before in
+    let asked : After-question_first = (goal.at.returns c).After-question_first in
+    let s : Start = (goal.at.After-question_first asked).Start in
     let said = rw (to_z-of_z s.ranges.t) at asked.question_first.ensures in
-    (c.question_answer.ensures ∙ ap question_numbers said.answer, said.area)
+    (record { answer = c.question_answer.ensures ∙ ap question_numbers said.answer; area = said.area })

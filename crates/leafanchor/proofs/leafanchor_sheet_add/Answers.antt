@@ -7,6 +7,6 @@ use Rattle.leafanchor.proofs.leafanchor_sheet_add.Goals.{After-add}
 
 pub returns : goal.returns
 returns c =
-    let called : After-add = c.before.before.before.before in
+    let called : After-add = (goal.at.returns c).After-add in
     let e = called.add.ensures in
     (c.sheet_answer.ensures ∙ ap sheet_numbers e.answer, (e.lent, e.area))

@@ -7,6 +7,6 @@ use Rattle.leafanchor.proofs.leafanchor_sheet_feed.Goals.{After-feed}
 
 pub returns : goal.returns
 returns c =
-    let called : After-feed = c.before.before.before.before.before.before in
+    let called : After-feed = (goal.at.returns c).After-feed in
     let e = called.feed.ensures in
     (c.sheet_answer.ensures ∙ ap sheet_numbers e.answer, (e.numbers, (e.room, e.cleaned)))

@@ -7,6 +7,6 @@ use Rattle.leafanchor.proofs.leafanchor_sheet_join.Goals.{After-join}
 
 pub returns : goal.returns
 returns c =
-    let called : After-join = c.before.before.before in
+    let called : After-join = (goal.at.returns c).After-join in
     let e = called.join.ensures in
-    (c.sheet_answer.ensures ∙ ap sheet_numbers e.answer, e.lent)
+    (record { answer = c.sheet_answer.ensures ∙ ap sheet_numbers e.answer; lent = e.lent })

@@ -6,6 +6,6 @@ use Rattle.leafanchor.proofs.leafanchor_sheet_text.Goals.{After-tell}
 
 pub returns : goal.returns
 returns c =
-    let called : After-tell = c.before.before.before in
+    let called : After-tell = (goal.at.returns c).After-tell in
     let e = called.tell.ensures in
-    (c.text_answer.ensures ∙ (λ i. record { refusal = e.refusal i; bytes = e.bytes i }), e.text-1)
+    (record { answer = c.text_answer.ensures ∙ (λ i. record { refusal = e.refusal i; bytes = e.bytes i }); lent = e.text-1 })

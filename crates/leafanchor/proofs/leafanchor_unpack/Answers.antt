@@ -8,4 +8,4 @@ use Rattle.leafanchor.proofs.leafanchor_unpack.Goals as goal
 pub returns : goal.returns
 returns c =
     let said = c.unpack.ensures in
-    (c.unpack_answer.ensures ∙ ap unpack_numbers said.0, said.1)
+    (record { answer = c.unpack_answer.ensures ∙ ap unpack_numbers said.0; lent = said.1 })

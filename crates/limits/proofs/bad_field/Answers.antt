@@ -14,23 +14,23 @@ use Rattle.fields.specs.Facts.{JobFits, bounds-fit}
 use Rattle.limits.specs.Tests.{job-tested}
 use Rattle.fields.specs.declared.Job.{Job}
 use Rattle.limits.proofs.bad_field.Goals as goal
-use Rattle.limits.proofs.bad_field.Goals.{After-field_or-bad, After-field_or-bad-2, After-field_or-bad-3, After-field_or-bad-4, After-field_or-bad-5, After-field_or-bad-6, After-struct_told-1}
+use Rattle.limits.proofs.bad_field.Goals.{After-field_or-bad, After-field_or-bad-2, After-field_or-bad-3, After-field_or-bad-4, After-field_or-bad-5, After-field_or-bad-6, Start}
 
 -- Each number of the job is an i32.
-fits : (c : After-struct_told-1) → JobFits c.args.job
+fits : (c : Start) → JobFits c.args.job
 fits c =
     let g = c.struct_told-1.given in
     bounds-fit c.args.job g.0.1 g.1.0.1 g.1.1.0.1 g.1.1.1.0.1 g.1.1.1.1.0.1 g.1.1.1.1.1.0.1 g.1.1.1.1.1.1.0.1
 
 pub returns : goal.returns
 returns c =
-    let six : After-field_or-bad-6 = c.before.before.before in
-    let five : After-field_or-bad-5 = six.before.before.before in
-    let four : After-field_or-bad-4 = five.before.before.before in
-    let three : After-field_or-bad-3 = four.before.before.before.before.before in
-    let two : After-field_or-bad-2 = three.before.before.before in
-    let one : After-field_or-bad = two.before.before.before in
-    let start : After-struct_told-1 = one.before.before in
+    let six : After-field_or-bad-6 = (goal.at.returns c).After-field_or-bad-6 in
+    let five : After-field_or-bad-5 = (goal.at.After-field_or-bad-6 six).After-field_or-bad-5 in
+    let four : After-field_or-bad-4 = (goal.at.After-field_or-bad-5 five).After-field_or-bad-4 in
+    let three : After-field_or-bad-3 = (goal.at.After-field_or-bad-4 four).After-field_or-bad-3 in
+    let two : After-field_or-bad-2 = (goal.at.After-field_or-bad-3 three).After-field_or-bad-2 in
+    let one : After-field_or-bad = (goal.at.After-field_or-bad-2 two).After-field_or-bad in
+    let start : Start = (goal.at.After-field_or-bad one).Start in
     let j : Job = start.args.job in
     let f : JobFits j = fits start in
     let number : c.between-4.result ≡ is_between (pos 0) (pos 63) j.number =

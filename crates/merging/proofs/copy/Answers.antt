@@ -16,7 +16,7 @@ loop-k-init c = over_none _ _ _
 -- Sixteen numbers have room on both sides, whatever was copied so far.
 module _ (c : In-loop-k) where
   abbrev start : Start
-  start = c.before.before
+  start = (goal.at.In-loop-k c).Start
 
   abbrev k : ℕ
   k = c.loop-k.k
@@ -33,12 +33,12 @@ module _ (c : In-loop-k) where
 
 -- Four by four.
 module _ (c : After-copy_four) where
-  over-four : Over c.before.before 4 c.copy_four.new.work
+  over-four : Over (goal.at.After-copy_four c).In-loop-k 4 c.copy_four.new.work
   over-four = over-more c.loop-k.invariant refl refl c.copy_four.ensures
 
 module _ (c : After-copy_four-in-loop-k) where
   abbrev first : After-copy_four
-  first = c.before.before.before
+  first = (goal.at.After-copy_four-in-loop-k c).After-copy_four
 
   over-eight : Over first.before.before 8 c.copy_four-in-loop-k.new.work
   over-eight =
@@ -47,7 +47,7 @@ module _ (c : After-copy_four-in-loop-k) where
 
 module _ (c : After-copy_four-in-loop-k-2) where
   abbrev second : After-copy_four-in-loop-k
-  second = c.before.before.before
+  second = (goal.at.After-copy_four-in-loop-k-2 c).After-copy_four-in-loop-k
 
   abbrev turn : In-loop-k
   turn = (first second).before.before
@@ -60,22 +60,22 @@ module _ (c : After-copy_four-in-loop-k-2) where
 pub copy_four-requires : goal.copy_four-requires
 copy_four-requires c =
     let t = c.before in
-    record { inside = omega (arith, (start t).requires.apart, (start t).requires.room, t.loop-k.invariant.size); room = omega (arith, (start t).requires.room, t.loop-k.invariant.size) }
+    record { inside = omega (arith, (start (goal.at.copy_four-requires c).In-loop-k).requires.apart, (start (goal.at.copy_four-requires c).In-loop-k).requires.room, t.loop-k.invariant.size); room = omega (arith, (start (goal.at.copy_four-requires c).In-loop-k).requires.room, t.loop-k.invariant.size) }
 
 pub copy_four-requires-in-loop-k : goal.copy_four-requires-in-loop-k
-copy_four-requires-in-loop-k c = four-fits c.before.before.before.before 4 _ (omega arith) (over-four c.before.before).size
+copy_four-requires-in-loop-k c = four-fits (goal.at.copy_four-requires-in-loop-k c).In-loop-k 4 _ (omega arith) (over-four (goal.at.copy_four-requires-in-loop-k c).After-copy_four).size
 
 pub copy_four-requires-in-loop-k-2 : goal.copy_four-requires-in-loop-k-2
-copy_four-requires-in-loop-k-2 c = four-fits (first c.before.before).before.before 8 _ (omega arith) (over-eight c.before.before).size
+copy_four-requires-in-loop-k-2 c = four-fits (first (goal.at.copy_four-requires-in-loop-k-2 c).After-copy_four-in-loop-k).before.before 8 _ (omega arith) (over-eight (goal.at.copy_four-requires-in-loop-k-2 c).After-copy_four-in-loop-k).size
 
 pub copy_four-requires-in-loop-k-3 : goal.copy_four-requires-in-loop-k-3
-copy_four-requires-in-loop-k-3 c = four-fits (turn c.before.before) 12 _ (omega arith) (over-twelve c.before.before).size
+copy_four-requires-in-loop-k-3 c = four-fits (turn (goal.at.copy_four-requires-in-loop-k-3 c).After-copy_four-in-loop-k-2) 12 _ (omega arith) (over-twelve (goal.at.copy_four-requires-in-loop-k-3 c).After-copy_four-in-loop-k-2).size
 
 pub loop-k-preserved : goal.loop-k-preserved
 loop-k-preserved c =
     let third = c.before.before.before.before in
-    let so_far : k (turn third) + 12 + 4 ≡ k (turn third) + 16 = omega arith in
-    rw so_far at (over-more (over-twelve third) (omega arith) (omega arith) c.copy_four-in-loop-k-3.ensures)
+    let so_far : k (turn (goal.at.loop-k-preserved c).After-copy_four-in-loop-k-2) + 12 + 4 ≡ k (turn (goal.at.loop-k-preserved c).After-copy_four-in-loop-k-2) + 16 = omega arith in
+    rw so_far at (over-more (over-twelve (goal.at.loop-k-preserved c).After-copy_four-in-loop-k-2) (omega arith) (omega arith) c.copy_four-in-loop-k-3.ensures)
 
 pub shape_of-work : goal.shape_of-work
 shape_of-work c = c.loop-k.invariant.size

@@ -12,12 +12,12 @@ use Rattle.seconds.specs.Signed.{read_back_lem}
 use Rattle.codes.specs.Code.{at0}
 use Rattle.merging.specs.Laying.{laid-four}
 use Rattle.merging.proofs.copy_four.Goals as goal
-use Rattle.merging.proofs.copy_four.Goals.{After-d-1, Start}
+use Rattle.merging.proofs.copy_four.Goals.{Start}
 
 -- What was read, and what stands after the first, the second and the third number are written.
-module _ (c : After-d-1) where
+module _ (c : Start) where
   abbrev entry : Start
-  entry = c.before.before.before.before
+  entry = c
 
   abbrev read : ℕ → ℤ
   read k = to_z w32 (of_z w32 (at0 entry.args.work.now k))
@@ -41,15 +41,15 @@ module _ (c : After-d-1) where
   three-long = length-set two (entry.args.at + 2) (read (entry.args.from + 2)) ∙ two-long
 
 pub bounds-work-at-2 : goal.bounds-work-at-2
-bounds-work-at-2 c = omega (arith, (entry c).requires.room, one-long c)
+bounds-work-at-2 c = omega (arith, (entry (goal.at.bounds-work-at-2 c).Start).requires.room, one-long (goal.at.bounds-work-at-2 c).Start)
 
 pub bounds-work-at-3 : goal.bounds-work-at-3
-bounds-work-at-3 c = omega (arith, (entry c).requires.room, two-long c)
+bounds-work-at-3 c = omega (arith, (entry (goal.at.bounds-work-at-3 c).Start).requires.room, two-long (goal.at.bounds-work-at-3 c).Start)
 
 pub bounds-work-at-4 : goal.bounds-work-at-4
-bounds-work-at-4 c = omega (arith, (entry c).requires.room, three-long c)
+bounds-work-at-4 c = omega (arith, (entry (goal.at.bounds-work-at-4 c).Start).requires.room, three-long (goal.at.bounds-work-at-4 c).Start)
 
 pub returns : goal.returns
 returns c =
-    laid-four _ _ _ _ (entry c).requires.room (read_back_lem _ c.a-1.given) (read_back_lem _ c.b-1.given)
+    laid-four _ _ _ _ (entry (goal.at.returns c).Start).requires.room (read_back_lem _ c.a-1.given) (read_back_lem _ c.b-1.given)
     (read_back_lem _ c.c-1.given) (read_back_lem _ c.d-1.given)

@@ -16,29 +16,29 @@ copy-requires c =
 
 -- The front is copied.
 abbrev begun : After-copy → Start
-begun c = c.before.before.before
+begun c = (goal.at.After-copy c).Start
 
 pub light_before-lightest-requires : goal.light_before-lightest-requires
-light_before-lightest-requires c = let d = c.before.before in can-weigh (begun d).requires d.copy.ensures
+light_before-lightest-requires c = let d = c.before.before in can-weigh (begun (goal.at.light_before-lightest-requires c).After-copy).requires d.copy.ensures
 
 pub overflow_sub-back : goal.overflow_sub-back
-overflow_sub-back c = high (begun c.before.before.before).requires
+overflow_sub-back c = high (begun (goal.at.overflow_sub-back c).After-copy).requires
 
 pub overflow_add-used-4 : goal.overflow_add-used-4
 overflow_add-used-4 c =
-    let g = (begun c.before.before.before.before).requires in
+    let g = (begun (goal.at.overflow_add-used-4 c).After-copy).requires in
     omega (arith, high g, g.cut.count, g.room)
 
 pub merge-end-requires : goal.merge-end-requires
 merge-end-requires c =
     let d = c.before.before.before.before in
-    can-merge (begun d).requires d.copy.ensures c.light_before-lightest.ensures
+    can-merge (begun (goal.at.merge-end-requires c).After-copy).requires d.copy.ensures c.light_before-lightest.ensures
 
 pub returns : goal.returns
 returns c =
     let l = c.before.before.before in
     let d = l.before.before.before in
-    joins (begun d).requires d.copy.ensures l.light_before-lightest.ensures c.merge-end.ensures
+    joins (begun (goal.at.returns c).After-copy).requires d.copy.ensures l.light_before-lightest.ensures c.merge-end.ensures
 
 pub shape_of-work : goal.shape_of-work
 shape_of-work c = (returns c).size

@@ -15,7 +15,7 @@ use Rattle.merging.specs.Turns.{turns_at, kept_of}
 use Rattle.merging.specs.TurnLaws.{Merging, merging_start, inside-list, inside-pushed, inside-merged, merging-least}
 use Rattle.merging.specs.TurnLaws.{merging-turn, next_here, next-there, merging-end}
 use Rattle.merging.proofs.merge.Goals as goal
-use Rattle.merging.proofs.merge.Goals.{After-d-1, After-none_if-j, In-loop-left}
+use Rattle.merging.proofs.merge.Goals.{After-none_if-j, In-loop-left}
 
 -- One or none is at most one.
 at_most_one : (b : Bool) (x y : ℕ) → x + y ≡ 1 → cond b x y ≤ 1
@@ -65,9 +65,9 @@ pub bounds-pushed-j-in-loop-left : goal.bounds-pushed-j-in-loop-left
 bounds-pushed-j-in-loop-left c = inside-pushed c.loop-left.invariant.0
 
 -- Both numbers and those behind them are at hand.
-module _ (c : After-d-1) where
+module _ (c : In-loop-left) where
   abbrev turn : In-loop-left
-  turn = c.before.before
+  turn = c
 
   abbrev a : ℤ
   a = to_z w32 turn.loop-left.a
@@ -81,13 +81,13 @@ module _ (c : After-d-1) where
 pub overflow_add-i : goal.overflow_add-i
 overflow_add-i c =
     let d = c.before.before.before.before in
-    let small = at_most_one (le_z (a d) (b d)) 1 0 refl in
-    omega (arith, inside-list (turn d).loop-left.invariant.0, c.one_if-i.ensures)
+    let small = at_most_one (le_z (a (goal.at.overflow_add-i c).In-loop-left) (b (goal.at.overflow_add-i c).In-loop-left)) 1 0 refl in
+    omega (arith, inside-list (turn (goal.at.overflow_add-i c).In-loop-left).loop-left.invariant.0, c.one_if-i.ensures)
 
 -- The one that goes first is taken.
 module _ (c : After-none_if-j) where
-  abbrev both : After-d-1
-  both = c.before.before.before.before.before
+  abbrev both : In-loop-left
+  both = (goal.at.After-none_if-j c).In-loop-left
 
   abbrev x-read : ℤ
   x-read = to_z w32 (of_z w32 c.either-x.result)
@@ -115,7 +115,7 @@ light_in-light-requires c = x-least c
 
 pub overflow_add-n : goal.overflow_add-n
 overflow_add-n c =
-    let l = (turn (both c.before.before)).loop-left in
+    let l = (turn (both (goal.at.overflow_add-n c).After-none_if-j)).loop-left in
     let small = at_most_one (ltb c.light_in-light.result l.best) 1 0 refl in
     omega (arith, inside-merged l.inv.0, c.one_if_heavier-n.ensures)
 
@@ -124,9 +124,9 @@ loop-left-preserved c =
     let h = c.before.before in
     let d = h.before in
     let e = d.before.before in
-    let t = both d in
+    let t = both (goal.at.loop-left-preserved c).After-none_if-j in
     let l = (turn t).loop-left in
-    let light : h.light_in-light.result ≡ lightness (x-read d) = h.light_in-light.ensures in
+    let light : h.light_in-light.result ≡ lightness (x-read (goal.at.loop-left-preserved c).After-none_if-j) = h.light_in-light.ensures in
     let i-is = ap (λ (k : ℕ). l.i + k) d.one_if-i.ensures in
     let j-is = ap (λ (k : ℕ). l.j + k) d.none_if-j.ensures in
     let n-is = ap (λ (k : ℕ). l.n + k) (c.one_if_heavier-n.ensures ∙ ap (λ (k : ℕ). cond (ltb k l.best) 1 0) light) in
@@ -134,7 +134,7 @@ loop-left-preserved c =
     let a-is = read_back_lem _ e.either-a.type_inv ∙ e.either-a.ensures in
     let b-is = read_back_lem _ e.either-b.type_inv ∙ e.either-b.ensures in
     let at-hand = one_left t in (
-      merging-turn l.inv.0 l.inv.1 l.inv.2 at-hand _ _ _ _ _ (x-is d) i-is j-is n-is best-is,
+      merging-turn l.inv.0 l.inv.1 l.inv.2 at-hand _ _ _ _ _ (x-is (goal.at.loop-left-preserved c).After-none_if-j) i-is j-is n-is best-is,
       next_here l.inv.0 l.inv.1 l.inv.2 at-hand _ _ _ (read_back_lem _ t.c-1.given) a-is i-is,
       next-there l.inv.0 l.inv.1 l.inv.2 at-hand _ _ _ (read_back_lem _ t.d-1.given) b-is j-is,
     )

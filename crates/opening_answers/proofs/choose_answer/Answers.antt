@@ -20,16 +20,16 @@ won_by s winner n =
     record { refusal = 0; field = 0; winner = winner; offset = 4; length = n; kind = s.args.answer.kind }
 
 pub returns-in-Refused : goal.returns-in-Refused
-returns-in-Refused c = sym (ap (numbers_by c.before.before.before) c.in-Refused.is)
+returns-in-Refused c = sym (ap (numbers_by (goal.at.returns-in-Refused c).Start) c.in-Refused.is)
 
 pub returns-in-First : goal.returns-in-First
 returns-in-First c =
-    let s : Start = c.before.before.before in
+    let s : Start = (goal.at.returns-in-First c).Start in
     let records : c.records_length.result ≡ s.args.first - header_bytes = c.records_length.ensures in
     ap (won_by s 1) records ∙ sym (ap (numbers_by s) c.in-First.is)
 
 pub returns-in-Second : goal.returns-in-Second
 returns-in-Second c =
-    let s : Start = c.before.before.before in
+    let s : Start = (goal.at.returns-in-Second c).Start in
     let records : c.records_length-in-Second.result ≡ s.args.second - header_bytes = c.records_length-in-Second.ensures in
     ap (won_by s 2) records ∙ sym (ap (numbers_by s) c.in-Second.is)

@@ -13,10 +13,10 @@ abbrev numbers_by : Start → Chosen → QuestionAnswer
 numbers_by s won = question_numbers (record { chosen = won; kind = s.args.answer.kind })
 
 pub returns-in-Refused : goal.returns-in-Refused
-returns-in-Refused c = sym (ap (numbers_by c.before.before.before) c.in-Refused.is)
+returns-in-Refused c = sym (ap (numbers_by (goal.at.returns-in-Refused c).Start) c.in-Refused.is)
 
 pub returns-in-First : goal.returns-in-First
-returns-in-First c = sym (ap (numbers_by c.before.before) c.in-First.is)
+returns-in-First c = sym (ap (numbers_by (goal.at.returns-in-First c).Start) c.in-First.is)
 
 pub returns-in-Second : goal.returns-in-Second
-returns-in-Second c = sym (ap (numbers_by c.before.before) c.in-Second.is)
+returns-in-Second c = sym (ap (numbers_by (goal.at.returns-in-Second c).Start) c.in-Second.is)

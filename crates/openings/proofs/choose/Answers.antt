@@ -6,5 +6,5 @@ use Rattle.openings.proofs.choose.Goals.{Start}
 
 pub returns : goal.returns
 returns c =
-    let s : Start = c.before.before.before.before.before in
+    let s : Start = (goal.at.returns c).Start in
     rw (to_z-of_z s.ranges.t) at c.hand.ensures

@@ -17,7 +17,7 @@ use Rattle.openings.proofs.hand.Goals.{After-ask, Start}
 
 -- Where the code starts.
 abbrev start : After-ask → Start
-start c = c.before.before.before.before
+start c = (goal.at.After-ask c).Start
 
 -- The answer of the question.
 asked : (c : After-ask) → let s = start c in
@@ -35,41 +35,41 @@ headers c =
 
 pub slice_bounds-result-count : goal.slice_bounds-result-count
 slice_bounds-result-count c =
-    let after-ask : After-ask = c.before.before.before in
+    let after-ask : After-ask = (goal.at.slice_bounds-result-count c).After-ask in
     let h = headers after-ask c.in-First.is (lit< tt) in omega arith
 
 pub slice_bounds-result-start : goal.slice_bounds-result-start
 slice_bounds-result-start c =
-    let after-ask : After-ask = c.before.before.before in
+    let after-ask : After-ask = (goal.at.slice_bounds-result-start c).After-ask in
     let h = headers after-ask c.in-First.is (lit< tt) in omega arith
 
 pub slice_bounds-result-count-in-Second : goal.slice_bounds-result-count-in-Second
 slice_bounds-result-count-in-Second c =
-    let after-ask : After-ask = c.before.before.before in
+    let after-ask : After-ask = (goal.at.slice_bounds-result-count-in-Second c).After-ask in
     let h = headers after-ask c.in-Second.is (lit< tt) in omega arith
 
 pub slice_bounds-result-start-in-Second : goal.slice_bounds-result-start-in-Second
 slice_bounds-result-start-in-Second c =
-    let after-ask : After-ask = c.before.before.before in
+    let after-ask : After-ask = (goal.at.slice_bounds-result-start-in-Second c).After-ask in
     let h = headers after-ask c.in-Second.is (lit< tt) in omega arith
 
 pub returns-in-Refused : goal.returns-in-Refused
 returns-in-Refused c =
-    let q : After-ask = c.before.before.before.before in
+    let q : After-ask = (goal.at.returns-in-Refused c).After-ask in
     let s = start q in
     handed (rule_of s.args.tie) s.args.first s.args.second s.args.t s.args.work.now (asked q) c.in-Refused.is
     refl refl
 
 pub returns-in-First : goal.returns-in-First
 returns-in-First c =
-    let q : After-ask = c.before.before.before.before in
+    let q : After-ask = (goal.at.returns-in-First c).After-ask in
     let s = start q in
     handed (rule_of s.args.tie) s.args.first s.args.second s.args.t s.args.work.now (asked q) c.in-First.is
     (part_to_end s.args.first.now 4) refl
 
 pub returns-in-Second : goal.returns-in-Second
 returns-in-Second c =
-    let q : After-ask = c.before.before.before.before in
+    let q : After-ask = (goal.at.returns-in-Second c).After-ask in
     let s = start q in
     handed (rule_of s.args.tie) s.args.first s.args.second s.args.t s.args.work.now (asked q) c.in-Second.is
     (part_to_end s.args.second.now 4) refl

@@ -26,36 +26,36 @@ kind_by s won = kind_won won s.args.first.now s.args.second.now
 
 pub kind_in-requires : goal.kind_in-requires
 kind_in-requires c =
-    let s : Start = c.before.before.before.before in
+    let s : Start = (goal.at.kind_in-requires c).Start in
     let h = headers s c.in-First.is (lit< tt) in
     omega (arith, h.0.long, h.1.long)
 
 pub overflow_cast-result : goal.overflow_cast-result
 overflow_cast-result c =
-    let s : Start = c.before.before.before.before.before in
+    let s : Start = (goal.at.overflow_cast-result c).Start in
     let h = headers s c.in-First.is (lit< tt) in
     omega (arith, h.0.known, h.1.known, c.kind_in.ensures)
 
 pub kind_in-requires-in-Second : goal.kind_in-requires-in-Second
 kind_in-requires-in-Second c =
-    let s : Start = c.before.before.before.before in
+    let s : Start = (goal.at.kind_in-requires-in-Second c).Start in
     let h = headers s c.in-Second.is (lit< tt) in
     omega (arith, h.0.long, h.1.long)
 
 pub overflow_cast-result-in-Second : goal.overflow_cast-result-in-Second
 overflow_cast-result-in-Second c =
-    let s : Start = c.before.before.before.before.before in
+    let s : Start = (goal.at.overflow_cast-result-in-Second c).Start in
     let h = headers s c.in-Second.is (lit< tt) in
     omega (arith, h.0.known, h.1.known, c.kind_in-in-Second.ensures)
 
 pub returns-in-First : goal.returns-in-First
 returns-in-First c =
-    let s : Start = c.before.before.before.before.before in
+    let s : Start = (goal.at.returns-in-First c).Start in
     let told : c.kind_in.result ≡ kind_of s.args.first.now = c.kind_in.ensures in
     told ∙ sym (ap (kind_by s) c.in-First.is)
 
 pub returns-in-Second : goal.returns-in-Second
 returns-in-Second c =
-    let s : Start = c.before.before.before.before.before in
+    let s : Start = (goal.at.returns-in-Second c).Start in
     let told : c.kind_in-in-Second.result ≡ kind_of s.args.second.now = c.kind_in-in-Second.ensures in
     told ∙ sym (ap (kind_by s) c.in-Second.is)

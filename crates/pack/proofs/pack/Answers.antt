@@ -24,7 +24,7 @@ use Rattle.pack.proofs.pack.Goals.{After-judge_numbers, After-packed_bytes-writt
 
 -- Where the code starts.
 abbrev start : In-Fine → Start
-start c = c.before.before.before.before
+start c = (goal.at.In-Fine c).Start
 
 -- What was told of the numbers.
 told : (c : After-judge_numbers)
@@ -40,7 +40,7 @@ passed : (c : In-Fine)
     judge (number_checks s.args.t0 s.args.numbers.now) ≡ fine
 passed c =
     let a = c.args in
-    told-fine (number_checks a.t0 a.numbers.now) (told c.before.before ∙ c.in-Fine.is)
+    told-fine (number_checks a.t0 a.numbers.now) (told (goal.at.In-Fine c).After-judge_numbers ∙ c.in-Fine.is)
 
 -- The numbers are those of whole jobs.
 whole : (c : In-Fine) → Whole c.args.numbers.now (length c.args.numbers.now / 7)
@@ -52,7 +52,7 @@ pub kind_for-kind-requires : goal.kind_for-kind-requires
 kind_for-kind-requires c = whole c
 
 pub packed_bytes-written-requires : goal.packed_bytes-written-requires
-packed_bytes-written-requires c = (whole c.before).few
+packed_bytes-written-requires c = (whole (goal.at.packed_bytes-written-requires c).In-Fine).few
 
 -- The kind and the bytes of the order.
 sized : (c : After-packed_bytes-written) → c.packed_bytes-written.result
@@ -66,21 +66,21 @@ returns-then-bytes-written c =
     let t = c.before in
     let z = t.before in
     let a = z.args in
-    let short : length a.bytes-1.now < 4 + record_bytes (kind_for a.numbers.now) * (length a.numbers.now / 7) = rw (← (sized z)) t.if-bytes-written.true in
-    let packs = packs-no-room a.t0 a.numbers.now a.bytes-1.now (passed z.before.before) short in
-    (ap Refused c.plainly.ensures ∙ packs.0, packs.1)
+    let short : length a.bytes-1.now < 4 + record_bytes (kind_for a.numbers.now) * (length a.numbers.now / 7) = rw (← (sized (goal.at.returns-then-bytes-written c).After-packed_bytes-written)) t.if-bytes-written.true in
+    let packs = packs-no-room a.t0 a.numbers.now a.bytes-1.now (passed (goal.at.returns-then-bytes-written c).In-Fine) short in
+    (record { answer = ap Refused c.plainly.ensures ∙ packs.0; lent = packs.1 })
 
 -- There is room.
 room : (c : Else-bytes-written) → let a = c.args in
     4 + record_bytes (kind_for a.numbers.now) * (length a.numbers.now / 7) ≤ length a.bytes-1.now
-room c = rw (← (sized c.before)) c.if-bytes-written.false
+room c = rw (← (sized (goal.at.Else-bytes-written c).After-packed_bytes-written)) c.if-bytes-written.false
 
 pub put_header-requires : goal.put_header-requires
 put_header-requires c =
     let e = c.before in
     let a = e.before.before.before.before.before.before.before in
     rw e.kind_for-kind.ensures
-    (header-room a.args.t0 a.args.numbers.now a.args.bytes.now (passed e.before.before.before) (room e)
+    (header-room a.args.t0 a.args.numbers.now a.args.bytes.now (passed (goal.at.put_header-requires c).In-Fine) (room (goal.at.put_header-requires c).Else-bytes-written)
     (to_z w32 (of_z w32 a.args.t0)) (to_z-of_z a.ranges.t0))
 
 pub write_jobs-requires : goal.write_jobs-requires
@@ -88,12 +88,12 @@ write_jobs-requires c =
     let e = c.before.before.before.before.before in
     let a = e.args in
     rw e.kind_for-kind.ensures
-    (packable a.t0 a.numbers.now a.bytes-1.now (passed e.before.before.before) (room e)
+    (packable a.t0 a.numbers.now a.bytes-1.now (passed (goal.at.write_jobs-requires c).In-Fine) (room (goal.at.write_jobs-requires c).Else-bytes-written)
     c.put_header.new.bytes c.put_header.auto.0)
 
 pub returns-in-Refused : goal.returns-in-Refused
 returns-in-Refused c =
-    let after-judge-numbers : After-judge_numbers = c.before.before.before in
+    let after-judge-numbers : After-judge_numbers = (goal.at.returns-in-Refused c).After-judge_numbers in
     let a = c.args in
     let said = c.refusal-1.given in
     packs-refused a.t0 a.numbers.now a.bytes-1.now said.0.0
@@ -109,8 +109,8 @@ returns-else-bytes-written c =
     let kinded = h.kind_for-kind in
     let header : ℕ → ℤ → List ℕ = λ k t. packed_header k count t ++ drop 4 a.args.bytes.now in
     let packs =
-    packs-written a.args.t0 zs a.args.bytes.now (passed h.before.before.before) (room h) w.write_jobs.new.bytes
+    packs-written a.args.t0 zs a.args.bytes.now (passed (goal.at.returns-else-bytes-written c).In-Fine) (room (goal.at.returns-else-bytes-written c).Else-bytes-written) w.write_jobs.new.bytes
     (w.write_jobs.ensures
     ∙ ap₂ (λ k bs. first_records k zs count bs) kinded.ensures
     (w.put_header.ensures ∙ ap₂ header kinded.ensures (to_z-of_z a.ranges.t0))) in
-    (ap Bytes (sized h.before) ∙ packs.0, packs.1)
+    (record { answer = ap Bytes (sized (goal.at.returns-else-bytes-written c).After-packed_bytes-written) ∙ packs.0; lent = packs.1 })

@@ -37,17 +37,17 @@ kept c =
 
 -- The job that was read is the one at its place.
 read : (c : After-job_from-job)
-    → let s : Start = c.before.before.before.before in
+    → let s : Start = (goal.at.After-job_from-job c).Start in
     fields_of c.job_from-job.result ≡ fields_at s.args.numbers.now c.loop-k.k
 read c =
-    let l : At-loop-k = c.before.before in
+    let l : At-loop-k = (goal.at.After-job_from-job c).At-loop-k in
     read-from l.args.numbers.now l.loop-k.k (7 * l.loop-k.k) c.job_from-job.result refl c.job_from-job.ensures
 
 pub put_job-requires : goal.put_job-requires
 put_job-requires c =
-    let l : At-loop-k = c.before.before.before.before in
-    let a : Start = l.before.before in
-    let read-there = read c.before.before in
+    let l : At-loop-k = (goal.at.put_job-requires c).At-loop-k in
+    let a : Start = (goal.at.At-loop-k l).Start in
+    let read-there = read (goal.at.put_job-requires c).After-job_from-job in
     let below = part-below (record_bytes a.args.kind) c.loop-k-test.true in
     record {
       room = omega (arith, kept l, c.packed_bytes.ensures, below, a.requires.room);
@@ -60,11 +60,11 @@ put_job-requires c =
 
 pub loop-k-preserved : goal.loop-k-preserved
 loop-k-preserved c =
-    let l : At-loop-k = c.before.before.before.before.before.before.before in
-    let a : Start = l.before.before in
+    let l : At-loop-k = (goal.at.loop-k-preserved c).At-loop-k in
+    let a : Start = (goal.at.At-loop-k l).Start in
     let k : ℕ = l.loop-k.k in
     let kind : ℕ = a.args.kind in
-    let j : After-job_from-job = c.before.before.before.before.before in
+    let j : After-job_from-job = (goal.at.loop-k-preserved c).After-job_from-job in
     let job-bytes : List ℕ = bytes_of (record_bytes kind) (encode (job_layout kind) (fields_of j.job_from-job.result)) in
     let more : c.put_job.new.bytes ≡ first_records kind a.args.numbers.now (k + 1) a.args.bytes.now =
     c.put_job.ensures
@@ -74,7 +74,7 @@ loop-k-preserved c =
     (omega (arith, c.loop-k-test.true), more)
 
 pub shape_of-bytes : goal.shape_of-bytes
-shape_of-bytes c = kept c.before
+shape_of-bytes c = kept (goal.at.shape_of-bytes c).At-loop-k
 
 pub returns : goal.returns
 returns c =

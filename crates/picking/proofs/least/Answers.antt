@@ -14,7 +14,7 @@ loop-p-init c = (omega arith, least-alone c.args.times.now)
 
 pub loop-p-preserved : goal.loop-p-preserved
 loop-p-preserved c =
-    let l : At-loop-p = c.before.before.before.before in
+    let l : At-loop-p = (goal.at.loop-p-preserved c).At-loop-p in
     let times = l.args.times.now in (
       omega arith,
       ⊎_elim (λ w. rw w.1 (least-here times l.loop-p.p l.loop-p.place l.loop-p.invariant.1 w.0.taken))

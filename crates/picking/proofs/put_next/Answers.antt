@@ -16,46 +16,43 @@ least-place-requires c = can-pick c.requires
 
 pub count_of-requires : goal.count_of-requires
 count_of-requires c =
-    let r : After-repeating_at-job = c.before in
-    let l : After-least-place = r.before.before in
+    let r : After-repeating_at-job = (goal.at.count_of-requires c).After-repeating_at-job in
+    let l : After-least-place = (goal.at.After-repeating_at-job r).After-least-place in
     let a = l.before.before.before.before in
     (job-given a.requires l.least-place.result l.least-place.ensures r.repeating_at-job.result r.repeating_at-job.ensures).period.low
 
 pub overflow_add-next : goal.overflow_add-next
 overflow_add-next c =
-    let r : After-repeating_at-job = c.before.before in
-    let l : After-least-place = r.before.before in
+    let r : After-repeating_at-job = (goal.at.overflow_add-next c).After-repeating_at-job in
+    let l : After-least-place = (goal.at.After-repeating_at-job r).After-least-place in
     next_fits l.requires l.least-place.result l.least-place.ensures r.repeating_at-job.result
     r.repeating_at-job.ensures c.count_of.result c.count_of.ensures
 
 pub job_of-requires : goal.job_of-requires
 job_of-requires c =
-    let r : After-repeating_at-job = c.before.before.before in
-    let l : After-least-place = r.before.before in
+    let r : After-repeating_at-job = (goal.at.job_of-requires c).After-repeating_at-job in
+    let l : After-least-place = (goal.at.After-repeating_at-job r).After-least-place in
     can-make l.requires l.least-place.result l.least-place.ensures r.repeating_at-job.result
     r.repeating_at-job.ensures
 
 pub put_job-requires : goal.put_job-requires
 put_job-requires c =
-    let r : After-repeating_at-job = c.before.before.before.before in
-    let l : After-least-place = r.before.before in
+    let r : After-repeating_at-job = (goal.at.put_job-requires c).After-repeating_at-job in
+    let l : After-least-place = (goal.at.After-repeating_at-job r).After-least-place in
     job-room l.requires l.least-place.result l.least-place.ensures r.repeating_at-job.result
     r.repeating_at-job.ensures c.Job-of.result c.Job-of.ensures
 
 pub returns : goal.returns
 unfolding record_bytes
 returns c =
-    let j : After-job_of = c.before.before.before in
-    let p : After-count_of = j.before.before in
-    let r : After-repeating_at-job = p.before.before in
-    let l : After-least-place = r.before.before in
+    let j : After-job_of = (goal.at.returns c).After-job_of in
+    let p : After-count_of = (goal.at.After-job_of j).After-count_of in
+    let r : After-repeating_at-job = (goal.at.After-count_of p).After-repeating_at-job in
+    let l : After-least-place = (goal.at.After-repeating_at-job r).After-least-place in
     let a = l.before.before.before.before in
     let put : List ℤ → List ℕ = λ seven.
     take (4 + 8 * a.args.k) a.args.order.now ++ bytes_of 8 (encode (job_layout 0) seven)
-    ++ drop (4 + 8 * a.args.k + 8) a.args.order.now in (
-      moves-on a.requires l.least-place.result l.least-place.ensures r.repeating_at-job.result r.repeating_at-job.ensures
-          p.count_of.result p.count_of.ensures,
-      c.put_job.ensures
+    ++ drop (4 + 8 * a.args.k + 8) a.args.order.now in (record { moves = moves-on a.requires l.least-place.result l.least-place.ensures r.repeating_at-job.result r.repeating_at-job.ensures
+          p.count_of.result p.count_of.ensures; writes = c.put_job.ensures
           ∙ ap put (job-next a.requires l.least-place.result l.least-place.ensures r.repeating_at-job.result r.repeating_at-job.ensures
-          j.Job-of.result j.Job-of.ensures),
-    )
+          j.Job-of.result j.Job-of.ensures) })

@@ -20,12 +20,12 @@ read : (c : After-repeating_at-job)
     → JobRead c.args.numbers.now c.loop-p.p c.repeating_at-job.result
 unfolding jobs_given
 read c =
-    let l : At-loop-p = c.before.before in
+    let l : At-loop-p = (goal.at.After-repeating_at-job c).At-loop-p in
     let s = l.before.before in
     job_read s.args.numbers.now l.loop-p.p c.repeating_at-job.result s.requires.given (omega arith) c.repeating_at-job.ensures
 
 pub count_of-requires : goal.count_of-requires
-count_of-requires c = omega (signed, read c.before)
+count_of-requires c = omega (signed, read (goal.at.count_of-requires c).After-repeating_at-job)
 
 -- There is room for a time at its place.
 room : (l : At-loop-p) → length l.args.numbers.now / 6 ≤ length l.loop-p.next
@@ -36,15 +36,15 @@ pub offset_bounds-next-p : goal.offset_bounds-next-p
 offset_bounds-next-p c = omega (arith, c.well-formed)
 
 pub bounds-next-p : goal.bounds-next-p
-bounds-next-p c = omega (arith, room c.before.before.before.before)
+bounds-next-p c = omega (arith, room (goal.at.bounds-next-p c).At-loop-p)
 
 pub loop-p-preserved : goal.loop-p-preserved
 loop-p-preserved c =
-    let l : At-loop-p = c.before.before.before.before in
+    let l : At-loop-p = (goal.at.loop-p-preserved c).At-loop-p in
     let zs = l.args.numbers.now in
     let p : ℕ = l.loop-p.p in
     let phase : ℕ = c.count_of.result in
-    let counted : phase ≡ phase_at zs p = c.count_of.ensures ∙ (read c.before.before).phase.is in (
+    let counted : phase ≡ phase_at zs p = c.count_of.ensures ∙ (read (goal.at.loop-p-preserved c).After-repeating_at-job).phase.is in (
       omega arith,
       length-set l.loop-p.next p phase ∙ l.loop-p.invariant.1,
       noted-on (λ i n. n ≡ phase_at zs i) l.loop-p.next p phase (omega (arith, room l)) counted l.loop-p.invariant.2,
@@ -56,6 +56,6 @@ shape_of-next c = c.loop-p.invariant.1
 pub returns : goal.returns
 unfolding jobs_given
 returns c =
-    let l : At-loop-p = c.before in
+    let l : At-loop-p = (goal.at.returns c).At-loop-p in
     let a = l.args in
     none_done l.requires.given l.loop-p.next (room l) (λ p h. l.loop-p.invariant.2 p (omega arith))

@@ -44,7 +44,7 @@ slice_bounds-put_next-end c = sym c.loop-k.invariant.3
 
 pub put_next-requires : goal.put_next-requires
 put_next-requires c =
-    let l : At-loop-k = c.before.before.before in
+    let l : At-loop-k = (goal.at.put_next-requires c).At-loop-k in
     let a = l.before.before.before.before.before in
     record {
       making = a.requires.making;
@@ -56,8 +56,8 @@ put_next-requires c =
 pub loop-k-preserved : goal.loop-k-preserved
 unfolding record_bytes
 loop-k-preserved c =
-    let put : After-put_next = c.before.before.before in
-    let l : At-loop-k = put.before.before.before.before in
+    let put : After-put_next = (goal.at.loop-k-preserved c).After-put_next in
+    let l : At-loop-k = (goal.at.After-put_next put).At-loop-k in
     let a = l.before.before.before.before.before in
     let zs = a.args.numbers.now in
     let k : ℕ = l.loop-k.k in
@@ -66,17 +66,17 @@ loop-k-preserved c =
     let four : 4 ≤ length a.args.order.now = omega (arith, a.requires.room) in
     let there : seven ≡ fields_at (frame_numbers zs) k = sym (frame_at zs k (omega (arith, a.requires.all))) in (
       omega arith,
-      put.put_next.ensures.1 ∙ ap behind l.loop-k.invariant.1 ∙ one_more 0 (frame_numbers zs) a.args.order.now k seven four there,
-      put.put_next.ensures.0,
+      put.put_next.ensures.writes ∙ ap behind l.loop-k.invariant.1 ∙ one_more 0 (frame_numbers zs) a.args.order.now k seven four there,
+      put.put_next.ensures.moves,
       put.put_next.auto.1.1.0 ∙ l.loop-k.invariant.3,
     )
 
 pub shape_of-order : goal.shape_of-order
-shape_of-order c = kept c.before
+shape_of-order c = kept (goal.at.shape_of-order c).At-loop-k
 
 pub returns : goal.returns
 returns c =
-    let l : At-loop-k = c.before in
+    let l : At-loop-k = (goal.at.returns c).At-loop-k in
     let a = l.args in
     let all : l.loop-k.k ≡ a.count = omega arith in
     l.loop-k.invariant.1 ∙ ap (λ (k : ℕ). first_records 0 (frame_numbers a.numbers.now) k a.order-1.now) all

@@ -16,11 +16,11 @@ overflow_cast-last c = omega (arith, c.shared_slice_known-2-1.given (length c.ar
 
 pub nonzero_rem-result : goal.nonzero_rem-result
 nonzero_rem-result c =
-    let s : Start = c.before.before.before in
+    let s : Start = (goal.at.nonzero_rem-result c).Start in
     rw c.unit.ensures (pow_pos (pad_bits s.args.n))
 
 pub returns : goal.returns
 returns c =
-    let s : Start = c.before.before.before in
+    let s : Start = (goal.at.returns c).Start in
     let plan = s.args.plan.now in
     ap (λ u. eqb (get_or plan (length plan - 1) 0 % u) 0) c.unit.ensures

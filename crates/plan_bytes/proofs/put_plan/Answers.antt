@@ -27,15 +27,15 @@ room c =
 
 pub loop-place-init : goal.loop-place-init
 loop-place-init c =
-    let w : After-put_word = c.before.before in
+    let w : After-put_word = (goal.at.loop-place-init c).After-put_word in
     let s = entry w in
     writing-starts w.put_word.new.bytes s.args.mask s.args.starts.now (room w)
     (mask-put s.args.bytes.now w.put_word.new.bytes s.args.mask w.put_word.ensures)
 
 pub put_kept-kept-requires : goal.put_kept-kept-requires
 put_kept-kept-requires c =
-    let l : At-loop-place = c.before.before.before in
-    let w : After-put_word = l.before.before.before in
+    let l : At-loop-place = (goal.at.put_kept-kept-requires c).At-loop-place in
+    let w : After-put_word = (goal.at.At-loop-place l).After-put_word in
     let s = entry w in
     rw (to_z-of_z (record { sfits = c.start-1.given }))
     (kept-room w.put_word.new.bytes s.args.mask s.args.starts.now (room w) l.loop-place.bytes l.loop-place.auto l.loop-place.place
@@ -43,26 +43,26 @@ put_kept-kept-requires c =
 
 pub loop-place-preserved : goal.loop-place-preserved
 loop-place-preserved c =
-    let k : After-put_kept-kept = c.before.before in
-    let turn : In-loop-place = k.before.before.before in
-    let l : At-loop-place = k.before.before.before.before in
-    let w : After-put_word = l.before.before.before in
+    let k : After-put_kept-kept = (goal.at.loop-place-preserved c).After-put_kept-kept in
+    let turn : In-loop-place = (goal.at.After-put_kept-kept k).In-loop-place in
+    let l : At-loop-place = (goal.at.After-put_kept-kept k).At-loop-place in
+    let w : After-put_word = (goal.at.At-loop-place l).After-put_word in
     let s = entry w in
     writing-on w.put_word.new.bytes s.args.mask s.args.starts.now (room w) l.loop-place.bytes l.loop-place.auto l.loop-place.place
     l.loop-place.invariant turn.loop-place-test.true k.put_kept-kept.new.bytes k.put_kept-kept.result
-    (rw (to_z-of_z (record { sfits = k.start-1.given })) at k.put_kept-kept.ensures.0)
-    (rw (to_z-of_z (record { sfits = k.start-1.given })) at k.put_kept-kept.ensures.1)
+    (rw (to_z-of_z (record { sfits = k.start-1.given })) at k.put_kept-kept.ensures.counts)
+    (rw (to_z-of_z (record { sfits = k.start-1.given })) at k.put_kept-kept.ensures.writes)
 
 pub plan_bytes-requires : goal.plan_bytes-requires
 plan_bytes-requires c =
     let l = c.before in
-    let s : Start = l.before.before.before.before.before.before in
+    let s : Start = (goal.at.plan_bytes-requires c).Start in
     omega (arith, l.loop-place.invariant.few, s.requires.few)
 
 pub shape_of-bytes : goal.shape_of-bytes
 shape_of-bytes c =
-    let l : At-loop-place = c.before.before in
-    let w : After-put_word = l.before.before.before in
+    let l : At-loop-place = (goal.at.shape_of-bytes c).At-loop-place in
+    let w : After-put_word = (goal.at.At-loop-place l).After-put_word in
     let s = entry w in
     omega (
       arith,
@@ -71,13 +71,13 @@ shape_of-bytes c =
     )
 
 -- All are written.
-all : (c : After-loop-place) → let w : After-put_word = c.before.before.before.before in let s = entry w in
+all : (c : After-loop-place) → let w : After-put_word = (goal.at.After-loop-place c).After-put_word in let s = entry w in
     let kept = starts_kept s.args.starts.now in
     (c.loop-place.auto ≡ length kept)
     × (c.loop-place.bytes ≡ pack_plan s.args.mask kept ++ drop (plan_bytes (length kept)) w.put_word.new.bytes)
 all c =
     let l = c.before in
-    let w : After-put_word = l.before.before.before in
+    let w : After-put_word = (goal.at.After-loop-place c).After-put_word in
     let s = entry w in
     writing-all w.put_word.new.bytes s.args.mask s.args.starts.now (room w) l.loop-place.bytes l.loop-place.auto l.loop-place.place
     l.loop-place.invariant c.loop-place-test.false
@@ -87,9 +87,6 @@ returns c =
     let l = c.before.before in
     let w = l.before.before.before in
     let s = w.before.before.before in
-    let kept = starts_kept s.args.starts.now in (
-      c.plan_bytes.ensures ∙ ap plan_bytes (all c.before).0,
-      (all c.before).1
+    let kept = starts_kept s.args.starts.now in (record { counts = c.plan_bytes.ensures ∙ ap plan_bytes (all (goal.at.returns c).After-loop-place).0; writes = (all (goal.at.returns c).After-loop-place).1
           ∙ ap (λ b. pack_plan s.args.mask kept ++ b)
-          (mask-behind s.args.bytes.now w.put_word.new.bytes s.args.mask w.put_word.ensures (length kept)),
-    )
+          (mask-behind s.args.bytes.now w.put_word.new.bytes s.args.mask w.put_word.ensures (length kept)) })

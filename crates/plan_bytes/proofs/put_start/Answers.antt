@@ -12,27 +12,27 @@ use Rattle.plan_bytes.proofs.put_start.Goals.{After-begun_in-begun, After-plan_b
 
 -- Where the code starts.
 abbrev entry : After-unit → Start
-entry c = c.before.before.before.before.before.before.before
+entry c = (goal.at.After-unit c).Start
 
 -- What is computed.
-word : (c : After-unit) → let after-begun-in : After-begun_in-begun = c.before.before.before in
-    let after-plan-bytes : After-plan_bytes-at = c.before.before.before.before.before in
+word : (c : After-unit) → let after-begun-in : After-begun_in-begun = (goal.at.After-unit c).After-begun_in-begun in
+    let after-plan-bytes : After-plan_bytes-at = (goal.at.After-unit c).After-plan_bytes-at in
     let s = entry c in
     Made s.args.bytes.now s.args.k s.args.start (after-plan-bytes.plan_bytes-at.result - 3)
     (after-begun-in.begun_in-begun.result * 65536 + c.time_bits-bits.result * c.unit.result)
 word c =
-    let p : After-plan_bytes-at = c.before.before.before.before.before in
-    let b : After-begun_in-begun = c.before.before.before in
-    let s : Start = p.before.before in
+    let p : After-plan_bytes-at = (goal.at.After-unit c).After-plan_bytes-at in
+    let b : After-begun_in-begun = (goal.at.After-unit c).After-begun_in-begun in
+    let s : Start = (goal.at.After-plan_bytes-at p).Start in
     made s.args.bytes.now s.args.k s.args.start p.plan_bytes-at.result b.begun_in-begun.result p.plan_bytes-at.ensures
     b.begun_in-begun.ensures c.time_bits-bits.result c.unit.result
     (c.time_bits-bits.ensures ∙ ap (to_bits 18) (to_z-of_z s.ranges.start)) c.unit.ensures
 
 pub overflow_mul-begun : goal.overflow_mul-begun
 overflow_mul-begun c =
-    let p : After-plan_bytes-at = c.before.before.before.before in
-    let b : After-begun_in-begun = c.before.before in
-    let s : Start = p.before.before in
+    let p : After-plan_bytes-at = (goal.at.overflow_mul-begun c).After-plan_bytes-at in
+    let b : After-begun_in-begun = (goal.at.overflow_mul-begun c).After-begun_in-begun in
+    let s : Start = (goal.at.After-plan_bytes-at p).Start in
     omega (
       arith,
       begun-small s.args.bytes.now s.args.k s.args.start p.plan_bytes-at.result b.begun_in-begun.result
@@ -59,9 +59,9 @@ put_word-requires c =
 
 pub returns : goal.returns
 returns c =
-    let u : After-unit = c.before.before.before in
-    let after-begun-in : After-begun_in-begun = u.before.before.before in
-    let after-plan-bytes : After-plan_bytes-at = u.before.before.before.before.before in
+    let u : After-unit = (goal.at.returns c).After-unit in
+    let after-begun-in : After-begun_in-begun = (goal.at.After-unit u).After-begun_in-begun in
+    let after-plan-bytes : After-plan_bytes-at = (goal.at.After-unit u).After-plan_bytes-at in
     let s = entry u in
     put_is s.args.bytes.now c.put_word.new.bytes s.args.k s.args.start
     (after-plan-bytes.plan_bytes-at.result - 3)

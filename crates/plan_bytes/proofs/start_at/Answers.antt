@@ -14,7 +14,7 @@ use Rattle.plan_bytes.proofs.start_at.Goals.{Start}
 
 pub nonzero_div-word : goal.nonzero_div-word
 nonzero_div-word c =
-    let s : Start = c.before.before.before.before in
+    let s : Start = (goal.at.nonzero_div-word c).Start in
     rw c.unit.ensures (pow_pos (pad_bits (s.args.k + 1)))
 
 pub returns : goal.returns

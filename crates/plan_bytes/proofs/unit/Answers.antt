@@ -15,7 +15,7 @@ returns-then-rest-eq1 c = sym (ap (λ e. 2 ^ e) (pad-1 c.args.n c.if-rest-eq1.tr
 
 pub returns-then-rest-eq2 : goal.returns-then-rest-eq2
 returns-then-rest-eq2 c =
-    let s : Start = c.before.before.before in
+    let s : Start = (goal.at.returns-then-rest-eq2 c).Start in
     sym (ap (λ e. 2 ^ e) (pad-2 s.args.n c.if-rest-eq2.true))
 
 pub returns : goal.returns

@@ -18,20 +18,20 @@ report_read-end-requires c = omega (arith, longest-is)
 
 pub slice_bounds-write-end-2 : goal.slice_bounds-write-end-2
 slice_bounds-write-end-2 c =
-    let behind : After-report_read-end = c.before.before.before in
+    let behind : After-report_read-end = (goal.at.slice_bounds-write-end-2 c).After-report_read-end in
     let told = behind.report_read-end in
     omega
-    (arith, length-take-le told.result told.new.1.1.0 (omega (arith, told.ensures.within, told.auto.1.1.0)))
+    (arith, length-take-le told.result told.new.out (omega (arith, told.ensures.within, told.auto.1.1.0)))
 
 -- The text's length is said of the bytes read too, so that a report of other bytes is refused by what differs.
 pub write-requires : goal.write-requires
 write-requires c =
-    let behind : After-report_read-end = c.before.before.before in
-    let first : After-read-count = behind.before.before.before.before in
+    let behind : After-report_read-end = (goal.at.write-requires c).After-report_read-end in
+    let first : After-read-count = (goal.at.After-report_read-end behind).After-read-count in
     let told = behind.report_read-end in
     let read = first.read-count in
-    let bytes = take read.result read.new.0 in
+    let bytes = take read.result read.new.input in
     let count : told.result ≡ length (printed bytes _) = told.ensures.count in
-    let text : take told.result told.new.1.1.0 ≡ report_of bytes =
+    let text : take told.result told.new.out ≡ report_of bytes =
     front-told bytes _ (omega arith) told.ensures in
     text

@@ -7,11 +7,11 @@ use Rattle.plan_writer.proofs.write_over.Goals.{After-plan_order, After-put_plan
 
 -- Where the code starts.
 abbrev start : After-plan_order → Start
-start c = c.before.before.before.before.before
+start c = (goal.at.After-plan_order c).Start
 
 pub put_plan-requires : goal.put_plan-requires
 put_plan-requires c =
-    let p : After-plan_order = c.before.before.before.before.before.before.before.before in
+    let p : After-plan_order = (goal.at.put_plan-requires c).After-plan_order in
     let s = start p in
     let f = c.figures-1.given in
     write-room s.args.order.now s.args.out.now s.args.work.now s.args.starts.now s.requires
@@ -19,7 +19,7 @@ put_plan-requires c =
 
 pub returns-in-Refused : goal.returns-in-Refused
 returns-in-Refused c =
-    let p : After-plan_order = c.before.before.before.before.before in
+    let p : After-plan_order = (goal.at.returns-in-Refused c).After-plan_order in
     let s = start p in
     let r = c.refusal-1.given in
     write-handed-on s.args.order.now s.args.out.now s.args.work.now s.args.starts.now s.requires
@@ -27,11 +27,11 @@ returns-in-Refused c =
 
 pub returns-in-Made : goal.returns-in-Made
 returns-in-Made c =
-    let w : After-put_plan = c.before.before in
+    let w : After-put_plan = (goal.at.returns-in-Made c).After-put_plan in
     let a = w.before in
-    let p : After-plan_order = a.before.before.before.before.before.before.before.before in
+    let p : After-plan_order = (goal.at.After-put_plan w).After-plan_order in
     let s = start p in
     let f = a.figures-1.given in
     write_done s.args.order.now s.args.out.now s.args.work.now s.args.starts.now s.requires
-    p.plan_order.ensures f.0.0 f.1 w.put_plan.result w.put_plan.new.bytes w.put_plan.ensures.0
-    w.put_plan.ensures.1
+    p.plan_order.ensures f.0.0 f.1 w.put_plan.result w.put_plan.new.bytes w.put_plan.ensures.counts
+    w.put_plan.ensures.writes

@@ -10,14 +10,14 @@ use Rattle.plan_writer.proofs.write_plan.Goals.{After-judge_order, In-Fine, Star
 
 pub write_order-requires : goal.write_order-requires
 write_order-requires c =
-    let e : In-Fine = c.before.before in
-    let s : Start = e.before.before.before.before.before in
+    let e : In-Fine = (goal.at.write_order-requires c).In-Fine in
+    let s : Start = (goal.at.In-Fine e).Start in
     told-fine (order_checks s.args.order.now)
     (sym e.judge_order.ensures ∙ e.in-Fine.is)
 
 pub returns-in-Refused : goal.returns-in-Refused
 returns-in-Refused c =
-    let j : After-judge_order = c.before.before.before in
+    let j : After-judge_order = (goal.at.returns-in-Refused c).After-judge_order in
     let a = j.args in
     let r = c.refusal-1.given in
     write-stopped a.order.now a.out-1.now a.work-1.now r.0.0 (sym j.judge_order.ensures ∙ r.1)

@@ -8,15 +8,15 @@ use borrow.Author.Rules.{rules}
 use Rattle.seconds.specs.RangesLaws.{time-fits}
 use Rattle.planner.specs.PlanningLaws.{weight-light, total-light, points-light, can_write, plan-made}
 use Rattle.planner.proofs.make_plan.Goals as goal
-use Rattle.planner.proofs.make_plan.Goals.{After-kept_of, After-struct_told-1, After-write_starts, Start}
+use Rattle.planner.proofs.make_plan.Goals.{After-kept_of, After-write_starts, Start}
 
 -- ---- the stages of the code, each seen from a later one
 
-abbrev start : After-struct_told-1 → Start
-start read = read.before.before.before
+abbrev start : Start → Start
+start read = read
 
 abbrev written : After-kept_of → After-write_starts
-written told = told.before.before
+written told = (goal.at.After-kept_of told).After-write_starts
 
 abbrev entry : After-kept_of → Start
 entry told = start (written told).before
@@ -30,7 +30,7 @@ t0-back s =
 -- ---- the needs
 
 pub write_starts-requires : goal.write_starts-requires
-write_starts-requires c = let s = start c in rw (t0-back s) (can_write s.requires)
+write_starts-requires c = let s = start (goal.at.write_starts-requires c).Start in rw (t0-back s) (can_write s.requires)
 
 pub overflow_cast-result : goal.overflow_cast-result
 overflow_cast-result c = let f = (entry c).requires in omega (arith, weight-light f, total-light f)
@@ -39,11 +39,11 @@ pub overflow_sub-result : goal.overflow_sub-result
 overflow_sub-result c = omega (arith, weight-light (entry c).requires)
 
 pub overflow_cast-result-3 : goal.overflow_cast-result-3
-overflow_cast-result-3 c = omega (arith, points-light (entry c.before).requires)
+overflow_cast-result-3 c = omega (arith, points-light (entry (goal.at.overflow_cast-result-3 c).After-kept_of).requires)
 
 pub returns : goal.returns
 returns c =
-    let told : After-kept_of = c.before.before in
+    let told : After-kept_of = (goal.at.returns c).After-kept_of in
     let s = entry told in
     let finish : SFits w32 s.args.end.finish = record { sfits = c.struct_told-2-1.given.1.0.1 } in
     rw (to_z-of_z finish)

@@ -10,15 +10,15 @@ use Rattle.planner.proofs.plan.Goals.{After-judge_order, In-Fine, Start}
 
 pub plan_order-requires : goal.plan_order-requires
 plan_order-requires c =
-    let told : In-Fine = c.before.before in
-    let judged : After-judge_order = told.before.before in
-    let start : Start = judged.before.before in
+    let told : In-Fine = (goal.at.plan_order-requires c).In-Fine in
+    let judged : After-judge_order = (goal.at.In-Fine told).After-judge_order in
+    let start : Start = (goal.at.After-judge_order judged).Start in
     told-fine (order_checks start.args.bytes.now) (sym judged.judge_order.ensures ∙ told.in-Fine.is)
 
 pub returns-in-Refused : goal.returns-in-Refused
 returns-in-Refused c =
-    let judged : After-judge_order = c.before.before.before in
-    let start : Start = judged.before.before in
+    let judged : After-judge_order = (goal.at.returns-in-Refused c).After-judge_order in
+    let start : Start = (goal.at.After-judge_order judged).Start in
     let a = start.args in
     let r = c.refusal-1.given in
     plan-stopped a.bytes.now a.starts-1.now a.work-1.now r.0.0 (sym judged.judge_order.ensures ∙ r.1)

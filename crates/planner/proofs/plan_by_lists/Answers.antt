@@ -19,15 +19,15 @@ use Rattle.reading.specs.Reading.{found}
 use Rattle.walking.specs.declared.End.{End}
 use Rattle.planner.specs.PlanningLaws.{can-start, can-fill, last-stands, nothing-made, can-walk, can-make}
 use Rattle.planner.proofs.plan_by_lists.Goals as goal
-use Rattle.planner.proofs.plan_by_lists.Goals.{After-fill_lists-totals, After-last_by, After-start_at, After-struct_told-1, After-walk-mask, After-work-1, In-At, In-Nothing, Start}
+use Rattle.planner.proofs.plan_by_lists.Goals.{After-fill_lists-totals, After-last_by, After-start_at, After-walk-mask, In-At, In-Nothing, Start}
 
 -- ---- the stages of the code, each seen from a later one
 
-abbrev start : After-struct_told-1 → Start
-start read = read.before.before.before.before.before
+abbrev start : Start → Start
+start read = read
 
-abbrev begun : After-work-1 → After-start_at
-begun back = back.before
+abbrev begun : After-start_at → After-start_at
+begun back = back
 
 abbrev filled : tie.After-last-by-arg → After-fill_lists-totals
 filled read = read.before.before.before.before.before.before.before.before
@@ -42,11 +42,11 @@ t0-back s =
     to_z-of_z fits
 
 pub start_at-requires : goal.start_at-requires
-start_at-requires c = let s = start c in rw (t0-back s) (can-start s.requires)
+start_at-requires c = let s = start (goal.at.start_at-requires c).Start in rw (t0-back s) (can-start s.requires)
 
 module _ (c : After-start_at) where
   abbrev entry : Start
-  entry = start c.before
+  entry = start (goal.at.After-start_at c).Start
 
   abbrev first : List ℤ
   first = c.start_at.new.work
@@ -61,12 +61,12 @@ module _ (c : After-start_at) where
 
 pub fill_lists-totals-requires : goal.fill_lists-totals-requires
 fill_lists-totals-requires c =
-    let from : After-start_at = begun c.before.before.before in
+    let from : After-start_at = begun (goal.at.fill_lists-totals-requires c).After-start_at in
     can-fill (entry from).requires (sized from) (started from)
 
 module _ (c : After-fill_lists-totals) where
   abbrev from : After-start_at
-  from = begun c.before.before.before.before
+  from = begun (goal.at.After-fill_lists-totals c).After-start_at
 
   abbrev all : List ℤ
   all = c.fill_lists-totals.new.work
@@ -100,7 +100,7 @@ searched c = c.last_by.ensures
 
 module _ (c : In-At) where
   abbrev ended : After-last_by
-  ended = c.before.before.before
+  ended = (goal.at.In-At c).After-last_by
 
   abbrev lists : After-fill_lists-totals
   lists = filled ended.before
@@ -118,7 +118,7 @@ module _ (c : In-At) where
 
 pub walk-mask-requires : goal.walk-mask-requires
 walk-mask-requires c =
-    let e : In-At = c.before.before.before in
+    let e : In-At = c in
     let f = lists e in
     let d = from f in
     rw (finish-back e)
@@ -126,8 +126,8 @@ walk-mask-requires c =
 
 pub make_plan-requires : goal.make_plan-requires
 make_plan-requires c =
-    let walked : After-walk-mask = c.before in
-    let e : In-At = walked.before.before.before.before in
+    let walked : After-walk-mask = (goal.at.make_plan-requires c).After-walk-mask in
+    let e : In-At = (goal.at.After-walk-mask walked).In-At in
     let f = lists e in
     let d = from f in
     rw (finish-back e)
@@ -136,8 +136,8 @@ make_plan-requires c =
 
 pub returns-in-Nothing : goal.returns-in-Nothing
 returns-in-Nothing c =
-    let told : In-Nothing = c.before in
-    let ended : After-last_by = told.before.before in
+    let told : In-Nothing = (goal.at.returns-in-Nothing c).In-Nothing in
+    let ended : After-last_by = (goal.at.In-Nothing told).After-last_by in
     let f = filled ended.before in
     let d = from f in
     let none : Nothing ≡ found (lookup (last f) latest_free) = sym told.in-Nothing.is ∙ searched ended in

@@ -12,7 +12,7 @@ use Rattle.fields.specs.Facts.{HeaderRead, header_read}
 use Rattle.area.specs.Area.{area}
 use Rattle.planner.specs.CallLaws.{plan-no-room, plan-no-space, plan-done}
 use Rattle.planner.proofs.plan_order.Goals as goal
-use Rattle.planner.proofs.plan_order.Goals.{After-clear, After-header_at-header, After-plan_within-answer, After-plan_within-arg-2-1, Else-starts-n, Else-work-lt-AREA, Start, Then-starts-n, Then-work-lt-AREA}
+use Rattle.planner.proofs.plan_order.Goals.{After-clear, After-header_at-header, After-plan_within-answer, Else-starts-n, Else-work-lt-AREA, Start, Then-starts-n, Then-work-lt-AREA}
 
 pub header_at-header-requires : goal.header_at-header-requires
 header_at-header-requires c = ((order-fine c.args.bytes.now).0 c.requires).header.long
@@ -21,33 +21,33 @@ header_at-header-requires c = ((order-fine c.args.bytes.now).0 c.requires).heade
 
 module _ (c : After-header_at-header) where
   abbrev start : Start
-  start = c.before.before
+  start = (goal.at.After-header_at-header c).Start
 
   -- The header that was read is the order's.
   read : HeaderRead start.args.bytes.now c.header_at-header.result
   read = header_read start.args.bytes.now c.header_at-header.result c.header_at-header.ensures
 
 abbrev header : Else-work-lt-AREA → After-header_at-header
-header roomy = roomy.before.before
+header roomy = (goal.at.Else-work-lt-AREA roomy).After-header_at-header
 
-abbrev roomy : After-plan_within-arg-2-1 → Else-work-lt-AREA
-roomy lent = lent.before.before
+abbrev roomy : Else-work-lt-AREA → Else-work-lt-AREA
+roomy lent = lent
 
 -- ---- the room
 
 pub returns-then-starts-n : goal.returns-then-starts-n
 returns-then-starts-n c =
-    let short : Then-starts-n = c.before in
-    let h : After-header_at-header = short.before in
+    let short : Then-starts-n = (goal.at.returns-then-starts-n c).Then-starts-n in
+    let h : After-header_at-header = (goal.at.Then-starts-n short).After-header_at-header in
     let a = (start h).args in
     rw c.plainly.ensures
     (plan-no-room a.bytes.now a.starts-1.now a.work-1.now (start h).requires (omega (arith, short.if-starts-n.true, (read h).count)))
 
 pub returns-then-work-lt-AREA : goal.returns-then-work-lt-AREA
 returns-then-work-lt-AREA c =
-    let short : Then-work-lt-AREA = c.before in
-    let enough : Else-starts-n = short.before in
-    let h : After-header_at-header = enough.before in
+    let short : Then-work-lt-AREA = (goal.at.returns-then-work-lt-AREA c).Then-work-lt-AREA in
+    let enough : Else-starts-n = (goal.at.Then-work-lt-AREA short).Else-starts-n in
+    let h : After-header_at-header = (goal.at.Else-starts-n enough).After-header_at-header in
     let a = (start h).args in
     rw c.plainly-then-work-lt-AREA.ensures
     (plan-no-space a.bytes.now a.starts-1.now a.work-1.now (start h).requires (omega (arith, enough.if-starts-n.false, (read h).count))
@@ -59,11 +59,11 @@ lent : (c : Else-work-lt-AREA) → length (take area (start (header c)).args.wor
 lent c = length-take-le area (start (header c)).args.work.now c.if-work-lt-AREA.false
 
 pub slice_bounds-plan_within-end-2 : goal.slice_bounds-plan_within-end-2
-slice_bounds-plan_within-end-2 c = omega (arith, lent (roomy c))
+slice_bounds-plan_within-end-2 c = omega (arith, lent (roomy (goal.at.slice_bounds-plan_within-end-2 c).Else-work-lt-AREA))
 
 pub plan_within-answer-requires : goal.plan_within-answer-requires
 plan_within-answer-requires c =
-    let r = roomy c in
+    let r = roomy (goal.at.plan_within-answer-requires c).Else-work-lt-AREA in
     let h = header r in
     record {
       order = (order-fine (start h).args.bytes.now).0 (start h).requires;
@@ -76,9 +76,9 @@ plan_within-answer-requires c =
 
 pub returns : goal.returns
 returns c =
-    let cleared : After-clear = c.before in
-    let planned : After-plan_within-answer = cleared.before.before.before.before in
-    let r = roomy planned.before in
+    let cleared : After-clear = (goal.at.returns c).After-clear in
+    let planned : After-plan_within-answer = (goal.at.After-clear cleared).After-plan_within-answer in
+    let r = roomy (goal.at.After-plan_within-answer planned).Else-work-lt-AREA in
     let h = header r in
     let a = (start h).args in
     let part = planned.plan_within-answer.new.work in

@@ -15,7 +15,7 @@ use Rattle.profiles.specs.Places.{time_at}
 use Rattle.profiles.specs.ByTime.{count_by}
 use Rattle.profiles.specs.ByTimeLaws.{count-on, count-stops, count-ends}
 use Rattle.profiles.proofs.count_by.Goals as goal
-use Rattle.profiles.proofs.count_by.Goals.{After-t8-1, At-loop-i}
+use Rattle.profiles.proofs.count_by.Goals.{At-loop-i, In-loop-i}
 
 pub loop-i-init : goal.loop-i-init
 loop-i-init c = (omega arith, omega arith)
@@ -35,25 +35,25 @@ module _ (c : At-loop-i) where
   counted = rw (to_z-of_z c.ranges.t) at c.loop-i.invariant.1
 
 -- The time of the point that a turn looks at.
-time-fits : (c : After-t8-1) → SFits w32 (time_at (numbers c.before.before) (i c.before.before))
+time-fits : (c : In-loop-i) → SFits w32 (time_at (numbers (goal.at.In-loop-i c).At-loop-i) (i (goal.at.In-loop-i c).At-loop-i))
 time-fits c = record { sfits = c.t8-1.given }
 
 pub returns-then-t-numbers : goal.returns-then-t-numbers
 returns-then-t-numbers c =
-    let h : At-loop-i = c.before.before.before in
+    let h : At-loop-i = (goal.at.returns-then-t-numbers c).At-loop-i in
     let fits = h.ranges.t in
-    let later : t h <ℤ time_at (numbers h) (i h) = omega (signed, time-fits c.before, fits, c.if-t-numbers.true) in
+    let later : t h <ℤ time_at (numbers h) (i h) = omega (signed, time-fits (goal.at.returns-then-t-numbers c).In-loop-i, fits, c.if-t-numbers.true) in
     omega (arith, counted h, count-stops (t h) (numbers h) (i h) c.loop-i-test.true later)
 
 pub loop-i-preserved : goal.loop-i-preserved
 loop-i-preserved c =
-    let h : At-loop-i = c.before.before.before in
+    let h : At-loop-i = (goal.at.loop-i-preserved c).At-loop-i in
     let fits = h.ranges.t in
-    let by : time_at (numbers h) (i h) ≤ℤ t h = omega (signed, time-fits c.before, fits, c.if-t-numbers.false) in
+    let by : time_at (numbers h) (i h) ≤ℤ t h = omega (signed, time-fits (goal.at.loop-i-preserved c).In-loop-i, fits, c.if-t-numbers.false) in
     rw (to_z-of_z fits)
     (omega arith, omega (arith, counted h, count-on (t h) (numbers h) (i h) c.loop-i-test.true by))
 
 pub returns : goal.returns
 returns c =
     let h = c.before in
-    omega (arith, counted h, count-ends (t h) (numbers h) (i h) c.loop-i-test.false)
+    omega (arith, counted (goal.at.returns c).At-loop-i, count-ends (t (goal.at.returns c).At-loop-i) (numbers (goal.at.returns c).At-loop-i) (i (goal.at.returns c).At-loop-i) c.loop-i-test.false)

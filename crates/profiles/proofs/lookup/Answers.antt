@@ -20,11 +20,11 @@ use Rattle.profiles.specs.Answer.{lookup_of}
 use Rattle.profiles.specs.AnswerLaws.{lookup-refused, lookup-nothing, lookup-found}
 use Rattle.profiles.specs.declared.Finding.TheVariants.{Found}
 use Rattle.profiles.proofs.lookup.Goals as goal
-use Rattle.profiles.proofs.lookup.Goals.{After-count_by-end, After-result-1, Else-end-eq0, Start}
+use Rattle.profiles.proofs.lookup.Goals.{After-count_by-end, Else-end-eq0, Start}
 
 -- Where the code starts.
 abbrev start : After-count_by-end → Start
-start c = c.before.before.before
+start c = (goal.at.After-count_by-end c).Start
 
 pub returns-then-not-valid : goal.returns-then-not-valid
 returns-then-not-valid c =
@@ -54,11 +54,11 @@ module _ (c : After-count_by-end) where
 pub returns-then-end-eq0 : goal.returns-then-end-eq0
 returns-then-end-eq0 c =
     let h = c.before in
-    sym (lookup-nothing (numbers h) (t h) (valid h) (sym (count h) ∙ c.if-end-eq0.true))
+    sym (lookup-nothing (numbers (goal.at.returns-then-end-eq0 c).After-count_by-end) (t (goal.at.returns-then-end-eq0 c).After-count_by-end) (valid (goal.at.returns-then-end-eq0 c).After-count_by-end) (sym (count (goal.at.returns-then-end-eq0 c).After-count_by-end) ∙ c.if-end-eq0.true))
 
 -- The place of the weight.
-place-within : (c : Else-end-eq0) → c.count_by-end.result - 1 < length (numbers c.before)
-place-within c = let h = c.before in let some = c.if-end-eq0.false in omega (arith, count h, count-within (t h) (numbers h))
+place-within : (c : Else-end-eq0) → c.count_by-end.result - 1 < length (numbers (goal.at.Else-end-eq0 c).After-count_by-end)
+place-within c = let h = c.before in let some = c.if-end-eq0.false in omega (arith, count (goal.at.Else-end-eq0 c).After-count_by-end, count-within (t (goal.at.Else-end-eq0 c).After-count_by-end) (numbers (goal.at.Else-end-eq0 c).After-count_by-end))
 
 pub offset_bounds-numbers-end : goal.offset_bounds-numbers-end
 offset_bounds-numbers-end c = omega (arith, place-within c)
@@ -67,9 +67,9 @@ pub bounds-numbers-end : goal.bounds-numbers-end
 bounds-numbers-end c = place-within c
 
 -- The weight that stands there.
-module _ (c : After-result-1) where
+module _ (c : Else-end-eq0) where
   abbrev after : After-count_by-end
-  after = c.before.before
+  after = (goal.at.Else-end-eq0 c).After-count_by-end
 
   abbrev number : ℤ
   number = get_or (numbers after) (after.count_by-end.result - 1) (pos 0)
@@ -84,8 +84,8 @@ module _ (c : After-result-1) where
 
 pub overflow_cast-result : goal.overflow_cast-result
 overflow_cast-result c =
-    rw (to_z-of_z (weight-fits c), (found c).1)
-    (tt, record { fits = omega (signed, rw (found c).1 at (weight-fits c).sfits) })
+    rw (to_z-of_z (weight-fits (goal.at.overflow_cast-result c).Else-end-eq0), (found (goal.at.overflow_cast-result c).Else-end-eq0).1)
+    (tt, record { fits = omega (signed, rw (found (goal.at.overflow_cast-result c).Else-end-eq0).1 at (weight-fits (goal.at.overflow_cast-result c).Else-end-eq0).sfits) })
 
 pub returns : goal.returns
-returns c = rw (to_z-of_z (weight-fits c), (found c).1) (sym (found c).2)
+returns c = rw (to_z-of_z (weight-fits (goal.at.returns c).Else-end-eq0), (found (goal.at.returns c).Else-end-eq0).1) (sym (found (goal.at.returns c).Else-end-eq0).2)

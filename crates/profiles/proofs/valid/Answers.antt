@@ -19,7 +19,7 @@ use Rattle.profiles.specs.Numbers.{holds_profile}
 use Rattle.profiles.specs.Places.{time_at, weight_at}
 use Rattle.profiles.specs.OnePass.{passes, holds-long, holds-odd, holds-few, passes_on, passes-not, passes-end}
 use Rattle.profiles.proofs.valid.Goals as goal
-use Rattle.profiles.proofs.valid.Goals.{After-loop-i, After-w-1, Else-n-ne0}
+use Rattle.profiles.proofs.valid.Goals.{After-loop-i, Else-n-ne0, In-loop-i}
 
 pub returns-then-n-gt-MOST_NUMBERS : goal.returns-then-n-gt-MOST_NUMBERS
 returns-then-n-gt-MOST_NUMBERS c =
@@ -35,10 +35,10 @@ pub loop-i-init : goal.loop-i-init
 loop-i-init c = (omega arith, refl, holds-few c.args.numbers.now c.if-n-gt-MOST_NUMBERS.false)
 
 pub bounds-numbers-i-in-loop-i : goal.bounds-numbers-i-in-loop-i
-bounds-numbers-i-in-loop-i c = omega (arith, even c.before.before.before)
+bounds-numbers-i-in-loop-i c = omega (arith, even (goal.at.bounds-numbers-i-in-loop-i c).Else-n-ne0)
 
 -- The point that a turn looks at, and the time and the weight of the one before it.
-module _ (c : After-w-1) where
+module _ (c : In-loop-i) where
   abbrev numbers : List ℤ
   numbers = c.args.numbers.now
 
@@ -52,7 +52,7 @@ module _ (c : After-w-1) where
   weight = to_z w32 c.loop-i.weight
 
   more : i + 1 < length numbers
-  more = omega (arith, even c.before.before.before.before)
+  more = omega (arith, even (goal.at.In-loop-i c).Else-n-ne0)
 
   time-fits : SFits w32 (time_at numbers i)
   time-fits = record { sfits = c.t-1.given }
@@ -66,19 +66,19 @@ module _ (c : After-w-1) where
 pub returns-then-t-time : goal.returns-then-t-time
 returns-then-t-time c =
     let p = c.before in
-    sym (decided p ∙ passes-not (numbers p) (i p) (more p) (time p) (weight p)
+    sym (decided (goal.at.returns-then-t-time c).In-loop-i ∙ passes-not (numbers (goal.at.returns-then-t-time c).In-loop-i) (i (goal.at.returns-then-t-time c).In-loop-i) (more (goal.at.returns-then-t-time c).In-loop-i) (time (goal.at.returns-then-t-time c).In-loop-i) (weight (goal.at.returns-then-t-time c).In-loop-i)
     (⊎_elim
-    (λ w. inl (omega (signed, time-fits p, w.taken)))
-    (λ w. inr (omega (signed, weight-fits p, w.1.taken)))
+    (λ w. inl (omega (signed, time-fits (goal.at.returns-then-t-time c).In-loop-i, w.taken)))
+    (λ w. inr (omega (signed, weight-fits (goal.at.returns-then-t-time c).In-loop-i, w.1.taken)))
     c.then-t-time.branch))
 
 pub loop-i-preserved : goal.loop-i-preserved
 loop-i-preserved c =
     let p = c.before.before in
-    let later : time p <ℤ time_at (numbers p) (i p) = omega (signed, time-fits p, c.if-t-time.false) in
-    let heavier : weight p <ℤ weight_at (numbers p) (i p) = omega (signed, weight-fits p, c.if-w-weight.false) in
-    rw (to_z-of_z (time-fits p), to_z-of_z (weight-fits p))
-    (omega (arith, more p), omega arith, decided p ∙ passes_on (numbers p) (i p) (more p) (time p) (weight p) later heavier)
+    let later : time (goal.at.loop-i-preserved c).In-loop-i <ℤ time_at (numbers (goal.at.loop-i-preserved c).In-loop-i) (i (goal.at.loop-i-preserved c).In-loop-i) = omega (signed, time-fits (goal.at.loop-i-preserved c).In-loop-i, c.if-t-time.false) in
+    let heavier : weight (goal.at.loop-i-preserved c).In-loop-i <ℤ weight_at (numbers (goal.at.loop-i-preserved c).In-loop-i) (i (goal.at.loop-i-preserved c).In-loop-i) = omega (signed, weight-fits (goal.at.loop-i-preserved c).In-loop-i, c.if-w-weight.false) in
+    rw (to_z-of_z (time-fits (goal.at.loop-i-preserved c).In-loop-i), to_z-of_z (weight-fits (goal.at.loop-i-preserved c).In-loop-i))
+    (omega (arith, more (goal.at.loop-i-preserved c).In-loop-i), omega arith, decided (goal.at.loop-i-preserved c).In-loop-i ∙ passes_on (numbers (goal.at.loop-i-preserved c).In-loop-i) (i (goal.at.loop-i-preserved c).In-loop-i) (more (goal.at.loop-i-preserved c).In-loop-i) (time (goal.at.loop-i-preserved c).In-loop-i) (weight (goal.at.loop-i-preserved c).In-loop-i) later heavier)
 
 -- At the end the last point is held to the ranges, by its time first.
 module _ (c : After-loop-i) where
@@ -100,8 +100,8 @@ module _ (c : After-loop-i) where
 -- The code's last second is tied to the rest here.
 pub returns-then-time-le-LATEST : goal.returns-then-time-le-LATEST
 unfolding rest
-returns-then-time-le-LATEST c = ends c.before true c.if-time-le-LATEST.true
+returns-then-time-le-LATEST c = ends (goal.at.returns-then-time-le-LATEST c).After-loop-i true c.if-time-le-LATEST.true
 
 pub returns-else-time-le-LATEST : goal.returns-else-time-le-LATEST
 unfolding rest
-returns-else-time-le-LATEST c = c.if-time-le-LATEST.false ∙ ends c.before false c.if-time-le-LATEST.false
+returns-else-time-le-LATEST c = c.if-time-le-LATEST.false ∙ ends (goal.at.returns-else-time-le-LATEST c).After-loop-i false c.if-time-le-LATEST.false

@@ -24,7 +24,7 @@ use Rattle.pushing.proofs.push.Goals.{After-delta_of-delta, At-loop-i, Joined-pl
 -- The two numbers that every turn reads.
 module _ (d : After-delta_of-delta) where
   abbrev begun : Start
-  begun = d.before.before
+  begun = (goal.at.After-delta_of-delta d).Start
 
   abbrev limit : ℤ
   limit = to_z w32 (of_z w32 d.limit_by-limit.result)
@@ -46,7 +46,7 @@ module _ (d : After-delta_of-delta) where
 -- The number before the place, where there is one.
 module _ (a : At-loop-i) where
   abbrev known : After-delta_of-delta
-  known = a.before.before
+  known = (goal.at.At-loop-i a).After-delta_of-delta
 
   abbrev start : Start
   start = begun known
@@ -68,24 +68,24 @@ pub delta_of-delta-requires : goal.delta_of-delta-requires
 delta_of-delta-requires c = c.requires.fits
 
 pub overflow_add-i : goal.overflow_add-i
-overflow_add-i c = omega (arith, (begun c.before).requires.room)
+overflow_add-i c = omega (arith, (begun (goal.at.overflow_add-i c).After-delta_of-delta).requires.room)
 
 pub loop-i-init : goal.loop-i-init
-loop-i-init c = let d = c.before in pushing-start (begun d).requires (limit d) (delta d)
+loop-i-init c = let d = c.before in pushing-start (begun (goal.at.loop-i-init c).After-delta_of-delta).requires (limit (goal.at.loop-i-init c).After-delta_of-delta) (delta (goal.at.loop-i-init c).After-delta_of-delta)
 
 pub overflow_sub-i : goal.overflow_sub-i
 overflow_sub-i c = omega (arith, c.loop-i-test.true)
 
 pub offset_bounds-work-i : goal.offset_bounds-work-i
-offset_bounds-work-i c = omega (arith, (room c.before c.loop-i-test.true).2)
+offset_bounds-work-i c = omega (arith, (room (goal.at.offset_bounds-work-i c).At-loop-i c.loop-i-test.true).2)
 
 pub bounds-work-i : goal.bounds-work-i
-bounds-work-i c = (room c.before c.loop-i-test.true).2
+bounds-work-i c = (room (goal.at.bounds-work-i c).At-loop-i c.loop-i-test.true).2
 
 -- A turn.
 module _ (c : Then-limit-work) where
   abbrev head : At-loop-i
-  head = c.before.before.before
+  head = (goal.at.Then-limit-work c).At-loop-i
 
   inside : (start head).args.list.place < head.loop-i.i
   inside = c.loop-i-test.true
@@ -104,35 +104,35 @@ bounds-work-i-in-loop-i c = (room (head c) (inside c)).2
 
 pub later-requires : goal.later-requires
 later-requires c =
-    let h = head c.before in
+    let h = head (goal.at.later-requires c).Then-limit-work in
     let r : to_z w32 (of_z w32 (here h)) ≡ here h = read_back_lem (here h) c.later-arg-1.given in
-    (rw r (here-coded h (inside c.before)), delta-in (known h))
+    (rw r (here-coded h (inside (goal.at.later-requires c).Then-limit-work)), delta-in (known h))
 
 pub offset_bounds-pushed-p : goal.offset_bounds-pushed-p
-offset_bounds-pushed-p c = omega (arith, (room (head c.before.before) (inside c.before.before)).1)
+offset_bounds-pushed-p c = omega (arith, (room (head (goal.at.offset_bounds-pushed-p c).Then-limit-work) (inside (goal.at.offset_bounds-pushed-p c).Then-limit-work)).1)
 
 pub bounds-pushed-p : goal.bounds-pushed-p
-bounds-pushed-p c = (room (head c.before.before) (inside c.before.before)).1
+bounds-pushed-p c = (room (head (goal.at.bounds-pushed-p c).Then-limit-work) (inside (goal.at.bounds-pushed-p c).Then-limit-work)).1
 
 pub loop-i-smaller : goal.loop-i-smaller
-loop-i-smaller c = omega (arith, inside c.before.before)
+loop-i-smaller c = omega (arith, inside (goal.at.loop-i-smaller c).Then-limit-work)
 
 pub loop-i-preserved : goal.loop-i-preserved
 loop-i-preserved c =
     let t = c.before.before in
-    let h = head t in
+    let h = head (goal.at.loop-i-preserved c).Then-limit-work in
     let s = start h in
     let r : to_z w32 (of_z w32 (here h)) ≡ here h = read_back_lem (here h) c.later-arg-1.given in
     let test : lt_z (limit (known h)) (to_z w32 (of_z w32 (here h))) ≡ true = t.if-limit-work.true in
     let late : limit (known h) <ℤ here h = omega signed in
     let number = read_back_lem c.later.result c.later.type_inv ∙ c.later.ensures in
     let is = number ∙ ap (λ (z : ℤ). z +ℤ delta (known h)) r in
-    pushing-more s.requires h.loop-i.invariant _ (inside t) late is
+    pushing-more s.requires h.loop-i.invariant _ (inside (goal.at.loop-i-preserved c).Then-limit-work) late is
 
 -- The end.
 module _ (c : Then-place-i) where
   abbrev last : At-loop-i
-  last = c.before.before
+  last = (goal.at.Then-place-i c).At-loop-i
 
   soon : here last ≤ℤ limit (known last)
   soon = ⊎_elim
@@ -157,20 +157,20 @@ bounds-work-i-then-place-i c = (room (last c) c.if-place-i.true).2
 
 pub waits-requires : goal.waits-requires
 waits-requires c =
-    let h = last c.before in
+    let h = last (goal.at.waits-requires c).Then-place-i in
     let r : to_z w32 (of_z w32 (here h)) ≡ here h = read_back_lem (here h) c.waits-arg-1.given in
     (rw (to_z-of_z (start h).fits.ready) (start h).requires.starts, delta-in (known h), rw r (here-coded h c.if-place-i.true))
 
 pub offset_bounds-pushed-p-then-place-i : goal.offset_bounds-pushed-p-then-place-i
-offset_bounds-pushed-p-then-place-i c = omega (arith, (room (last c.before.before) c.if-place-i.true).1)
+offset_bounds-pushed-p-then-place-i c = omega (arith, (room (last (goal.at.offset_bounds-pushed-p-then-place-i c).Then-place-i) c.if-place-i.true).1)
 
 pub bounds-pushed-p-then-place-i : goal.bounds-pushed-p-then-place-i
-bounds-pushed-p-then-place-i c = (room (last c.before.before) c.if-place-i.true).1
+bounds-pushed-p-then-place-i c = (room (last (goal.at.bounds-pushed-p-then-place-i c).Then-place-i) c.if-place-i.true).1
 
 -- Either way the list stands at its place.
 module _ (c : Joined-place-i) where
   abbrev ended : At-loop-i
-  ended = c.before.before
+  ended = (goal.at.Joined-place-i c).At-loop-i
 
   placed : Placed (start ended).args.work.now (start ended).args.list (start ended).args.ready (limit (known ended))
       (delta (known ended)) c.if-place-i.p c.if-place-i.pushed
@@ -190,12 +190,12 @@ module _ (c : Joined-place-i) where
       c.if-place-i.branch
 
 pub overflow_sub-result : goal.overflow_sub-result
-overflow_sub-result c = placed-low (placed c.before).0
+overflow_sub-result c = placed-low (placed (goal.at.overflow_sub-result c).Joined-place-i).0
 
 pub shape_of-pushed : goal.shape_of-pushed
-shape_of-pushed c = (placed c.before).1
+shape_of-pushed c = (placed (goal.at.shape_of-pushed c).Joined-place-i).1
 
 pub returns : goal.returns
 returns c =
-    let h = ended c.before in
-    pushes (start h).requires (limit_is (known h)) (delta-is (known h)) (placed c.before).0
+    let h = ended (goal.at.returns c).Joined-place-i in
+    pushes (start h).requires (limit_is (known h)) (delta-is (known h)) (placed (goal.at.returns c).Joined-place-i).0

@@ -29,7 +29,7 @@ number_is : (c : After-code_of)
 number_is c =
     let s = c.before.before in
     read_back_lem c.code_of_lem.result c.code_of_lem.type-inv
-    ∙ c.code_of_lem.ensures ∙ ap₂ code_of (to_z-of_z s.ranges.ready) (weight_is c.before)
+    ∙ c.code_of_lem.ensures ∙ ap₂ code_of (to_z-of_z s.ranges.ready) (weight_is (goal.at.After-code_of c).After-weight_in)
 
 pub later-requires : goal.later-requires
 later-requires c =
@@ -40,4 +40,4 @@ pub returns : goal.returns
 returns c =
     let s = c.before.before.before in
     read_back_lem c.later.result c.later.type_inv
-    ∙ c.later.ensures ∙ ap₂ ◌+ℤ◌ (number_is c.before) (to_z-of_z s.ranges.delta)
+    ∙ c.later.ensures ∙ ap₂ ◌+ℤ◌ (number_is (goal.at.returns c).After-code_of) (to_z-of_z s.ranges.delta)

@@ -15,7 +15,7 @@ use Rattle.reader.proofs.open.Goals.{After-judge_header, In-Fine, Start}
 
 -- Where the code starts.
 abbrev start : In-Fine → Start
-start c = c.before.before.before.before
+start c = (goal.at.In-Fine c).Start
 
 -- Past checks 1 to 5.
 passed : (c : In-Fine) → let s = start c in
@@ -32,8 +32,8 @@ header_at-header-requires c =
 
 pub returns-in-Refused : goal.returns-in-Refused
 returns-in-Refused c =
-    let s : Start = c.before.before.before.before.before in
-    let after-judge-header : After-judge_header = c.before.before.before in
+    let s : Start = (goal.at.returns-in-Refused c).Start in
+    let after-judge-header : After-judge_header = (goal.at.returns-in-Refused c).After-judge_header in
     let bytes = s.args.bytes.now in
     let r = c.refusal-1.given in
     sym (ap (opened_by (count_of bytes))
@@ -42,7 +42,7 @@ returns-in-Refused c =
 
 pub returns-in-Fine : goal.returns-in-Fine
 returns-in-Fine c =
-    let s = start c.before in
+    let s = start (goal.at.returns-in-Fine c).In-Fine in
     let bytes = s.args.bytes.now in
     let read = header_read bytes c.header_at-header.result c.header_at-header.ensures in
-    ap Accepted read.count ∙ sym (ap (opened_by (count_of bytes)) (passed c.before))
+    ap Accepted read.count ∙ sym (ap (opened_by (count_of bytes)) (passed (goal.at.returns-in-Fine c).In-Fine))

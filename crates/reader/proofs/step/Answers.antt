@@ -29,36 +29,36 @@ refused_at place r = record { answer = Read.Refused r; place = place }
 module _ (c : In-Accepted) where
   abbrev bytes : List ℕ
   bytes =
-      let s : Start = c.before.before.before.before.before in
+      let s : Start = (goal.at.In-Accepted c).Start in
       s.args.bytes.now
 
   abbrev place : ℕ
   place =
-      let s : Start = c.before.before.before.before.before in
+      let s : Start = (goal.at.In-Accepted c).Start in
       s.args.place
 
   opened : OpenFine bytes c.in-Accepted.count
   opened =
-      let after_open : After-open = c.before.before.before in
+      let after_open : After-open = (goal.at.In-Accepted c).After-open in
       open-accepted bytes _ (sym after_open.open.ensures ∙ c.in-Accepted.is)
 
 pub returns-then-place-count : goal.returns-then-place-count
 returns-then-place-count c =
     let a = c.before in
-    sym (step_end (bytes a) (place a) (opened a).passed (omega (arith, (opened a).counted, c.if-place-count.true)))
+    sym (step_end (bytes (goal.at.returns-then-place-count c).In-Accepted) (place (goal.at.returns-then-place-count c).In-Accepted) (opened (goal.at.returns-then-place-count c).In-Accepted).passed (omega (arith, (opened (goal.at.returns-then-place-count c).In-Accepted).counted, c.if-place-count.true)))
 
 -- Below the count.
 module _ (c : Else-place-count) where
-  below : place c.before < count_of (bytes c.before)
-  below = omega (arith, (opened c.before).counted, c.if-place-count.false)
+  below : place (goal.at.Else-place-count c).In-Accepted < count_of (bytes (goal.at.Else-place-count c).In-Accepted)
+  below = omega (arith, (opened (goal.at.Else-place-count c).In-Accepted).counted, c.if-place-count.false)
 
 pub job_in-job-requires : goal.job_in-job-requires
-job_in-job-requires c = record-in (bytes c.before) (place c.before) (opened c.before).header (below c)
+job_in-job-requires c = record-in (bytes (goal.at.job_in-job-requires c).In-Accepted) (place (goal.at.job_in-job-requires c).In-Accepted) (opened (goal.at.job_in-job-requires c).In-Accepted).header (below c)
 
 -- The job that was read is the job at the place, and its field says whether it is within its limits.
 module _ (c : After-bad_field-field) where
   abbrev there : In-Accepted
-  there = c.before.before.before
+  there = (goal.at.After-bad_field-field c).In-Accepted
 
   abbrev job : Job
   job = c.job_in-job.result
@@ -76,22 +76,22 @@ pub returns-then-field-ne0 : goal.returns-then-field-ne0
 returns-then-field-ne0 c =
     let t = c.before in
     let read = t.before in
-    let a = there read in
+    let a = there (goal.at.returns-then-field-ne0 c).After-bad_field-field in
     let says : c.in_field.result ≡ in_field 6 (place a) read.bad_field-field.result = c.in_field.ensures in
-    ap (refused_at (place a)) (says ∙ ap (in_field 6 (place a)) (named read))
-    ∙ sym (step-bad (bytes a) (place a) (opened a).passed (below read.before.before)
-    (tested read ∙ ne_eqb read.bad_field-field.result 0 t.if-field-ne0.true))
+    ap (refused_at (place a)) (says ∙ ap (in_field 6 (place a)) (named (goal.at.returns-then-field-ne0 c).After-bad_field-field))
+    ∙ sym (step-bad (bytes a) (place a) (opened a).passed (below (goal.at.returns-then-field-ne0 c).Else-place-count)
+    (tested (goal.at.returns-then-field-ne0 c).After-bad_field-field ∙ ne_eqb read.bad_field-field.result 0 t.if-field-ne0.true))
 
 pub overflow_add-result : goal.overflow_add-result
 overflow_add-result c =
-    let else1 : Else-place-count = c.before.before.before in
-    record { fits = omega (arith, below else1, (opened (there c.before)).header.few) }
+    let else1 : Else-place-count = (goal.at.overflow_add-result c).Else-place-count in
+    record { fits = omega (arith, below else1, (opened (there (goal.at.overflow_add-result c).After-bad_field-field)).header.few) }
 
 pub returns-in-Refused : goal.returns-in-Refused
 returns-in-Refused c =
     let t = c.before in
-    let after_open : After-open = t.before.before.before in
-    let a : Start = t.before.before.before.before.before in
+    let after_open : After-open = (goal.at.returns-in-Refused c).After-open in
+    let a : Start = (goal.at.returns-in-Refused c).Start in
     let says : c.plainly.result ≡ plainly t.in-Refused.number = c.plainly.ensures in
     ap (refused_at a.args.place) says
     ∙ sym (open-refused a.args.bytes.now a.args.place _
@@ -99,9 +99,9 @@ returns-in-Refused c =
 
 pub returns-else-field-ne0 : goal.returns-else-field-ne0
 returns-else-field-ne0 c =
-    let else1 : Else-place-count = c.before.before.before in
-    let a = there c.before in
+    let else1 : Else-place-count = (goal.at.returns-else-field-ne0 c).Else-place-count in
+    let a = there (goal.at.returns-else-field-ne0 c).After-bad_field-field in
     let made : Job → Moved = λ j. record { answer = Read.Job j; place = place a + 1 } in
-    ap made (made_again (job c.before) (read c.before))
+    ap made (made_again (job (goal.at.returns-else-field-ne0 c).After-bad_field-field) (read (goal.at.returns-else-field-ne0 c).After-bad_field-field))
     ∙ sym (step-job (bytes a) (place a) (opened a).passed (below else1)
-    (tested c.before ∙ eq-eqb c.bad_field-field.result 0 c.if-field-ne0.false))
+    (tested (goal.at.returns-else-field-ne0 c).After-bad_field-field ∙ eq-eqb c.bad_field-field.result 0 c.if-field-ne0.false))

@@ -18,7 +18,7 @@ use Rattle.reading.specs.Reading.{found}
 use Rattle.reading.specs.declared.Found.TheVariants.{At}
 use Rattle.reading.specs.LastBy.{asked, asked-free, none_before, none_found, found_number, last_found}
 use Rattle.reading.proofs.last_by.Goals as goal
-use Rattle.reading.proofs.last_by.Goals.{After-after-end, After-code-1, After-lesser, Else-by-lt-EARLIEST, Start}
+use Rattle.reading.proofs.last_by.Goals.{After-after-end, After-lesser, Else-by-lt-EARLIEST, Else-end-place, Start}
 
 pub returns-then-by-lt-EARLIEST : goal.returns-then-by-lt-EARLIEST
 returns-then-by-lt-EARLIEST c =
@@ -42,16 +42,16 @@ is-asked c =
 pub limit_by-limit-requires : goal.limit_by-limit-requires
 limit_by-limit-requires c =
     let f : SFits w32 c.lesser.result = record { sfits = c.lesser.type_inv } in
-    let free : InFree (asked c.args.by) = asked-free (late c.before) in
+    let free : InFree (asked c.args.by) = asked-free (late (goal.at.limit_by-limit-requires c).Else-by-lt-EARLIEST) in
     omega (signed, is-asked c)
 
 -- The search found the place behind the points up to the time asked for.
 module _ (c : After-after-end) where
   abbrev s : Start
-  s = c.before.before.before.before
+  s = (goal.at.After-after-end c).Start
 
   abbrev not-early : Else-by-lt-EARLIEST
-  not-early = c.before.before.before
+  not-early = (goal.at.After-after-end c).Else-by-lt-EARLIEST
 
   abbrev Searched : ℤ → Type 0
   Searched limit = After s.args.work.now s.args.place (s.args.place + s.args.count) limit c.after-end.result
@@ -62,19 +62,19 @@ module _ (c : After-after-end) where
       let f : SFits w32 l.lesser.result = record { sfits = l.lesser.type_inv } in
       let g : SFits w32 l.limit_by-limit.result = record { sfits = l.limit_by-limit.type_inv } in
       let limit : l.limit_by-limit.result ≡ limit_of (asked s.args.by) =
-      l.limit_by-limit.ensures ∙ ap limit_of (to_z-of_z f ∙ is-asked l.before) in
+      l.limit_by-limit.ensures ∙ ap limit_of (to_z-of_z f ∙ is-asked (goal.at.After-after-end c).After-lesser) in
       let is : Searched (to_z w32 (of_z w32 l.limit_by-limit.result)) = c.after-end.ensures in
       subst Searched (to_z-of_z g ∙ limit) is
 
 pub returns-then-end-place : goal.returns-then-end-place
 returns-then-end-place c =
     let a = c.before in
-    sym (ap found (none_found (s a).requires (late (not-early a)) (searched a) (omega (arith, c.if-end-place.true))))
+    sym (ap found (none_found (s (goal.at.returns-then-end-place c).After-after-end).requires (late (not-early (goal.at.returns-then-end-place c).After-after-end)) (searched (goal.at.returns-then-end-place c).After-after-end) (omega (arith, c.if-end-place.true))))
 
 -- The number that is read is a point's.
-module _ (c : After-code-1) where
+module _ (c : Else-end-place) where
   abbrev a : After-after-end
-  a = c.before.before
+  a = (goal.at.Else-end-place c).After-after-end
 
   abbrev number : ℤ
   number = at0 (s a).args.work.now (a.after-end.result - 1)
@@ -89,18 +89,18 @@ module _ (c : After-code-1) where
   there = found_number (s a).requires (late (not-early a)) (searched a) more
 
 pub weight_in-requires : goal.weight_in-requires
-weight_in-requires c = let f = fits c in omega (signed, there c)
+weight_in-requires c = let f = fits (goal.at.weight_in-requires c).Else-end-place in omega (signed, there (goal.at.weight_in-requires c).Else-end-place)
 
 pub time_in-requires : goal.time_in-requires
-time_in-requires c = let f = fits c.before in omega (signed, there c.before)
+time_in-requires c = let f = fits (goal.at.time_in-requires c).Else-end-place in omega (signed, there (goal.at.time_in-requires c).Else-end-place)
 
 pub returns : goal.returns
 returns c =
     let r = c.before.before in
-    let p = point_of (number r) in
+    let p = point_of (number (goal.at.returns c).Else-end-place) in
     let t : SFits w32 c.time_in.result = record { sfits = c.time_in.type_inv } in
     let weight : c.weight_in.result ≡ p.weight =
-    c.weight_in.ensures ∙ ap (λ (z : ℤ). (point_of z).weight) (to_z-of_z (fits r)) in
+    c.weight_in.ensures ∙ ap (λ (z : ℤ). (point_of z).weight) (to_z-of_z (fits (goal.at.returns c).Else-end-place)) in
     let time : to_z w32 (of_z w32 c.time_in.result) ≡ p.time =
-    to_z-of_z t ∙ c.time_in.ensures ∙ ap (λ (z : ℤ). (point_of z).time) (to_z-of_z (fits r)) in
-    ap₂ At weight time ∙ sym (ap found (last_found (s (a r)).requires (late (not-early (a r))) (searched (a r)) (more r)))
+    to_z-of_z t ∙ c.time_in.ensures ∙ ap (λ (z : ℤ). (point_of z).time) (to_z-of_z (fits (goal.at.returns c).Else-end-place)) in
+    ap₂ At weight time ∙ sym (ap found (last_found (s (a (goal.at.returns c).Else-end-place)).requires (late (not-early (a (goal.at.returns c).Else-end-place))) (searched (a (goal.at.returns c).Else-end-place)) (more (goal.at.returns c).Else-end-place)))

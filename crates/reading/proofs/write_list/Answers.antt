@@ -13,15 +13,15 @@ use Rattle.codes.specs.Code.{point_of, at0}
 use Rattle.reading.specs.ReadingLaws.{number-there}
 use Rattle.reading.specs.Listing.{Listing, listing_none, listing-more, listing-all}
 use Rattle.reading.proofs.write_list.Goals as goal
-use Rattle.reading.proofs.write_list.Goals.{After-code-1, Start}
+use Rattle.reading.proofs.write_list.Goals.{In-loop-k, Start}
 
 pub loop-k-init : goal.loop-k-init
 loop-k-init c = listing_none _ _ _ _
 
 -- The number that a turn reads is a point's.
-module _ (c : After-code-1) where
+module _ (c : In-loop-k) where
   abbrev s : Start
-  s = c.before.before.before
+  s = (goal.at.In-loop-k c).Start
 
   abbrev number : ℤ
   number = at0 s.args.work.now (s.args.place + c.loop-k.k)
@@ -33,17 +33,17 @@ module _ (c : After-code-1) where
   there = number-there s.args.count s.requires.held c.loop-k.k (omega arith)
 
 pub time_in-requires : goal.time_in-requires
-time_in-requires c = let f = fits c.before in omega (signed, there c.before)
+time_in-requires c = let f = fits (goal.at.time_in-requires c).In-loop-k in omega (signed, there (goal.at.time_in-requires c).In-loop-k)
 
 pub weight_in-requires : goal.weight_in-requires
-weight_in-requires c = let f = fits c.before.before in omega (signed, there c.before.before)
+weight_in-requires c = let f = fits (goal.at.weight_in-requires c).In-loop-k in omega (signed, there (goal.at.weight_in-requires c).In-loop-k)
 
 pub overflow_cast-weight_in : goal.overflow_cast-weight_in
 overflow_cast-weight_in c = omega (signed, c.weight_in.ensures)
 
 pub put_point-requires : goal.put_point-requires
 put_point-requires c =
-    let r : After-code-1 = c.before.before.before in
+    let r : In-loop-k = (goal.at.put_point-requires c).In-loop-k in
     omega (arith, (s r).requires.places, r.loop-k.invariant.writing.size)
 
 -- The turn writes the time and the weight of that point.
@@ -53,16 +53,16 @@ loop-k-preserved c =
     let t = w.before in
     let r = t.before.before in
     let l = r.loop-k in
-    let p = point_of (number r) in
+    let p = point_of (number (goal.at.loop-k-preserved c).In-loop-k) in
     let f : SFits w32 t.time_in.result = record { sfits = t.time_in.type_inv } in
     let x = to_z w32 (of_z w32 t.time_in.result) in
     let y = to_z w32 w.weight_in.result in
-    let time : x ≡ p.time = to_z-of_z f ∙ t.time_in.ensures ∙ ap (λ (z : ℤ). (point_of z).time) (to_z-of_z (fits r)) in
+    let time : x ≡ p.time = to_z-of_z f ∙ t.time_in.ensures ∙ ap (λ (z : ℤ). (point_of z).time) (to_z-of_z (fits (goal.at.loop-k-preserved c).In-loop-k)) in
     let heavy : w.weight_in.result ≡ p.weight =
-    w.weight_in.ensures ∙ ap (λ (z : ℤ). (point_of z).weight) (to_z-of_z (fits r)) in
+    w.weight_in.ensures ∙ ap (λ (z : ℤ). (point_of z).weight) (to_z-of_z (fits (goal.at.loop-k-preserved c).In-loop-k)) in
     let weight : y ≡ pos p.weight = to_z_pos w32 (omega signed) ∙ ap pos heavy in
     let put : c.put_point.new.out ≡ set (set l.out-1 (2 * l.k) x) (2 * l.k + 1) y = c.put_point.ensures in
-    rw put (listing-more l.invariant (omega arith) (s r).requires.places x y time weight)
+    rw put (listing-more l.invariant (omega arith) (s (goal.at.loop-k-preserved c).In-loop-k).requires.places x y time weight)
 
 pub shape_of-out : goal.shape_of-out
 shape_of-out c = c.loop-k.invariant.writing.size

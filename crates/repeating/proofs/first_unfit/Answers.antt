@@ -19,9 +19,9 @@ loop-place-init c = (omega arith, refl)
 
 pub returns-then-not-may_repeat : goal.returns-then-not-may_repeat
 returns-then-not-may_repeat c =
-    let m : After-may_repeat = c.before in
-    let read : After-repeating_at-job = m.before in
-    let l : At-loop-place = read.before.before in
+    let m : After-may_repeat = (goal.at.returns-then-not-may_repeat c).After-may_repeat in
+    let read : After-repeating_at-job = (goal.at.After-may_repeat m).After-repeating_at-job in
+    let l : At-loop-place = (goal.at.After-repeating_at-job read).At-loop-place in
     let j = read.repeating_at-job.result in
     let unfit : may_repeat (numbers_in j) ≡ false = sym m.may_repeat.ensures ∙ not-true m.may_repeat.result c.if-not-may_repeat.true in
     sym (l.loop-place.invariant.1
@@ -30,9 +30,9 @@ returns-then-not-may_repeat c =
 
 pub loop-place-preserved : goal.loop-place-preserved
 loop-place-preserved c =
-    let m : After-may_repeat = c.before in
-    let read : After-repeating_at-job = m.before in
-    let l : At-loop-place = read.before.before in
+    let m : After-may_repeat = (goal.at.loop-place-preserved c).After-may_repeat in
+    let read : After-repeating_at-job = (goal.at.After-may_repeat m).After-repeating_at-job in
+    let l : At-loop-place = (goal.at.After-repeating_at-job read).At-loop-place in
     let j = read.repeating_at-job.result in
     let fit : may_repeat (numbers_in j) ≡ true = sym m.may_repeat.ensures ∙ not-false m.may_repeat.result c.if-not-may_repeat.false in (
       omega arith,
@@ -43,7 +43,7 @@ loop-place-preserved c =
 
 pub returns : goal.returns
 returns c =
-    let l : At-loop-place = c.before in
+    let l : At-loop-place = (goal.at.returns c).At-loop-place in
     let zs = l.args.numbers.now in
     let count = l.args.count in
     let end : l.loop-place.place ≡ count = omega arith in

@@ -25,40 +25,40 @@ repeating_at-job-requires c = omega (arith, below c, c.requires.whole)
 read : (c : After-repeating_at-job)
     → JobRead c.args.numbers.now c.loop-place.place c.repeating_at-job.result
 read c =
-    let l : At-loop-place = c.before.before in
-    job_read l.args.numbers.now l.loop-place.place c.repeating_at-job.result l.requires (below c.before)
+    let l : At-loop-place = (goal.at.After-repeating_at-job c).At-loop-place in
+    job_read l.args.numbers.now l.loop-place.place c.repeating_at-job.result l.requires (below (goal.at.After-repeating_at-job c).In-loop-place)
     c.repeating_at-job.ensures
 
 pub count_of-requires : goal.count_of-requires
-count_of-requires c = (read c.before).period.low
+count_of-requires c = (read (goal.at.count_of-requires c).After-repeating_at-job).period.low
 
 pub grown-frame-requires : goal.grown-frame-requires
 grown-frame-requires c =
-    let r = read c.before.before in
-    let l : At-loop-place = c.before.before.before.before in
+    let r = read (goal.at.grown-frame-requires c).After-repeating_at-job in
+    let l : At-loop-place = (goal.at.grown-frame-requires c).At-loop-place in
     record { first = l.loop-place.invariant.1.some; second = omega (arith, c.count_of.ensures, r.period.is, r.runs) }
 
 pub overflow_add-place : goal.overflow_add-place
 overflow_add-place c =
-    let l : In-loop-place = c.before.before.before.before in
+    let l : In-loop-place = (goal.at.overflow_add-place c).In-loop-place in
     omega (arith, below l, l.requires.few)
 
 pub loop-place-smaller : goal.loop-place-smaller
-loop-place-smaller c = omega (arith, below c.before.before.before.before)
+loop-place-smaller c = omega (arith, below (goal.at.loop-place-smaller c).In-loop-place)
 
 pub loop-place-preserved : goal.loop-place-preserved
 loop-place-preserved c =
-    let p : After-count_of = c.before in
-    let l : At-loop-place = p.before.before.before.before in
-    let b = below p.before.before.before in (
+    let p : After-count_of = (goal.at.loop-place-preserved c).After-count_of in
+    let l : At-loop-place = (goal.at.After-count_of p).At-loop-place in
+    let b = below (goal.at.After-count_of p).In-loop-place in (
       omega (arith, b),
       frame-grows l.requires l.loop-place.place l.loop-place.frame p.count_of.result c.grown-frame.result b
-          (p.count_of.ensures ∙ (read p.before.before).period.is) l.loop-place.invariant.1 c.grown-frame.ensures,
+          (p.count_of.ensures ∙ (read (goal.at.After-count_of p).After-repeating_at-job).period.is) l.loop-place.invariant.1 c.grown-frame.ensures,
     )
 
 pub returns : goal.returns
 returns c =
-    let l : At-loop-place = c.before in
+    let l : At-loop-place = (goal.at.returns c).At-loop-place in
     let zs = l.args.numbers.now in
     let end : l.loop-place.place ≡ jobs_given zs = omega (arith, c.loop-place-test.false, l.loop-place.invariant.0, jobs-are zs) in
     frame-ends zs l.loop-place.place l.loop-place.frame end l.loop-place.invariant.1

@@ -11,11 +11,11 @@ use Rattle.repeating.proofs.grown.Goals.{Start}
 
 pub returns-then-frame : goal.returns-then-frame
 returns-then-frame c =
-    let s : Start = c.before in
+    let s : Start = (goal.at.returns-then-frame c).Start in
     past c.if-frame.true (omega (arith, c.if-frame.true, lcm-above s.args.frame s.args.period s.requires.first s.requires.second))
 
 pub returns : goal.returns
 returns c =
-    let s : Start = c.before.before in
+    let s : Start = (goal.at.returns c).Start in
     let made : c.lcm.result ≡ lcm s.args.frame s.args.period = c.lcm.ensures in
     whole made

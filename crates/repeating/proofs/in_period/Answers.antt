@@ -7,37 +7,37 @@ use Rattle.repeating.specs.Repeating.{in_period}
 use Rattle.repeating.specs.RepeatingLaws.{RepeatingFits, bounds-fit, InRange, in-range, left_is}
 use Rattle.repeating.specs.declared.Repeating.{Repeating}
 use Rattle.repeating.proofs.in_period.Goals as goal
-use Rattle.repeating.proofs.in_period.Goals.{After-struct_told-1, After-struct_told-3-1, Start}
+use Rattle.repeating.proofs.in_period.Goals.{Start}
 
 -- Where the numbers are read.
-module _ (c : After-struct_told-3-1) where
+module _ (c : Start) where
   abbrev job : Repeating
   job =
-      let s : Start = c.before.before.before in
+      let s : Start = c in
       s.args.job
 
   fits : RepeatingFits job
   fits =
-      let t : After-struct_told-1 = c.before.before in
+      let t : Start = c in
       let g = t.struct_told-1.given in
       bounds-fit job g.0.1 g.1.0.1 g.1.1.0.1 g.1.1.1.0.1 g.1.1.1.1.0.1 g.1.1.1.1.1.0.1
 
   range : InRange job
   range =
-      let s : Start = c.before.before.before in
+      let s : Start = c in
       in-range job s.requires
 
 pub overflow_sub-result : goal.overflow_sub-result
-overflow_sub-result c = let r = range c in let f = fits c in omega (signed, r.period, f.period)
+overflow_sub-result c = let r = range (goal.at.overflow_sub-result c).Start in let f = fits (goal.at.overflow_sub-result c).Start in omega (signed, r.period, f.period)
 
 pub overflow_sub-result-2 : goal.overflow_sub-result-2
-overflow_sub-result-2 c = let r = range c in let f = fits c in omega (signed, r.period, r.deadline, f.period, f.deadline, overflow_sub-result c)
+overflow_sub-result-2 c = let r = range (goal.at.overflow_sub-result-2 c).Start in let f = fits (goal.at.overflow_sub-result-2 c).Start in omega (signed, r.period, r.deadline, f.period, f.deadline, overflow_sub-result c)
 
 pub returns : goal.returns
 unfolding in_period rest
 returns c =
-    let j : Repeating = job c in
-    let f : RepeatingFits j = fits c in
+    let j : Repeating = job (goal.at.returns c).Start in
+    let f : RepeatingFits j = fits (goal.at.returns c).Start in
     rw (
       to_z-of_z (overflow_sub-result-2 c),
       to_z-of_z (overflow_sub-result c),

@@ -13,10 +13,10 @@ use Rattle.packed.specs.Refusals.{weight_test}
 use Rattle.repeating.specs.RepeatingLaws.{RepeatingFits, bounds-fit, range-tested}
 use Rattle.repeating.specs.declared.Repeating.{Repeating}
 use Rattle.repeating.proofs.in_range.Goals as goal
-use Rattle.repeating.proofs.in_range.Goals.{After-between, After-between-2, After-between-3, After-struct_told-1, After-weight_within}
+use Rattle.repeating.proofs.in_range.Goals.{After-between, After-between-2, After-between-3, After-weight_within, Start}
 
 -- Each number of the job is an i32.
-fits : (c : After-struct_told-1) → RepeatingFits c.args.job
+fits : (c : Start) → RepeatingFits c.args.job
 fits c =
     let g = c.struct_told-1.given in
     bounds-fit c.args.job g.0.1 g.1.0.1 g.1.1.0.1
@@ -24,11 +24,11 @@ fits c =
 
 pub returns : goal.returns
 returns c =
-    let three : After-between-3 = c.before in
-    let two : After-between-2 = three.before in
-    let weighed : After-weight_within = two.before in
-    let one : After-between = weighed.before in
-    let start : After-struct_told-1 = one.before.before.before.before.before.before in
+    let three : After-between-3 = (goal.at.returns c).After-between-3 in
+    let two : After-between-2 = (goal.at.After-between-3 three).After-between-2 in
+    let weighed : After-weight_within = (goal.at.After-between-2 two).After-weight_within in
+    let one : After-between = (goal.at.After-weight_within weighed).After-between in
+    let start : Start = (goal.at.After-between one).Start in
     let j : Repeating = start.args.job in
     let f : RepeatingFits j = fits start in
     let critical : one.between.result ≡ is_between (pos 0) (pos 1) j.critical =

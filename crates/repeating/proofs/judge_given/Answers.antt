@@ -38,7 +38,7 @@ returns-then-numbers-ne0 c =
 module _ (c : After-first_unfit-unfit) where
   abbrev zs : List ℤ
   zs =
-      let s : Start = c.before.before.before in
+      let s : Start = (goal.at.After-first_unfit-unfit c).Start in
       s.args.numbers.now
 
   left : judge (given_checks zs)
@@ -56,9 +56,9 @@ pub returns-then-unfit-count : goal.returns-then-unfit-count
 returns-then-unfit-count c =
     let t = c.before in
     let f = t.before in
-    rw (c.at_place.ensures, left f, lt-ltb f.first_unfit-unfit.result (length (zs f) / 6) t.if-unfit-count.true)
+    rw (c.at_place.ensures, left (goal.at.returns-then-unfit-count c).After-first_unfit-unfit, lt-ltb f.first_unfit-unfit.result (length (zs (goal.at.returns-then-unfit-count c).After-first_unfit-unfit) / 6) t.if-unfit-count.true)
 
 pub returns : goal.returns
 returns c =
     let f = c.before in
-    rw (left f, le-ltb f.first_unfit-unfit.result (length (zs f) / 6) c.if-unfit-count.false)
+    rw (left (goal.at.returns c).After-first_unfit-unfit, le-ltb f.first_unfit-unfit.result (length (zs (goal.at.returns c).After-first_unfit-unfit) / 6) c.if-unfit-count.false)

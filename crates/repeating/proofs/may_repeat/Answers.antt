@@ -11,7 +11,7 @@ use Rattle.repeating.proofs.may_repeat.Goals.{After-in_range, Else-not-in_range,
 
 pub returns-then-not-in_range : goal.returns-then-not-in_range
 returns-then-not-in_range c =
-    let a : After-in_range = c.before in
+    let a : After-in_range = (goal.at.returns-then-not-in_range c).After-in_range in
     let j = a.args.job in
     let out : in_range j ≡ false = sym a.in_range.ensures ∙ not-true a.in_range.result c.if-not-in_range.true in
     rw (may-is j, out)
@@ -25,7 +25,7 @@ in_period-requires c = within c
 
 pub returns : goal.returns
 returns c =
-    let s : Start = c.before.before.before in
+    let s : Start = (goal.at.returns c).Start in
     let j = s.args.job in
     let timely : c.in_period.result ≡ in_period j = c.in_period.ensures in
-    rw (may-is j, within c.before) timely
+    rw (may-is j, within (goal.at.returns c).Else-not-in_range) timely

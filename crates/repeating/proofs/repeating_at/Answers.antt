@@ -9,14 +9,14 @@ use borrow.Author.Rules.{rules}
 use Rattle.repeating.specs.RepeatingLaws.{RepeatingFits, bounds-fit, numbers-kept, six-read}
 use Rattle.repeating.specs.declared.Repeating.{Repeating}
 use Rattle.repeating.proofs.repeating_at.Goals as goal
-use Rattle.repeating.proofs.repeating_at.Goals.{After-result-1, After-result-2-1, After-result-3-1, Start}
+use Rattle.repeating.proofs.repeating_at.Goals.{Start}
 
 pub returns : goal.returns
 returns c =
-    let one : After-result-1 = c.before.before.before.before.before in
-    let two : After-result-2-1 = c.before.before.before.before in
-    let three : After-result-3-1 = c.before.before.before in
-    let a : Start = one.before in
+    let one : Start = (goal.at.returns c).Start in
+    let two : Start = (goal.at.returns c).Start in
+    let three : Start = (goal.at.returns c).Start in
+    let a : Start = one in
     let l : List ℤ = a.args.numbers.now in
     let at : ℕ = a.args.at in
     let job : Repeating =

@@ -25,35 +25,35 @@ repeating_at-job-requires c = omega (arith, below c, c.requires.given.whole)
 read : (c : After-repeating_at-job)
     → JobRead c.args.numbers.now c.loop-place.place c.repeating_at-job.result
 read c =
-    let l : At-loop-place = c.before.before in
-    job_read l.args.numbers.now l.loop-place.place c.repeating_at-job.result l.requires.given (below c.before)
+    let l : At-loop-place = (goal.at.After-repeating_at-job c).At-loop-place in
+    job_read l.args.numbers.now l.loop-place.place c.repeating_at-job.result l.requires.given (below (goal.at.After-repeating_at-job c).In-loop-place)
     c.repeating_at-job.ensures
 
 pub count_of-requires : goal.count_of-requires
-count_of-requires c = (read c.before).period.low
+count_of-requires c = (read (goal.at.count_of-requires c).After-repeating_at-job).period.low
 
 pub nonzero_div-times : goal.nonzero_div-times
-nonzero_div-times c = let r = read c.before.before in omega (arith, c.count_of.ensures, r.period.is, r.runs)
+nonzero_div-times c = let r = read (goal.at.nonzero_div-times c).After-repeating_at-job in omega (arith, c.count_of.ensures, r.period.is, r.runs)
 
 pub overflow_add-count : goal.overflow_add-count
 overflow_add-count c =
-    let l : At-loop-place = c.before.before.before.before in
+    let l : At-loop-place = (goal.at.overflow_add-count c).At-loop-place in
     let s = l.before in
     omega (
       arith,
       times-few s.requires c.count_of.result,
       l.loop-place.invariant.1.few,
-      below c.before.before.before,
+      below (goal.at.overflow_add-count c).In-loop-place,
       s.requires.given.few,
     )
 
 pub count_of-requires-in-loop-place : goal.count_of-requires-in-loop-place
-count_of-requires-in-loop-place c = (read c.before.before.before).weight.low
+count_of-requires-in-loop-place c = (read (goal.at.count_of-requires-in-loop-place c).After-repeating_at-job).weight.low
 
 pub weighed-weight-requires : goal.weighed-weight-requires
 weighed-weight-requires c =
-    let p : After-count_of = c.before.before in
-    let r = read p.before.before in
+    let p : After-count_of = (goal.at.weighed-weight-requires c).After-count_of in
+    let r = read (goal.at.After-count_of p).After-repeating_at-job in
     let s = p.before.before.before.before.before in
     record {
       few = times-few s.requires p.count_of.result;
@@ -62,31 +62,31 @@ weighed-weight-requires c =
 
 pub overflow_add-weight : goal.overflow_add-weight
 overflow_add-weight c =
-    let l : In-loop-place = c.before.before.before.before.before.before in
+    let l : In-loop-place = (goal.at.overflow_add-weight c).In-loop-place in
     omega (arith, c.weighed-weight.ensures.light, l.loop-place.invariant.1.light, below l, l.requires.given.few)
 
 pub overflow_add-place : goal.overflow_add-place
 overflow_add-place c =
-    let l : In-loop-place = c.before.before.before.before.before.before in
+    let l : In-loop-place = (goal.at.overflow_add-place c).In-loop-place in
     omega (arith, below l, l.requires.given.few)
 
 pub loop-place-smaller : goal.loop-place-smaller
-loop-place-smaller c = omega (arith, below c.before.before.before.before.before.before)
+loop-place-smaller c = omega (arith, below (goal.at.loop-place-smaller c).In-loop-place)
 
 pub loop-place-preserved : goal.loop-place-preserved
 loop-place-preserved c =
-    let w : After-count_of-in-loop-place = c.before in
-    let p : After-count_of = w.before.before in
-    let l : At-loop-place = p.before.before.before.before in
-    let r = read p.before.before in (
-      omega (arith, below p.before.before.before),
+    let w : After-count_of-in-loop-place = (goal.at.loop-place-preserved c).After-count_of-in-loop-place in
+    let p : After-count_of = (goal.at.After-count_of-in-loop-place w).After-count_of in
+    let l : At-loop-place = (goal.at.After-count_of p).At-loop-place in
+    let r = read (goal.at.After-count_of p).After-repeating_at-job in (
+      omega (arith, below (goal.at.After-count_of p).In-loop-place),
       count-on l.requires r p.count_of.result w.count_of-in-loop-place.result c.weighed-weight.result
           l.loop-place.count l.loop-place.weight (p.count_of.ensures ∙ r.period.is) (w.count_of-in-loop-place.ensures ∙ r.weight.is) c.weighed-weight.ensures l.loop-place.invariant.1,
     )
 
 pub returns : goal.returns
 returns c =
-    let l : At-loop-place = c.before in
+    let l : At-loop-place = (goal.at.returns c).At-loop-place in
     let zs = l.args.numbers.now in
     let end : l.loop-place.place ≡ jobs_given zs = omega (arith, c.loop-place-test.false, l.loop-place.invariant.0, jobs-are zs) in
     count-ends zs l.loop-place.place _ end l.loop-place.invariant.1

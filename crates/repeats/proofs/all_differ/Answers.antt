@@ -26,12 +26,12 @@ returns-then-met-number-eq1 c e = absurd (true≢false (sym e))
 
 pub bounds-met-number-in-loop-k : goal.bounds-met-number-in-loop-k
 bounds-met-number-in-loop-k c =
-    let head : At-loop-k = c.before.before.before in
+    let head : At-loop-k = (goal.at.bounds-met-number-in-loop-k c).At-loop-k in
     omega (arith, c.shared_slice_known-1.given head.loop-k.k)
 
 pub loop-k-preserved : goal.loop-k-preserved
 loop-k-preserved c =
-    let l : At-loop-k = c.before.before.before in
+    let l : At-loop-k = (goal.at.loop-k-preserved c).At-loop-k in
     let ns = l.args.numbers.now in
     let k = l.loop-k.k in
     let met = l.loop-k.met in

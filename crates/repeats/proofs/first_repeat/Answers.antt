@@ -20,8 +20,8 @@ loop-earlier-init c = (omega arith, refl, refl)
 
 pub loop-earlier-preserved : goal.loop-earlier-preserved
 loop-earlier-preserved c =
-    let l : At-loop-earlier = c.before.before.before.before in
-    let o : At-pairs = l.before.before in (
+    let l : At-loop-earlier = (goal.at.loop-earlier-preserved c).At-loop-earlier in
+    let o : At-pairs = (goal.at.At-loop-earlier l).At-pairs in (
       omega arith,
       l.loop-earlier.invariant.1,
       l.loop-earlier.invariant.2 ∙ alike-on o.args.numbers.now l.loop-earlier.earlier o.pairs.later (omega arith) c.if-numbers-earlier.false,
@@ -29,7 +29,7 @@ loop-earlier-preserved c =
 
 pub pairs-preserved : goal.pairs-preserved
 pairs-preserved c =
-    let o : At-pairs = c.before.before.before in
+    let o : At-pairs = (goal.at.pairs-preserved c).At-pairs in
     let ns = o.args.numbers.now in
     let later = o.pairs.later in
     let e : c.loop-earlier.earlier ≡ later = omega arith in
@@ -45,8 +45,8 @@ returns-after-pairs c =
 
 pub returns-then-numbers-earlier : goal.returns-then-numbers-earlier
 returns-then-numbers-earlier c =
-    let l : At-loop-earlier = c.before.before.before.before in
-    let o : At-pairs = l.before.before in
+    let l : At-loop-earlier = (goal.at.returns-then-numbers-earlier c).At-loop-earlier in
+    let o : At-pairs = (goal.at.At-loop-earlier l).At-pairs in
     sym (o.pairs.invariant.2
     ∙ again-here o.args.numbers.now l.loop-earlier.earlier o.pairs.later (omega arith) (omega arith) c.if-numbers-earlier.true
     l.loop-earlier.invariant.2)

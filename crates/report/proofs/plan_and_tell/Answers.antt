@@ -8,35 +8,35 @@ use Rattle.seconds.specs.Limits.{most_jobs}
 use Rattle.report.specs.Report.{refusal_line, report_of}
 use Rattle.report.specs.Telling.{refusal-told, plan-tellable}
 use Rattle.report.proofs.plan_and_tell.Goals as goal
-use Rattle.report.proofs.plan_and_tell.Goals.{After-plan, In-Made-2, In-Refused-2, Start}
+use Rattle.report.proofs.plan_and_tell.Goals.{After-plan, In-Made, In-Refused, Start}
 
 -- What planning refused.
-told : (c : In-Refused-2)
-    → let start : Start = c.before.before.before.before.before.before.before.before.before in
+told : (c : In-Refused)
+    → let start : Start = (goal.at.In-Refused c).Start in
     (report_of start.args.bytes.now
     ≡ refusal_line c.in-Refused.refusal) × (c.in-Refused.refusal.place ≤ most_jobs)
 told c =
-    let planned : After-plan = c.before.before.before.before in
-    let s : Start = planned.before.before.before.before.before in
+    let planned : After-plan = (goal.at.In-Refused c).After-plan in
+    let s : Start = (goal.at.After-plan planned).Start in
     let r = c.refusal-1.given in
     refusal-told s.args.bytes.now s.args.starts.now s.args.work.now s.args.out.now s.requires
     r.0.0 (sym r.1 ∙ planned.plan.ensures.answer)
 
 pub put_refusal-requires : goal.put_refusal-requires
 put_refusal-requires c =
-    let s : Start = c.before.before.before.before.before.before.before.before.before.before.before in
-    record { early = (told c.before.before).1; room = record { fits = omega (arith, s.requires.room) } }
+    let s : Start = (goal.at.put_refusal-requires c).Start in
+    record { early = (told (goal.at.put_refusal-requires c).In-Refused).1; room = record { fits = omega (arith, s.requires.room) } }
 
 pub tell_plan-requires : goal.tell_plan-requires
 tell_plan-requires c =
-    let made : In-Made-2 = c.before.before.before in
-    let planned : After-plan = made.before.before.before.before in
-    let s : Start = planned.before.before.before.before.before in
+    let made : In-Made = (goal.at.tell_plan-requires c).In-Made in
+    let planned : After-plan = (goal.at.In-Made made).After-plan in
+    let s : Start = (goal.at.After-plan planned).Start in
     let r = made.figures-1.given in
     plan-tellable s.args.bytes.now s.args.starts.now s.args.work.now s.args.out.now s.requires
     r.0.0 planned.plan.new.starts (sym r.1 ∙ planned.plan.ensures.answer) planned.plan.ensures.written
 
 pub returns-in-Refused : goal.returns-in-Refused
 returns-in-Refused c =
-    let refused : In-Refused-2 = c.before.before.before.before.before in
+    let refused : In-Refused = (goal.at.returns-in-Refused c).In-Refused in
     rw (told refused).0 c.put_refusal.ensures

@@ -8,4 +8,4 @@ use Rattle.report.proofs.put_front.Goals as goal
 pub returns : goal.returns
 returns c =
     let number = c.put_figure-next in
-    (simp append_assoc at (wrote-more number.ensures.0 c.put_figure.ensures.0), search rules)
+    (record { wrote = simp append_assoc at (wrote-more number.ensures.wrote c.put_figure.ensures.wrote); upper_bound = search rules })

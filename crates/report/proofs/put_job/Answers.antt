@@ -11,9 +11,9 @@ use Rattle.report.proofs.put_job.Goals.{After-put_byte, After-put_figure-next, A
 pub returns : goal.returns
 unfolding job_line
 returns c =
-    let end : After-put_byte = c.before.before in
-    let start : After-put_start-next = end.before.before.before.before in
-    let number : After-put_figure-next = start.before.before.before.before in
+    let end : After-put_byte = (goal.at.returns c).After-put_byte in
+    let start : After-put_start-next = (goal.at.After-put_byte end).After-put_start-next in
+    let number : After-put_figure-next = (goal.at.After-put_start-next start).After-put_figure-next in
     let fits = number.ranges.start in
-    let both = wrote-more number.put_figure-next.ensures.0 (rw (to_z-of_z fits) at start.put_start-next.ensures.0) in
-    (simp append_assoc at (wrote-more both end.put_byte.ensures), search rules)
+    let both = wrote-more number.put_figure-next.ensures.wrote (rw (to_z-of_z fits) at start.put_start-next.ensures.wrote) in
+    (record { wrote = simp append_assoc at (wrote-more both end.put_byte.ensures); upper_bound = search rules })

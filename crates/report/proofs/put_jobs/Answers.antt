@@ -41,18 +41,18 @@ job_in-job-requires c =
 
 pub offset_bounds-starts-i : goal.offset_bounds-starts-i
 offset_bounds-starts-i c =
-    let s = begun c.before.before in
+    let s = begun (goal.at.offset_bounds-starts-i c).In-loop-i in
     omega (arith, few s)
 
 pub bounds-starts-i : goal.bounds-starts-i
 bounds-starts-i c =
-    let s = begun c.before.before in
+    let s = begun (goal.at.bounds-starts-i c).In-loop-i in
     omega (arith, s.requires.places)
 
 -- The number that was read at the place can be handed on, and is the job's.
 module _ (c : After-job_in-job) where
   abbrev entry : Start
-  entry = c.before.before.before.before.before
+  entry = (goal.at.After-job_in-job c).Start
 
   abbrev bytes : List ℕ
   bytes = entry.args.bytes.now
@@ -74,30 +74,30 @@ module _ (c : After-job_in-job) where
 
 pub overflow_cast-number : goal.overflow_cast-number
 overflow_cast-number c =
-    let after-job-in : After-job_in-job = c.before.before.before in
+    let after-job-in : After-job_in-job = (goal.at.overflow_cast-number c).After-job_in-job in
     casts after-job-in
 
 pub put_job-next-requires : goal.put_job-next-requires
 put_job-next-requires c =
-    let after-job-in : After-job_in-job = c.before.before.before in
-    let loop : At-loop-i = c.before.before.before.before.before in
+    let after-job-in : After-job_in-job = (goal.at.put_job-next-requires c).After-job_in-job in
+    let loop : At-loop-i = (goal.at.put_job-next-requires c).At-loop-i in
     record { fits = omega (arith, (entry after-job-in).requires.room, loop.loop-i.invariant.2.kept) }
 
 pub overflow_add-i : goal.overflow_add-i
 overflow_add-i c =
-    let after-job-in : After-job_in-job = c.before.before.before.before.before.before in
+    let after-job-in : After-job_in-job = (goal.at.overflow_add-i c).After-job_in-job in
     omega (arith, few (entry after-job-in))
 
 pub loop-i-preserved : goal.loop-i-preserved
 loop-i-preserved c =
-    let put : After-put_job-next = c.before.before in
-    let read : After-job_in-job = put.before.before.before.before in
+    let put : After-put_job-next = (goal.at.loop-i-preserved c).After-put_job-next in
+    let read : After-job_in-job = (goal.at.After-put_job-next put).After-job_in-job in
     let loop = read.loop-i in
     let starts = (entry read).args.starts.now in
     let room : place read < length starts = omega (arith, (entry read).requires.places) in
     let start_back = read_back_lem (get_or starts (place read) (pos 0)) put.start-1.given in
     let next : Wrote _ _ (job_line (job_in (bytes read) (place read)).number (get_or starts (place read) (pos 0))) _ _ =
-    rw (number-there read, start_back) at put.put_job-next.ensures.0 in
+    rw (number-there read, start_back) at put.put_job-next.ensures.wrote in
     (omega arith, omega arith, rw (listed_more (bytes read) starts (place read) room) (wrote-more loop.invariant.2 next))
 
 pub shape_of-out : goal.shape_of-out
@@ -105,6 +105,6 @@ shape_of-out c = c.loop-i.invariant.2.kept
 
 pub returns : goal.returns
 returns c =
-    let s : Start = c.before.before.before.before in
+    let s : Start = (goal.at.returns c).Start in
     let all : c.loop-i.i ≡ s.args.n = omega (arith, c.loop-i.invariant.0) in
     rw all at c.loop-i.invariant.2

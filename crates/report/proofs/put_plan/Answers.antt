@@ -10,15 +10,15 @@ use Rattle.report.proofs.put_plan.Goals.{After-put_byte-at, After-put_figure, Af
 
 pub returns : goal.returns
 returns c =
-    let points : After-put_figure = c.before.before in
-    let gap : After-put_byte-at = points.before.before.before.before in
-    let finish : After-put_number-at = gap.before.before.before.before in
-    let kept : After-put_kept-at = finish.before.before.before.before.before in
-    let front : After-put_front-at = kept.before.before.before.before in
-    let start : Start = front.before.before.before in
+    let points : After-put_figure = (goal.at.returns c).After-put_figure in
+    let gap : After-put_byte-at = (goal.at.After-put_figure points).After-put_byte-at in
+    let finish : After-put_number-at = (goal.at.After-put_byte-at gap).After-put_number-at in
+    let kept : After-put_kept-at = (goal.at.After-put_number-at finish).After-put_kept-at in
+    let front : After-put_front-at = (goal.at.After-put_kept-at kept).After-put_front-at in
+    let start : Start = (goal.at.After-put_front-at front).Start in
     let fits : SFits w32 start.args.figures.finish =
     record { sfits = finish.struct_told-1.given.1.1.1.1.0.1 } in
-    let first = wrote-more front.put_front-at.ensures.0 kept.put_kept-at.ensures.0 in
-    let second = wrote-more first (wrote-number fits finish.put_number-at.ensures.0) in
-    let third = wrote-more (wrote-more second gap.put_byte-at.ensures) points.put_figure.ensures.0 in
-    (rw (plan-line start.args.figures) third, search rules)
+    let first = wrote-more front.put_front-at.ensures.wrote kept.put_kept-at.ensures.wrote in
+    let second = wrote-more first (wrote-number fits finish.put_number-at.ensures.wrote) in
+    let third = wrote-more (wrote-more second gap.put_byte-at.ensures) points.put_figure.ensures.wrote in
+    (record { wrote = rw (plan-line start.args.figures) third; upper_bound = search rules })

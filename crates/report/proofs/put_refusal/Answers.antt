@@ -8,6 +8,6 @@ use Rattle.report.proofs.put_refusal.Goals.{After-put_front-next, Start}
 
 pub returns : goal.returns
 returns c =
-    let front : After-put_front-next = c.before.before.before.before.before.before in
-    let s : Start = front.before.before.before.before in
-    rw (refusal-line s.args.refusal) (wrote-more front.put_front-next.ensures.0 c.put_figure.ensures.0)
+    let front : After-put_front-next = (goal.at.returns c).After-put_front-next in
+    let s : Start = (goal.at.After-put_front-next front).Start in
+    rw (refusal-line s.args.refusal) (wrote-more front.put_front-next.ensures.wrote c.put_figure.ensures.wrote)

@@ -13,14 +13,14 @@ use Rattle.report.proofs.put_start.Goals.{Else-start-eq-LEFT_OUT, Start, Then-st
 
 pub returns-then-start-eq-LEFT_OUT : goal.returns-then-start-eq-LEFT_OUT
 returns-then-start-eq-LEFT_OUT c =
-    let branch : Then-start-eq-LEFT_OUT = c.before.before.before.before in
+    let branch : Then-start-eq-LEFT_OUT = (goal.at.returns-then-start-eq-LEFT_OUT c).Then-start-eq-LEFT_OUT in
     let left_out = same_bits {y = left_out} branch.ranges.start (omega signed) branch.if-start-eq-LEFT_OUT.true in
-    rw (word-left-out left_out) (c.put_byte.ensures, search rules)
+    rw (word-left-out left_out) (record { wrote = c.put_byte.ensures; upper_bound = search rules })
 
 pub returns : goal.returns
 returns c =
-    let branch : Else-start-eq-LEFT_OUT = c.before.before.before.before in
-    let start : Start = branch.before.before in
+    let branch : Else-start-eq-LEFT_OUT = (goal.at.returns c).Else-start-eq-LEFT_OUT in
+    let start : Start = (goal.at.Else-start-eq-LEFT_OUT branch).Start in
     let put = c.put_number in
     rw (word_kept (λ e. branch.if-start-eq-LEFT_OUT.false (ap (of_z w32) e)))
-    (wrote-number start.ranges.start put.ensures.0, put.ensures.1)
+    (record { wrote = wrote-number start.ranges.start put.ensures.wrote; upper_bound = put.ensures.upper_bound })

@@ -3,14 +3,14 @@ use native.Mathlib.Omega.{arith}
 use borrow.Author.Rules.{rules}
 use Rattle.sheet.specs.NumbersLaws.{joins-by}
 use Rattle.sheet.proofs.can_join.Goals as goal
-use Rattle.sheet.proofs.can_join.Goals.{After-is_sheet-second, After-shared_slice_known-1, After-shared_slice_known-2-1, Start}
+use Rattle.sheet.proofs.can_join.Goals.{After-is_sheet-second, Start}
 
 -- Where the orders of each were read.
-abbrev first : After-is_sheet-second → After-shared_slice_known-1
-first c = c.before.before.before.before.before
+abbrev first : After-is_sheet-second → Start
+first c = (goal.at.After-is_sheet-second c).Start
 
-abbrev second : After-is_sheet-second → After-shared_slice_known-2-1
-second c = c.before.before.before.before
+abbrev second : After-is_sheet-second → Start
+second c = (goal.at.After-is_sheet-second c).Start
 
 pub overflow_cast-result : goal.overflow_cast-result
 overflow_cast-result c = omega (arith, (first c).shared_slice_known-1.given 0)
@@ -23,5 +23,5 @@ overflow_add-result c = omega (arith, (first c).shared_slice_known-1.given 0, (s
 
 pub returns : goal.returns
 returns c =
-    let s : Start = c.before.before.before.before.before.before in
+    let s : Start = (goal.at.returns c).Start in
     joins-by s.args.to.now s.args.from.now _ _ c.is_sheet-first.ensures c.is_sheet-second.ensures

@@ -3,14 +3,14 @@ use native.Mathlib.Omega.{arith}
 use borrow.Author.Rules.{rules}
 use Rattle.sheet.specs.NumbersLaws.{is-sheet-by}
 use Rattle.sheet.proofs.is_sheet.Goals as goal
-use Rattle.sheet.proofs.is_sheet.Goals.{After-shared_slice_known-1, Start}
+use Rattle.sheet.proofs.is_sheet.Goals.{Start}
 
 pub overflow_cast-result : goal.overflow_cast-result
 overflow_cast-result c =
-    let first : After-shared_slice_known-1 = c.before.before.before.before.before.before.before.before.before.before in
+    let first : Start = (goal.at.overflow_cast-result c).Start in
     omega (arith, first.shared_slice_known-1.given 0)
 
 pub returns : goal.returns
 returns c =
-    let s : Start = c.before.before.before.before.before.before.before.before.before.before.before in
+    let s : Start = (goal.at.returns c).Start in
     is-sheet-by s.args.figures.now _ _ _ c.judged-sum.ensures c.weights_fit-light.ensures c.top_fits-placed.ensures

@@ -6,12 +6,12 @@ use Rattle.sheet_text.proofs.put_last.Goals.{After-put_cut, After-put_whole, Els
 
 pub returns-then-cut : goal.returns-then-cut
 returns-then-cut c =
-    let put : After-put_cut = c.before.before in
-    let then1 : Then-cut = put.before.before in
+    let put : After-put_cut = (goal.at.returns-then-cut c).After-put_cut in
+    let then1 : Then-cut = (goal.at.After-put_cut put).Then-cut in
     rw then1.if-cut.true put.put_cut.ensures
 
 pub returns : goal.returns
 returns c =
-    let put : After-put_whole = c.before.before in
-    let else1 : Else-cut = put.before.before in
+    let put : After-put_whole = (goal.at.returns c).After-put_whole in
+    let else1 : Else-cut = (goal.at.After-put_whole put).Else-cut in
     rw else1.if-cut.false put.put_whole.ensures

@@ -17,24 +17,24 @@ loop-i-init c = (omega arith, omega arith, wrote_none (omega arith))
 
 pub bounds-figures-i : goal.bounds-figures-i
 bounds-figures-i c =
-    let s : Start = c.before.before.before.before.before in
+    let s : Start = (goal.at.bounds-figures-i c).Start in
     omega (arith, s.requires.numbers)
 
 pub put_figure-next-requires : goal.put_figure-next-requires
 put_figure-next-requires c =
-    let loop : At-loop-i = c.before.before.before in
-    let s : Start = loop.before.before.before in
+    let loop : At-loop-i = (goal.at.put_figure-next-requires c).At-loop-i in
+    let s : Start = (goal.at.At-loop-i loop).Start in
     record { fits = omega (arith, s.requires.room, loop.loop-i.invariant.2.kept) }
 
 pub loop-i-preserved : goal.loop-i-preserved
 loop-i-preserved c =
-    let put : After-put_figure-next = c.before.before in
-    let loop : At-loop-i = put.before.before.before.before in
-    let s : Start = loop.before.before.before in (
+    let put : After-put_figure-next = (goal.at.loop-i-preserved c).After-put_figure-next in
+    let loop : At-loop-i = (goal.at.After-put_figure-next put).At-loop-i in
+    let s : Start = (goal.at.At-loop-i loop).Start in (
       omega arith,
       omega arith,
       rw (sums-more s.args.figures.now loop.loop-i.i (omega (arith, s.requires.numbers)))
-          (wrote-more loop.loop-i.invariant.2 put.put_figure-next.ensures.0),
+          (wrote-more loop.loop-i.invariant.2 put.put_figure-next.ensures.wrote),
     )
 
 pub shape_of-out : goal.shape_of-out
@@ -42,6 +42,6 @@ shape_of-out c = c.loop-i.invariant.2.kept
 
 pub returns : goal.returns
 returns c =
-    let loop : At-loop-i = c.before in
+    let loop : At-loop-i = (goal.at.returns c).At-loop-i in
     let all : loop.loop-i.i ≡ sum_count = omega (arith, loop.loop-i.invariant.0) in
-    (rw all at loop.loop-i.invariant.2, omega (arith, loop.loop-i.invariant.1))
+    (record { wrote = rw all at loop.loop-i.invariant.2; upper_bound = omega (arith, loop.loop-i.invariant.1) })

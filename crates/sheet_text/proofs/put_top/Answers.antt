@@ -9,16 +9,13 @@ use Rattle.sheet_text.proofs.put_top.Goals.{After-put_figure, After-put_figure-n
 
 pub returns-then-top-eq0 : goal.returns-then-top-eq0
 returns-then-top-eq0 c =
-    let put : After-put_none = c.before.before in
-    let s : Start = put.before.before.before.before in
-    (rw (top-none s.args.top s.args.place (omega arith)) put.put_none.ensures.0, search rules)
+    let put : After-put_none = (goal.at.returns-then-top-eq0 c).After-put_none in
+    let s : Start = (goal.at.After-put_none put).Start in
+    (record { wrote = rw (top-none s.args.top s.args.place (omega arith)) put.put_none.ensures.wrote; upper_bound = search rules })
 
 pub returns : goal.returns
 returns c =
-    let place : After-put_figure = c.before.before in
-    let total : After-put_figure-next = place.before.before.before.before in
-    let s : Start = total.before.before.before.before in (
-      rw (top-some s.args.top s.args.place (omega arith))
-          (wrote-more total.put_figure-next.ensures.0 place.put_figure.ensures.0),
-      search rules,
-    )
+    let place : After-put_figure = (goal.at.returns c).After-put_figure in
+    let total : After-put_figure-next = (goal.at.After-put_figure place).After-put_figure-next in
+    let s : Start = (goal.at.After-put_figure-next total).Start in (record { wrote = rw (top-some s.args.top s.args.place (omega arith))
+          (wrote-more total.put_figure-next.ensures.wrote place.put_figure.ensures.wrote); upper_bound = search rules })

@@ -25,7 +25,7 @@ returns-then-pick-eq0 c = rw (c.if-pick-eq0.true, to_z-of_z c.ranges.free)
 -- Kept: the start, the end and the bus-free time.
 module _ (c : After-greater-start) where
   abbrev entry : Start
-  entry = c.before.before.before
+  entry = (goal.at.After-greater-start c).Start
 
   abbrev start : ℤ
   start = max_z entry.args.job.ready entry.args.free
@@ -62,14 +62,14 @@ module _ (c : After-greater-start) where
   end_back = to_z-of_z end_fits ∙ end_is
 
 pub overflow_add-start : goal.overflow_add-start
-overflow_add-start c = end_fits c.before.before
+overflow_add-start c = end_fits (goal.at.overflow_add-start c).After-greater-start
 
 pub rested-requires : goal.rested-requires
-rested-requires c = rw (end_back c.before.before) (turn c.before.before).0
+rested-requires c = rw (end_back (goal.at.rested-requires c).After-greater-start) (turn (goal.at.rested-requires c).After-greater-start).0
 
 pub returns : goal.returns
 returns c =
-    let called : After-greater-start = c.before.before.before in
+    let called : After-greater-start = (goal.at.returns c).After-greater-start in
     let free : to_z w32 (of_z w32 c.rested.result) ≡ end called +ℤ pos rest =
     to_z-of_z (record { sfits = c.rested.type_inv }) ∙ c.rested.ensures ∙ ap (λ (z : ℤ). z +ℤ pos rest) (end_back called) in
     rw (start_is called, free) (sym (turn called).1)

@@ -35,8 +35,8 @@ module _ (s : Start) where
 pub loop-i-init : goal.loop-i-init
 loop-i-init c =
     let s = c.before in
-    rw (t0-back s)
-    (writing-none (jobs_in (bytes s)) s.args.n s.args.t0 s.args.mask s.args.starts.now s.requires.range
+    rw (t0-back (goal.at.loop-i-init c).Start)
+    (writing-none (jobs_in (bytes (goal.at.loop-i-init c).Start)) s.args.n s.args.t0 s.args.mask s.args.starts.now s.requires.range
     s.ranges.mask.fits s.requires.may)
 
 pub job_in-job-requires : goal.job_in-job-requires
@@ -47,7 +47,7 @@ job_in-job-requires c =
 -- The turn of the job at the place.
 module _ (c : After-job_in-job) where
   abbrev entry : Start
-  entry = c.before.before.before.before
+  entry = (goal.at.After-job_in-job c).Start
 
   turn : CanTurn (bytes entry) entry.args.n (to_z w32 (of_z w32 entry.args.t0)) entry.args.mask
       entry.args.starts.now c.loop-i.starts (to_z w32 c.loop-i.free)
@@ -62,12 +62,12 @@ pub take_turn-turn-requires : goal.take_turn-turn-requires
 take_turn-turn-requires c = (turn c).asks
 
 pub offset_bounds-starts-i : goal.offset_bounds-starts-i
-offset_bounds-starts-i c = omega (arith, few (entry c.before.before))
+offset_bounds-starts-i c = omega (arith, few (entry (goal.at.offset_bounds-starts-i c).After-job_in-job))
 
 pub bounds-starts-i : goal.bounds-starts-i
 bounds-starts-i c =
     let d = c.before.before in
-    omega (arith, (entry d).requires.room, d.loop-i.invariant.size)
+    omega (arith, (entry (goal.at.bounds-starts-i c).After-job_in-job).requires.room, d.loop-i.invariant.size)
 
 pub overflow_mul-left : goal.overflow_mul-left
 overflow_mul-left c =
@@ -76,12 +76,12 @@ overflow_mul-left c =
 
 pub overflow_add-i : goal.overflow_add-i
 overflow_add-i c =
-    let after-job-in : After-job_in-job = c.before.before.before in
+    let after-job-in : After-job_in-job = (goal.at.overflow_add-i c).After-job_in-job in
     omega (arith, few (entry after-job-in))
 
 pub loop-i-preserved : goal.loop-i-preserved
 loop-i-preserved c =
-    let after-job-in : After-job_in-job = c.before.before.before in
+    let after-job-in : After-job_in-job = (goal.at.loop-i-preserved c).After-job_in-job in
     let taken = c.take_turn-turn in
     let told = c.struct_told-1.given in
     rw (read_back_lem taken.result.start told.0.1, read_back_lem taken.result.free told.1.0.1)
@@ -92,7 +92,7 @@ shape_of-starts c = c.loop-i.invariant.size
 
 pub returns : goal.returns
 returns c =
-    let s : Start = c.before.before.before in
+    let s : Start = (goal.at.returns c).Start in
     let l = c.loop-i in
     let all : l.i ≡ s.args.n = omega (arith, l.invariant.few) in
     let count : length (jobs_in (bytes s)) ≡ s.args.n = omega (arith, jobs-count (bytes s), s.requires.count) in

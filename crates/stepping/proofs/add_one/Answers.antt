@@ -12,12 +12,12 @@ use Rattle.pushing.specs.Pushes.{delta_of, waited_as}
 use Rattle.pushing.specs.Numbers.{delta-fits}
 use Rattle.stepping.specs.Stepping.{with_one}
 use Rattle.stepping.proofs.add_one.Goals as goal
-use Rattle.stepping.proofs.add_one.Goals.{After-struct_told-1, After-waits, Start}
+use Rattle.stepping.proofs.add_one.Goals.{After-delta_of-delta, After-waits, Start}
 
 -- The numbers as the code reads them back.
-module _ (c : After-struct_told-1) where
+module _ (c : After-delta_of-delta) where
   abbrev start : Start
-  start = c.before.before.before.before
+  start = (goal.at.After-delta_of-delta c).Start
 
   abbrev number : ℤ
   number = at0 start.args.work.now (end_of start.args.list - 1)
@@ -33,33 +33,33 @@ module _ (c : After-struct_told-1) where
 
 pub waits-requires : goal.waits-requires
 waits-requires c =
-    let s = start c in (
-      rw (ready-back c) s.requires.starts,
-      rw (delta-is c) (delta-fits s.requires.fits),
-      rw (number-back c) s.requires.coded,
+    let s = start (goal.at.waits-requires c).After-delta_of-delta in (
+      rw (ready-back (goal.at.waits-requires c).After-delta_of-delta) s.requires.starts,
+      rw (delta-is (goal.at.waits-requires c).After-delta_of-delta) (delta-fits s.requires.fits),
+      rw (number-back (goal.at.waits-requires c).After-delta_of-delta) s.requires.coded,
     )
 
 -- The number that is written.
 module _ (c : After-waits) where
   abbrev begun : Start
-  begun = start c.before
+  begun = start (goal.at.After-waits c).After-delta_of-delta
 
   written : to_z w32 (of_z w32 c.waits.result)
-      ≡ waited_as begun.args.job.ready (delta_of begun.args.rate) (number c.before)
+      ≡ waited_as begun.args.job.ready (delta_of begun.args.rate) (number (goal.at.After-waits c).After-delta_of-delta)
   written =
       read_back_lem c.waits.result c.waits.type_inv
-      ∙ rw (ready-back c.before, delta-is c.before, number-back c.before) at c.waits.ensures
+      ∙ rw (ready-back (goal.at.After-waits c).After-delta_of-delta, delta-is (goal.at.After-waits c).After-delta_of-delta, number-back (goal.at.After-waits c).After-delta_of-delta) at c.waits.ensures
 
 pub returns-then-job : goal.returns-then-job
 returns-then-job c = record {
-  told = sym (ap (λ (b : Bool). with_one b (begun c.before).args.list) c.if-job.true);
-  written = rw (written c.before);
+  told = sym (ap (λ (b : Bool). with_one b (begun (goal.at.returns-then-job c).After-waits).args.list) c.if-job.true);
+  written = rw (written (goal.at.returns-then-job c).After-waits);
 }
 
 pub returns : goal.returns
 returns c =
     let e = c.before in
     record {
-      told = sym (ap (λ (b : Bool). with_one b (begun e.before).args.list) e.if-job.false);
-      written = rw (written e.before);
+      told = sym (ap (λ (b : Bool). with_one b (begun (goal.at.returns c).After-waits).args.list) e.if-job.false);
+      written = rw (written (goal.at.returns c).After-waits);
     }

@@ -8,11 +8,11 @@ use borrow.Author.Rules.{rules}
 use Rattle.seconds.specs.Signed.{signed, sub_is, read_back_lem}
 use Rattle.stepping.specs.Stepping.{last_start}
 use Rattle.stepping.proofs.last_start.Goals as goal
-use Rattle.stepping.proofs.last_start.Goals.{After-struct_told-1, Start}
+use Rattle.stepping.proofs.last_start.Goals.{Start}
 
-module _ (c : After-struct_told-1) where
+module _ (c : Start) where
   abbrev start : Start
-  start = c.before.before.before
+  start = c
 
   is : to_z w32 (of_z w32 start.args.job.deadline) -ℤ to_z w32 start.args.rate.takes
       ≡ last_start start.args.job start.args.rate
@@ -28,7 +28,7 @@ module _ (c : After-struct_told-1) where
       rw is (omega (signed, sub_is start.args.job.deadline (pos start.args.rate.takes)))
 
 pub overflow_sub-result : goal.overflow_sub-result
-overflow_sub-result c = less-fits c
+overflow_sub-result c = less-fits (goal.at.overflow_sub-result c).Start
 
 pub returns : goal.returns
-returns c = to_z-of_z (less-fits c) ∙ is c
+returns c = to_z-of_z (less-fits (goal.at.returns c).Start) ∙ is (goal.at.returns c).Start

@@ -6,7 +6,7 @@ use borrow.Author.Rules.{rules}
 use Rattle.seconds.specs.Signed.{read_back_lem}
 use Rattle.stepping.specs.Cases.{PushesBy, pushes}
 use Rattle.stepping.proofs.push_by.Goals as goal
-use Rattle.stepping.proofs.push_by.Goals.{After-startable_to-end, After-struct_told-1, Start}
+use Rattle.stepping.proofs.push_by.Goals.{After-startable_to-end, Start}
 
 -- The steps, by any list.
 steps : (s : Start) → PushesBy s.args.job s.args.rate s.args.list s.args.work.now s.args.pushed.now
@@ -16,9 +16,9 @@ pub startable_to-end-requires : goal.startable_to-end-requires
 startable_to-end-requires c = (steps c).seek
 
 -- The ready time, read back.
-module _ (c : After-struct_told-1) where
+module _ (c : After-startable_to-end) where
   abbrev found : After-startable_to-end
-  found = c.before.before
+  found = c
 
   abbrev start : Start
   start = found.before
@@ -27,14 +27,14 @@ module _ (c : After-struct_told-1) where
   ready-back = read_back_lem start.args.job.ready c.struct_told-1.given.1.0.1
 
 pub push-other-requires : goal.push-other-requires
-push-other-requires c = rw (ready-back c) ((steps (start c)).push-other _ (found c).startable_to-end.ensures)
+push-other-requires c = rw (ready-back (goal.at.push-other-requires c).After-startable_to-end) ((steps (start (goal.at.push-other-requires c).After-startable_to-end)).push-other _ (found (goal.at.push-other-requires c).After-startable_to-end).startable_to-end.ensures)
 
 pub overflow_sub-result : goal.overflow_sub-result
 overflow_sub-result c =
     let p = c.before.before in
-    (steps (start p)).fits _ _ _ (found p).startable_to-end.ensures (rw (ready-back p) at c.push-other.ensures)
+    (steps (start (goal.at.overflow_sub-result c).After-startable_to-end)).fits _ _ _ (found (goal.at.overflow_sub-result c).After-startable_to-end).startable_to-end.ensures (rw (ready-back (goal.at.overflow_sub-result c).After-startable_to-end) at c.push-other.ensures)
 
 pub returns : goal.returns
 returns c =
     let p = c.before.before in
-    (steps (start p)).gives _ _ _ (found p).startable_to-end.ensures (rw (ready-back p) at c.push-other.ensures)
+    (steps (start (goal.at.returns c).After-startable_to-end)).gives _ _ _ (found (goal.at.returns c).After-startable_to-end).startable_to-end.ensures (rw (ready-back (goal.at.returns c).After-startable_to-end) at c.push-other.ensures)

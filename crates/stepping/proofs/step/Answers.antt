@@ -15,7 +15,7 @@ use Rattle.pushing.specs.Pushes.{job_rate}
 use Rattle.stepping.specs.Stepping.{job_of}
 use Rattle.stepping.specs.Cases.{empty-stepped, Starts, starts}
 use Rattle.stepping.proofs.step.Goals as goal
-use Rattle.stepping.proofs.step.Goals.{After-last-1, After-time_in, After-too_late, Else-count-eq0, Start}
+use Rattle.stepping.proofs.step.Goals.{After-time_in, After-too_late, Else-count-eq0, Start}
 
 pub returns-then-count-eq0 : goal.returns-then-count-eq0
 returns-then-count-eq0 c = empty-stepped c.if-count-eq0.true c.requires
@@ -23,7 +23,7 @@ returns-then-count-eq0 c = empty-stepped c.if-count-eq0.true c.requires
 -- A list that has a point.
 module _ (c : Else-count-eq0) where
   abbrev begun : Start
-  begun = c.before.before
+  begun = (goal.at.Else-count-eq0 c).Start
 
   cases : Starts begun.args.job begun.args.rate begun.args.list begun.args.work.now begun.args.pushed.now
   cases = starts (omega (arith, c.if-count-eq0.false)) begun.requires
@@ -33,9 +33,9 @@ module _ (c : Else-count-eq0) where
   ready-back = read_back_lem begun.args.job.ready c.struct_told-1.given.1.0.1
 
 -- Its first and last number, as the code reads them back.
-module _ (c : After-last-1) where
+module _ (c : Else-count-eq0) where
   abbrev some : Else-count-eq0
-  some = c.before.before
+  some = c
 
   abbrev start : Start
   start = begun some
@@ -54,13 +54,13 @@ module _ (c : After-last-1) where
 
 pub too_late-requires : goal.too_late-requires
 too_late-requires c =
-    let s = (start c).requires in
-    (record { ends = s.ends; most = s.fits.most }, rw (first_back c) (cases (some c)).first-least)
+    let s = (start (goal.at.too_late-requires c).Else-count-eq0).requires in
+    (record { ends = s.ends; most = s.fits.most }, rw (first_back (goal.at.too_late-requires c).Else-count-eq0) (cases (some (goal.at.too_late-requires c).Else-count-eq0)).first-least)
 
 -- The test of case 1 is that of the definition.
 module _ (c : After-too_late) where
-  abbrev numbers : After-last-1
-  numbers = c.before
+  abbrev numbers : Else-count-eq0
+  numbers = (goal.at.After-too_late c).Else-count-eq0
 
   test-is : c.too_late.result
       ≡ too_late (job_of (start numbers).args.job (start numbers).args.rate) (job_rate (start numbers).args.rate) (point_of (first numbers))
@@ -72,15 +72,15 @@ module _ (c : After-too_late) where
 pub returns-then-too_late : goal.returns-then-too_late
 returns-then-too_late c =
     let d = c.before.before in
-    rw c.left_out.ensures ((cases (some (numbers d))).late (sym (test-is d) ∙ c.if-too_late.true))
+    rw c.left_out.ensures ((cases (some (numbers (goal.at.returns-then-too_late c).After-too_late))).late (sym (test-is (goal.at.returns-then-too_late c).After-too_late) ∙ c.if-too_late.true))
 
 pub time_in-requires : goal.time_in-requires
-time_in-requires c = let d = numbers c.before in rw (last-back d) (cases (some d)).last-least
+time_in-requires c = let d = numbers (goal.at.time_in-requires c).After-too_late in rw (last-back d) (cases (some d)).last-least
 
 -- The test of case 3 is too.
 module _ (c : After-time_in) where
   abbrev past : After-too_late
-  past = c.before.before
+  past = (goal.at.After-time_in c).After-too_late
 
   can-start : too_late (job_of (start (numbers past)).args.job (start (numbers past)).args.rate)
       (job_rate (start (numbers past)).args.rate) (point_of (first (numbers past))) ≡ false
@@ -98,18 +98,18 @@ module _ (c : After-time_in) where
 pub add_one-requires : goal.add_one-requires
 add_one-requires c =
     let d = c.before.before in
-    (cases (some (numbers (past d)))).add
+    (cases (some (numbers (past (goal.at.add_one-requires c).After-time_in)))).add
 
 pub returns-then-time_in-ready : goal.returns-then-time_in-ready
 returns-then-time_in-ready c =
     let d = c.before.before.before.before in
-    (cases (some (numbers (past d)))).added (can-start d) (sym (early-is d) ∙ c.if-time_in-ready.true)
+    (cases (some (numbers (past (goal.at.returns-then-time_in-ready c).After-time_in)))).added (can-start (goal.at.returns-then-time_in-ready c).After-time_in) (sym (early-is (goal.at.returns-then-time_in-ready c).After-time_in) ∙ c.if-time_in-ready.true)
     c.add_one.result c.add_one.new.work c.add_one.ensures
 
 pub merge_pushed-requires : goal.merge_pushed-requires
 merge_pushed-requires c =
     let d = c.before.before.before in
-    (cases (some (numbers (past d)))).merge (can-start d) (sym (early-is d) ∙ c.if-time_in-ready.false)
+    (cases (some (numbers (past (goal.at.merge_pushed-requires c).After-time_in)))).merge (can-start (goal.at.merge_pushed-requires c).After-time_in) (sym (early-is (goal.at.merge_pushed-requires c).After-time_in) ∙ c.if-time_in-ready.false)
 
 pub returns : goal.returns
 returns c = c.merge_pushed.ensures

@@ -14,10 +14,10 @@ use Rattle.stepping.proofs.too_late.Goals.{After-last_start, After-time_in, Star
 
 pub returns : goal.returns
 returns c =
-    let t : After-time_in = c.before in
-    let l : After-last_start = t.before in
+    let t : After-time_in = (goal.at.returns c).After-time_in in
+    let l : After-last_start = (goal.at.After-time_in t).After-last_start in
     let told = l.before in
-    let s : Start = told.before in
+    let s : Start = (goal.at.After-last_start l).Start in
     let last-is : to_z w32 (of_z w32 l.last_start.result) ≡ last_start s.args.job s.args.rate =
     read_back_lem l.last_start.result l.last_start.type_inv ∙ l.last_start.ensures in
     let free-is : to_z w32 (of_z w32 t.time_in.result) ≡ (point_of s.args.first).time =

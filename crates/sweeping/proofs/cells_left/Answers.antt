@@ -10,5 +10,5 @@ use Rattle.sweeping.proofs.cells_left.Goals.{Start}
 
 pub returns : goal.returns
 returns c =
-    let s : Start = c.before.before in
+    let s : Start = (goal.at.returns c).Start in
     rw c.if-critical.false (c.cells_to.ensures ∙ ap (λ (z : ℤ). 512 - lightness z) (to_z-of_z s.ranges.last))

@@ -14,7 +14,7 @@ use Rattle.seconds.specs.Signed.{signed, read_back_lem}
 use Rattle.codes.specs.Code.{at0, point_of}
 use Rattle.codes.specs.HeldLaws.{held-point, list_length}
 use Rattle.sweeping.proofs.many_late.Goals as goal
-use Rattle.sweeping.proofs.many_late.Goals.{After-time_in-arg-1, Else-count-lt-MANY, Start}
+use Rattle.sweeping.proofs.many_late.Goals.{Else-count-lt-MANY, Start}
 
 pub returns-then-count-lt-MANY : goal.returns-then-count-lt-MANY
 returns-then-count-lt-MANY c =
@@ -22,9 +22,9 @@ returns-then-count-lt-MANY c =
     rw few
 
 -- The number that is read, and read back.
-module _ (c : After-time_in-arg-1) where
+module _ (c : Else-count-lt-MANY) where
   abbrev many : Else-count-lt-MANY
-  many = c.before.before
+  many = c
 
   abbrev start : Start
   start = many.before
@@ -37,16 +37,16 @@ module _ (c : After-time_in-arg-1) where
 
 pub time_in-requires : goal.time_in-requires
 time_in-requires c =
-    let s = start c in
-    let enough = (many c).if-count-lt-MANY.false in
-    let f = held-point s.requires.held (place c) (omega arith)
+    let s = start (goal.at.time_in-requires c).Else-count-lt-MANY in
+    let enough = (many (goal.at.time_in-requires c).Else-count-lt-MANY).if-count-lt-MANY.false in
+    let f = held-point s.requires.held (place (goal.at.time_in-requires c).Else-count-lt-MANY) (omega arith)
     (omega (arith, list_length s.args.work.now s.args.list.place s.args.list.count)) in
     let e = f.2 in
-    rw (number-back c) (omega signed)
+    rw (number-back (goal.at.time_in-requires c).Else-count-lt-MANY) (omega signed)
 
 pub returns : goal.returns
 returns c =
-    let r : After-time_in-arg-1 = c.before in
+    let r : Else-count-lt-MANY = (goal.at.returns c).Else-count-lt-MANY in
     let enough : ltb (start r).args.list.count 20 ≡ false = omega (signed, (many r).if-count-lt-MANY.false) in
     let time-is : to_z w32 (of_z w32 c.time_in.result) ≡ (point_of (at0 (start r).args.work.now (place r))).time =
     read_back_lem c.time_in.result c.time_in.type_inv ∙ c.time_in.ensures ∙ ap (λ (z : ℤ). (point_of z).time) (number-back r) in

@@ -20,13 +20,13 @@ own s = s.requires.carried
 
 pub returns-then-list-eq0 : goal.returns-then-list-eq0
 returns-then-list-eq0 c =
-    let s : Start = c.before.before in
+    let s : Start = (goal.at.returns-then-list-eq0 c).Start in
     record { size = refl; room = (own s).room; held = λ ps points h. none-settled h c.if-list-eq0.true }
 
 -- The list has a point.
 module _ (c : Else-list-eq0) where
   abbrev start : Start
-  start = c.before.before
+  start = (goal.at.Else-list-eq0 c).Start
 
   some : 1 ≤ start.args.list.count
   some = omega (arith, c.if-list-eq0.false)
@@ -35,18 +35,18 @@ module _ (c : Else-list-eq0) where
   inside = (own start).room
 
 pub overflow_add-list : goal.overflow_add-list
-overflow_add-list c = let e : Else-list-eq0 = c.before in omega (arith, inside e)
+overflow_add-list c = let e : Else-list-eq0 = (goal.at.overflow_add-list c).Else-list-eq0 in omega (arith, inside e)
 
 pub offset_bounds-work-list : goal.offset_bounds-work-list
-offset_bounds-work-list c = let e : Else-list-eq0 = c.before in omega (arith, inside e)
+offset_bounds-work-list c = let e : Else-list-eq0 = (goal.at.offset_bounds-work-list c).Else-list-eq0 in omega (arith, inside e)
 
 pub slice_copy_out-cells_to : goal.slice_copy_out-cells_to
-slice_copy_out-cells_to c = let e : Else-list-eq0 = c.before in omega (arith, inside e, some e)
+slice_copy_out-cells_to c = let e : Else-list-eq0 = (goal.at.slice_copy_out-cells_to c).Else-list-eq0 in omega (arith, inside e, some e)
 
 -- Its last number is read back, and tells how many cells there are.
 module _ (c : After-cells_to-far) where
   abbrev there : Else-list-eq0
-  there = c.before.before.before
+  there = (goal.at.After-cells_to-far c).Else-list-eq0
 
   abbrev last : ℤ
   last = at0 (start there).args.work.now (end_of (start there).args.list - 1)
@@ -59,21 +59,21 @@ module _ (c : After-cells_to-far) where
 
 pub cells_to-far-requires : goal.cells_to-far-requires
 cells_to-far-requires c =
-    let e : Else-list-eq0 = c.before.before in
+    let e : Else-list-eq0 = (goal.at.cells_to-far-requires c).Else-list-eq0 in
     let z = at0 (start e).args.work.now (end_of (start e).args.list - 1) in
     let back : to_z w32 (of_z w32 z) ≡ z = read_back_lem z c.cells_to-arg-1.given in
     rw back (carried-least (own (start e)) (some e))
 
 pub gather-count-requires : goal.gather-count-requires
 gather-count-requires c =
-    let f : After-cells_to-far = c.before in
+    let f : After-cells_to-far = (goal.at.gather-count-requires c).After-cells_to-far in
     let e = there f in
     can-settle (own (start e)) (some e) (far-is f) (start e).requires.room
 
 pub returns : goal.returns
 returns c =
-    let g : After-gather-count = c.before in
-    let f : After-cells_to-far = g.before.before in
+    let g : After-gather-count = (goal.at.returns c).After-gather-count in
+    let f : After-cells_to-far = (goal.at.After-gather-count g).After-cells_to-far in
     let e = there f in
     let d = g.gather-count.ensures in
     record {

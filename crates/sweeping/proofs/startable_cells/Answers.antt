@@ -12,12 +12,12 @@ use Rattle.codes.specs.Code.{at0, lightness}
 use Rattle.stepping.specs.Stepping.{last_start}
 use Rattle.sweeping.specs.SweepLaws.{can-seek, none-counted, some-counted, found-least, unready-counted}
 use Rattle.sweeping.proofs.startable_cells.Goals as goal
-use Rattle.sweeping.proofs.startable_cells.Goals.{After-cells_to-arg-1, After-last_start, After-startable_to-end, After-struct_told-1, Else-end-list, Else-last_start-job, Start}
+use Rattle.sweeping.proofs.startable_cells.Goals.{After-last_start, After-startable_to-end, Else-end-list, Else-last_start-job, Start}
 
 -- The test, over the job's numbers.
-module _ (c : After-struct_told-1) where
+module _ (c : After-last_start) where
   abbrev last : After-last_start
-  last = c.before.before
+  last = c
 
   abbrev start : Start
   start = last.before
@@ -29,14 +29,14 @@ module _ (c : After-struct_told-1) where
 
 pub returns-then-last_start-job : goal.returns-then-last_start-job
 returns-then-last_start-job c =
-    let t : After-struct_told-1 = c.before in
+    let t : After-last_start = (goal.at.returns-then-last_start-job c).After-last_start in
     let a = (start t).args in
     unready-counted a.job a.rate a.list a.work.now (sym (test-is t) ∙ c.if-last_start-job.true)
 
 -- The job can be ready by its last start.
 module _ (c : Else-last_start-job) where
-  abbrev told : After-struct_told-1
-  told = c.before
+  abbrev told : After-last_start
+  told = (goal.at.Else-last_start-job c).After-last_start
 
   soon : (start told).args.job.ready ≤ℤ last_start (start told).args.job (start told).args.rate
   soon = let f = sym (test-is told) ∙ c.if-last_start-job.false in omega signed
@@ -46,22 +46,22 @@ startable_to-end-requires c = can-seek (start (told c)).requires (soon c)
 
 pub returns-then-end-list : goal.returns-then-end-list
 returns-then-end-list c =
-    let s : After-startable_to-end = c.before.before in
-    let e : Else-last_start-job = s.before in
+    let s : After-startable_to-end = (goal.at.returns-then-end-list c).After-startable_to-end in
+    let e : Else-last_start-job = (goal.at.After-startable_to-end s).Else-last_start-job in
     none-counted (start (told e)).requires (soon e) s.startable_to-end.ensures c.if-end-list.true
 
 -- A number was found.
 module _ (c : Else-end-list) where
   abbrev found : After-startable_to-end
-  found = c.before.before
+  found = (goal.at.Else-end-list c).After-startable_to-end
 
   abbrev ready : Else-last_start-job
   ready = found.before
 
 -- And is read back.
-module _ (c : After-cells_to-arg-1) where
+module _ (c : Else-end-list) where
   abbrev there : Else-end-list
-  there = c.before
+  there = c
 
   abbrev number : ℤ
   number = at0 (start (told (ready there))).args.work.now ((found there).startable_to-end.result - 1)
@@ -71,13 +71,13 @@ module _ (c : After-cells_to-arg-1) where
 
 pub cells_to-requires : goal.cells_to-requires
 cells_to-requires c =
-    let d = there c in
+    let d = there (goal.at.cells_to-requires c).Else-end-list in
     let e = ready d in
-    rw (number-back c) (found-least (start (told e)).requires (soon e) (found d).startable_to-end.ensures d.if-end-list.left)
+    rw (number-back (goal.at.cells_to-requires c).Else-end-list) (found-least (start (told e)).requires (soon e) (found d).startable_to-end.ensures d.if-end-list.left)
 
 pub returns : goal.returns
 returns c =
-    let r : After-cells_to-arg-1 = c.before in
+    let r : Else-end-list = (goal.at.returns c).Else-end-list in
     let d = there r in
     let e = ready d in
     some-counted (start (told e)).requires (soon e) (found d).startable_to-end.ensures d.if-end-list.left

@@ -12,22 +12,22 @@ startable_cells-many-requires c = can-count c.requires
 
 -- Where the code starts, seen from where the cells are counted.
 abbrev start : After-startable_cells-many → Start
-start c = c.before.before
+start c = (goal.at.After-startable_cells-many c).Start
 
 pub returns-then-many-eq0 : goal.returns-then-many-eq0
 returns-then-many-eq0 c =
-    let w : After-wipe_if = c.before.before.before in
-    let t : Then-many-eq0 = w.before.before in
-    let s = start t.before in
+    let w : After-wipe_if = (goal.at.returns-then-many-eq0 c).After-wipe_if in
+    let t : Then-many-eq0 = (goal.at.After-wipe_if w).Then-many-eq0 in
+    let s = start (goal.at.Then-many-eq0 t).After-startable_cells-many in
     rw c.leave.ensures (left-swept s.requires.roomy.buffer w.wipe_if.ensures (λ ps r says. sym (t.startable_cells-many.ensures ps r says) ∙ t.if-many-eq0.true))
 
 pub sweep_started-requires : goal.sweep_started-requires
 sweep_started-requires c =
-    let e : Else-many-eq0 = c.before.before.before in
-    record { sweep = (start e.before).requires; some = omega (arith, e.if-many-eq0.false); told = e.startable_cells-many.ensures }
+    let e : Else-many-eq0 = (goal.at.sweep_started-requires c).Else-many-eq0 in
+    record { sweep = (start (goal.at.Else-many-eq0 e).After-startable_cells-many).requires; some = omega (arith, e.if-many-eq0.false); told = e.startable_cells-many.ensures }
 
 pub returns : goal.returns
 returns c =
-    let s : After-sweep_started = c.before.before.before in
-    let e : Else-many-eq0 = s.before.before.before.before in
-    s.sweep_started.ensures (start e.before).args.points
+    let s : After-sweep_started = (goal.at.returns c).After-sweep_started in
+    let e : Else-many-eq0 = (goal.at.After-sweep_started s).Else-many-eq0 in
+    s.sweep_started.ensures (start (goal.at.Else-many-eq0 e).After-startable_cells-many).args.points

@@ -20,7 +20,7 @@ use Rattle.cells.specs.LayingLaws.{rises-few}
 use Rattle.sweeping.specs.Sweep.{Carried, Steppable, Roomy}
 use Rattle.sweeping.specs.SweepLaws.{list-some, last-least, list-reach, can-push-row, ends-few, far-few, can-lower, still, next-carried}
 use Rattle.sweeping.proofs.sweep_started.Goals as goal
-use Rattle.sweeping.proofs.sweep_started.Goals.{After-cells_left-arg-1, After-delta_of, After-lower-rises, After-most-far, After-push_cells, After-struct_told-1, After-wipe, After-wipe_if, Start}
+use Rattle.sweeping.proofs.sweep_started.Goals.{After-delta_of, After-lower-rises, After-most-far, After-push_cells, After-wipe, After-wipe_if, Start}
 
 -- What is known of the profile that is carried.
 module _ (s : Start) where
@@ -33,18 +33,18 @@ module _ (s : Start) where
       s.requires.sweep.roomy
 
 pub overflow_add-ends : goal.overflow_add-ends
-overflow_add-ends c = omega (arith, few c.before.before)
+overflow_add-ends c = omega (arith, few (goal.at.overflow_add-ends c).Start)
 
 pub overflow_sub-used : goal.overflow_sub-used
-overflow_sub-used c = omega (arith, some c.before.before)
+overflow_sub-used c = omega (arith, some (goal.at.overflow_sub-used c).Start)
 
 pub slice_copy_out-cells_left : goal.slice_copy_out-cells_left
-slice_copy_out-cells_left c = let s : Start = c.before.before in omega (arith, some s, s.requires.sweep.carried.room)
+slice_copy_out-cells_left c = let s : Start = (goal.at.slice_copy_out-cells_left c).Start in omega (arith, some s, s.requires.sweep.carried.room)
 
 -- The last number of the stretch, read back.
-module _ (c : After-cells_left-arg-1) where
+module _ (c : Start) where
   abbrev start : Start
-  start = c.before.before.before
+  start = c
 
   abbrev last : ℤ
   last = at0 start.args.work.now (end_of start.args.list - 1)
@@ -54,13 +54,13 @@ module _ (c : After-cells_left-arg-1) where
 
 pub cells_left-requires : goal.cells_left-requires
 cells_left-requires c =
-    let s = start c in
-    rw (last-back c) (last-least s.args.job s.args.rate s.args.list s.requires.some s.requires.told s.requires.sweep.carried)
+    let s = start (goal.at.cells_left-requires c).Start in
+    rw (last-back (goal.at.cells_left-requires c).Start) (last-least s.args.job s.args.rate s.args.list s.requires.some s.requires.told s.requires.sweep.carried)
 
 -- How far the cells reach.
 module _ (c : After-most-far) where
-  abbrev read : After-cells_left-arg-1
-  read = c.before.before
+  abbrev read : Start
+  read = (goal.at.After-most-far c).Start
 
   abbrev begun : Start
   begun = start read
@@ -73,8 +73,8 @@ module _ (c : After-most-far) where
 
 -- The ready time, and what the two calls made of the job, read back.
 module _ (c : After-delta_of) where
-  abbrev struct : After-struct_told-1
-  struct = c.before.before
+  abbrev struct : After-most-far
+  struct = (goal.at.After-delta_of c).After-most-far
 
   abbrev reached : After-most-far
   reached = struct.before.before
@@ -93,13 +93,13 @@ module _ (c : After-delta_of) where
 
 pub limit_by-requires : goal.limit_by-requires
 limit_by-requires c =
-    let s = begun c.before.before in
+    let s = begun (goal.at.limit_by-requires c).After-most-far in
     let back : to_z w32 (of_z w32 s.args.job.ready) ≡ s.args.job.ready = read_back_lem s.args.job.ready c.struct_told-1.given.1.0.1 in
     rw back (time-free s.requires.sweep.can.starts)
 
 pub push_cells-requires : goal.push_cells-requires
 push_cells-requires c =
-    let d : After-delta_of = c.before in
+    let d : After-delta_of = (goal.at.push_cells-requires c).After-delta_of in
     let s = entry d in
     rw (limit_is d, delta-is d) (can-push-row s.args.job s.args.rate s.args.list s.requires.some s.requires.told
     s.requires.sweep.carried s.requires.sweep.can s.requires.sweep.roomy)
@@ -107,7 +107,7 @@ push_cells-requires c =
 -- The cells are pushed.
 module _ (c : After-push_cells) where
   abbrev made : After-delta_of
-  made = c.before.before
+  made = (goal.at.After-push_cells c).After-delta_of
 
   abbrev origin : Start
   origin = entry made
@@ -127,20 +127,20 @@ module _ (c : After-push_cells) where
 
 pub wipe-requires : goal.wipe-requires
 wipe-requires c =
-    let p : After-push_cells = c.before.before in
+    let p : After-push_cells = (goal.at.wipe-requires c).After-push_cells in
     (omega (arith, far-is (reached (made p))), omega (arith, far-small p, (pushed-on p).size, (origin p).requires.sweep.roomy.buffer.room))
 
 -- Past them there are none, and those left without the job are there.
 module _ (c : After-wipe_if) where
   abbrev past : After-wipe
-  past = c.before.before.before
+  past = (goal.at.After-wipe_if c).After-wipe
 
   abbrev pushed : After-push_cells
   pushed = past.before.before.before
 
 pub lower-rises-requires : goal.lower-rises-requires
 lower-rises-requires c =
-    let w : After-wipe_if = c.before.before.before.before in
+    let w : After-wipe_if = (goal.at.lower-rises-requires c).After-wipe_if in
     let p = pushed w in
     let s = origin p in
     let carried = s.requires.sweep.carried in
@@ -150,7 +150,7 @@ lower-rises-requires c =
 -- They are lowered, laid and counted.
 module _ (c : After-lower-rises) where
   abbrev wiped : After-wipe_if
-  wiped = c.before.before.before.before.before
+  wiped = (goal.at.After-lower-rises c).After-wipe_if
 
   abbrev told : After-push_cells
   told = pushed wiped
@@ -170,21 +170,21 @@ module _ (c : After-lower-rises) where
       let also : Roomy s.args.job ps s.args.list s.args.work.now s.args.pushed.now =
       record { room = omega (arith, as-far, roomy.room); room_more = roomy.room_more; buffer = roomy.buffer } in
       next-carried s.args.job s.args.rate s.args.list s.requires.some s.requires.told carried can also (far-is (reached (made told)))
-      (pushed-on told) (past wiped).wipe.ensures wiped.wipe_if.ensures c.lower-rises.ensures.0 c.lower-rises.ensures.1.0
-      c.lower-rises.ensures.1.1
+      (pushed-on told) (past wiped).wipe.ensures wiped.wipe_if.ensures c.lower-rises.ensures.row c.lower-rises.ensures.laid.0
+      c.lower-rises.ensures.laid.1
 
 pub overflow_add-result : goal.overflow_add-result
 overflow_add-result c =
-    let d : After-lower-rises = c.before.before in
+    let d : After-lower-rises = (goal.at.overflow_add-result c).After-lower-rises in
     let counted = lowered (wiped d).wipe_if.new.row (past (wiped d)).wipe.last.0 in
-    omega (arith, d.lower-rises.ensures.1.1, rises-few counted (far (told d)), far-small (told d))
+    omega (arith, d.lower-rises.ensures.laid.1, rises-few counted (far (told d)), far-small (told d))
 
 pub returns : goal.returns
 returns c points =
     let d : After-lower-rises = c.before.before in
     let p = told d in
     let s = origin p in
-    let laid = d.lower-rises.ensures.1.0 in
+    let laid = d.lower-rises.ensures.laid.0 in
     record {
       size = laid.size;
       stays = λ k h. laid.stays k (omega arith);

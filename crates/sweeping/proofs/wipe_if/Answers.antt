@@ -11,8 +11,8 @@ use Rattle.sweeping.proofs.wipe_if.Goals.{After-wipe, Start}
 
 pub returns-then-critical : goal.returns-then-critical
 returns-then-critical c =
-    let w : After-wipe = c.before in
-    let s : Start = w.before.before.before in
+    let w : After-wipe = (goal.at.returns-then-critical c).After-wipe in
+    let s : Start = (goal.at.After-wipe w).Start in
     let put : Put (λ x. past_all) 0 wide s.args.row.now w.wipe.new.row = w.wipe.ensures in
     subst (λ (b : Bool). Wiped b s.args.row.now w.wipe.new.row) (sym w.if-critical.true) (wiped-row s.requires put)
 

@@ -7,4 +7,4 @@ use Rattle.text.proofs.put_figure.Goals as goal
 pub returns : goal.returns
 returns c =
     let count = c.put_count-next in
-    (wrote-more count.ensures.0 c.put_byte.ensures, search rules)
+    (record { wrote = wrote-more count.ensures.wrote c.put_byte.ensures; upper_bound = search rules })

@@ -18,38 +18,38 @@ use Rattle.text.proofs.put_number.Goals.{After-without_sign-size, Else-value-lt0
 
 -- Where the code starts.
 abbrev start : After-without_sign-size → Start
-start c = c.before.before
+start c = (goal.at.After-without_sign-size c).Start
 
 -- The value, read back from its bits, and its size.
 value-is : (c : Start) → to_z w32 (of_z w32 c.args.value) ≡ c.args.value
 value-is c = to_z-of_z c.ranges.value
 
 size_is : (c : After-without_sign-size) → nat_abs c.args.value ≡ c.without_sign-size.result
-size_is c = sym (c.without_sign-size.ensures ∙ ap nat_abs (value-is c.before.before))
+size_is c = sym (c.without_sign-size.ensures ∙ ap nat_abs (value-is (goal.at.After-without_sign-size c).Start))
 
 -- The text of the value, on each side of the test.
-text-below : (c : Then-value-lt0) → let s = start c.before in
+text-below : (c : Then-value-lt0) → let s = start (goal.at.Then-value-lt0 c).After-without_sign-size in
     figure s.args.value ≡ minus ∷ digits c.without_sign-size.result
 text-below c =
-    let s = start c.before in
+    let s = start (goal.at.Then-value-lt0 c).After-without_sign-size in
     figure-below s.args.value (omega (signed, value-is s))
-    ∙ ap (λ (n : ℕ). minus ∷ digits n) (size_is c.before)
+    ∙ ap (λ (n : ℕ). minus ∷ digits n) (size_is (goal.at.Then-value-lt0 c).After-without_sign-size)
 
-text-above : (c : Else-value-lt0) → let s = start c.before in
+text-above : (c : Else-value-lt0) → let s = start (goal.at.Else-value-lt0 c).After-without_sign-size in
     figure s.args.value ≡ digits c.without_sign-size.result
 text-above c =
-    let s = start c.before in
+    let s = start (goal.at.Else-value-lt0 c).After-without_sign-size in
     figure-above s.args.value (omega (signed, value-is s))
-    ∙ ap digits (size_is c.before)
+    ∙ ap digits (size_is (goal.at.Else-value-lt0 c).After-without_sign-size)
 
 pub returns-then-value-lt0 : goal.returns-then-value-lt0
 returns-then-value-lt0 c =
-    let then1 : Then-value-lt0 = c.before.before.before.before.before.before.before.before in
+    let then1 : Then-value-lt0 = (goal.at.returns-then-value-lt0 c).Then-value-lt0 in
     let sign = c.put_byte-next in
     rw (text-below then1)
-    (wrote-more sign.ensures c.put_count.ensures.0, omega (arith, sign.ensures.behind))
+    (record { wrote = wrote-more sign.ensures c.put_count.ensures.wrote; upper_bound = omega (arith, sign.ensures.behind) })
 
 pub returns : goal.returns
 returns c =
-    let else1 : Else-value-lt0 = c.before.before.before.before in
-    rw (text-above else1) (c.put_count-2.ensures.0, omega arith)
+    let else1 : Else-value-lt0 = (goal.at.returns c).Else-value-lt0 in
+    rw (text-above else1) (record { wrote = c.put_count-2.ensures.wrote; upper_bound = omega arith })

@@ -17,18 +17,18 @@ abbrev other : Start → Point
 other s = record { time = s.args.since; weight = s.args.rival }
 
 pub returns-then-rival-weight : goal.returns-then-rival-weight
-returns-then-rival-weight c = first-wins (rule_of c.args.tie) (one c.before) (other c.before) c.if-rival-weight.true
+returns-then-rival-weight c = first-wins (rule_of c.args.tie) (one (goal.at.returns-then-rival-weight c).Start) (other (goal.at.returns-then-rival-weight c).Start) c.if-rival-weight.true
 
 pub returns-then-weight-rival : goal.returns-then-weight-rival
 returns-then-weight-rival c =
     let s = c.before.before in
-    second-wins (rule_of s.args.tie) (one s) (other s) c.if-weight-rival.true
+    second-wins (rule_of s.args.tie) (one (goal.at.returns-then-weight-rival c).Start) (other (goal.at.returns-then-weight-rival c).Start) c.if-weight-rival.true
 
 -- What the tie says.
-said : (c : After-to_first) → let s : Start = c.before.before.before in
+said : (c : After-to_first) → let s : Start = (goal.at.After-to_first c).Start in
     c.to_first.result ≡ rule_of s.args.tie s.args.time s.args.since
 said c =
-    let s : Start = c.before.before.before in
+    let s : Start = (goal.at.After-to_first c).Start in
     rw (to_z-of_z s.ranges.time, to_z-of_z s.ranges.since) at c.to_first.ensures
 
 pub returns-then-to_first : goal.returns-then-to_first
@@ -36,11 +36,11 @@ returns-then-to_first c =
     let f = c.before in
     let e = f.before in
     let s = e.before.before in
-    even-first (rule_of s.args.tie) (one s) (other s) e.if-rival-weight.false e.if-weight-rival.false (sym (said f) ∙ c.if-to_first.true)
+    even-first (rule_of s.args.tie) (one (goal.at.returns-then-to_first c).Start) (other (goal.at.returns-then-to_first c).Start) e.if-rival-weight.false e.if-weight-rival.false (sym (said (goal.at.returns-then-to_first c).After-to_first) ∙ c.if-to_first.true)
 
 pub returns : goal.returns
 returns c =
     let f = c.before in
     let e = f.before in
     let s = e.before.before in
-    even-second (rule_of s.args.tie) (one s) (other s) e.if-rival-weight.false e.if-weight-rival.false (sym (said f) ∙ c.if-to_first.false)
+    even-second (rule_of s.args.tie) (one (goal.at.returns c).Start) (other (goal.at.returns c).Start) e.if-rival-weight.false e.if-weight-rival.false (sym (said (goal.at.returns c).After-to_first) ∙ c.if-to_first.false)

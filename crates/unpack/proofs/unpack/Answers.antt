@@ -15,11 +15,11 @@ use Rattle.judge.specs.Told.{told-fine}
 use Rattle.unpack.specs.AnswerLaws.{unpacks-refused, unpacks-no-room, unpackable, unpacks-written}
 use Rattle.unpack.specs.declared.Unpacked.TheVariants.{Refused, Jobs}
 use Rattle.unpack.proofs.unpack.Goals as goal
-use Rattle.unpack.proofs.unpack.Goals.{After-header_at-header, After-judge_order, After-struct_told-1, In-Fine, Start}
+use Rattle.unpack.proofs.unpack.Goals.{After-header_at-header, After-judge_order, In-Fine, Start}
 
 -- Where the code starts.
 abbrev start : In-Fine → Start
-start c = c.before.before.before.before
+start c = (goal.at.In-Fine c).Start
 
 -- Past 1 to 9.
 passed : (c : In-Fine) → let s = start c in
@@ -41,29 +41,29 @@ overflow_mul-count c =
     omega (
       arith,
       (header_read bytes h.header_at-header.result h.header_at-header.ensures).count,
-      ((order-fine bytes).0 (passed h.before)).header.few,
+      ((order-fine bytes).0 (passed (goal.at.overflow_mul-count c).In-Fine)).header.few,
     )
 
 pub returns-then-numbers-count : goal.returns-then-numbers-count
 returns-then-numbers-count c =
     let t = c.before in
-    let h : After-header_at-header = t.before.before in
+    let h : After-header_at-header = (goal.at.returns-then-numbers-count c).After-header_at-header in
     let a = h.args in
     let unpacks =
-    unpacks-no-room a.bytes.now a.numbers-1.now (passed h.before) h.header_at-header.result h.header_at-header.ensures
+    unpacks-no-room a.bytes.now a.numbers-1.now (passed (goal.at.After-header_at-header h).In-Fine) h.header_at-header.result h.header_at-header.ensures
     t.if-numbers-count.true in
-    (ap Refused c.plainly.ensures ∙ unpacks.0, unpacks.1)
+    (record { answer = ap Refused c.plainly.ensures ∙ unpacks.0; lent = unpacks.1 })
 
 pub write_numbers-requires : goal.write_numbers-requires
 write_numbers-requires c =
     let a = c.args in
-    let h : After-header_at-header = c.before.before.before in
-    unpackable a.bytes.now a.numbers-1.now (passed h.before) h.header_at-header.result h.header_at-header.ensures
+    let h : After-header_at-header = (goal.at.write_numbers-requires c).After-header_at-header in
+    unpackable a.bytes.now a.numbers-1.now (passed (goal.at.After-header_at-header h).In-Fine) h.header_at-header.result h.header_at-header.ensures
     c.if-numbers-count.false
 
 pub returns-in-Refused : goal.returns-in-Refused
 returns-in-Refused c =
-    let after-judge-order : After-judge_order = c.before.before.before in
+    let after-judge-order : After-judge_order = (goal.at.returns-in-Refused c).After-judge_order in
     let a = c.args in
     let said = c.refusal-1.given in
     unpacks-refused a.bytes.now a.numbers-1.now said.0.0
@@ -72,12 +72,12 @@ returns-in-Refused c =
 pub returns-else-numbers-count : goal.returns-else-numbers-count
 returns-else-numbers-count c =
     let w = c.before in
-    let after-struct-told : After-struct_told-1 = w.before.before.before in
-    let h : After-header_at-header = w.before.before.before.before in
+    let after-struct-told : After-header_at-header = (goal.at.returns-else-numbers-count c).After-header_at-header in
+    let h : After-header_at-header = (goal.at.returns-else-numbers-count c).After-header_at-header in
     let a = h.args in
     let given : Header = h.header_at-header.result in
     let kept : SFits w32 given.t0 = record { sfits = after-struct-told.struct_told-1.given.1.0.1 } in
     let unpacks =
-    unpacks-written a.bytes.now a.numbers-1.now (passed h.before) given h.header_at-header.ensures w.write_numbers.new.numbers
+    unpacks-written a.bytes.now a.numbers-1.now (passed (goal.at.After-header_at-header h).In-Fine) given h.header_at-header.ensures w.write_numbers.new.numbers
     w.if-numbers-count.false w.write_numbers.ensures in
-    (ap (Jobs given.count) (to_z-of_z kept) ∙ unpacks.0, unpacks.1)
+    (record { answer = ap (Jobs given.count) (to_z-of_z kept) ∙ unpacks.0; lent = unpacks.1 })

@@ -27,12 +27,12 @@ kept c =
 
 pub put_numbers-requires : goal.put_numbers-requires
 put_numbers-requires c =
-    let head : At-loop-k = c.before.before.before in
+    let head : At-loop-k = (goal.at.put_numbers-requires c).At-loop-k in
     omega (arith, kept head)
 
 pub loop-k-preserved : goal.loop-k-preserved
 loop-k-preserved c =
-    let l : At-loop-k = c.before.before.before.before.before in
+    let l : At-loop-k = (goal.at.loop-k-preserved c).At-loop-k in
     let a = l.args in
     let k : ℕ = l.loop-k.k in
     let j = c.job_in-job in
@@ -43,7 +43,7 @@ loop-k-preserved c =
     (omega arith, more)
 
 pub shape_of-numbers : goal.shape_of-numbers
-shape_of-numbers c = kept c.before
+shape_of-numbers c = kept (goal.at.shape_of-numbers c).At-loop-k
 
 pub returns : goal.returns
 returns c =

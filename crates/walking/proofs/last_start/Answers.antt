@@ -32,7 +32,7 @@ overflow_sub-end c = end_fits c
 -- The lesser of the two ends, less the length.
 module _ (c : After-lesser) where
   abbrev entry : Start
-  entry = c.before.before
+  entry = (goal.at.After-lesser c).Start
 
   abbrev end : ℤ
   end = entry.args.by -ℤ pos rest
@@ -41,7 +41,7 @@ module _ (c : After-lesser) where
   last-is =
       to_z-of_z (record { sfits = c.lesser.type_inv })
       ∙ c.lesser.ensures
-      ∙ ap₂ min_z (to_z-of_z entry.fits.deadline) (to_z-of_z (end_fits c.before) ∙ end_is c.before)
+      ∙ ap₂ min_z (to_z-of_z entry.fits.deadline) (to_z-of_z (end_fits (goal.at.After-lesser c).After-rested) ∙ end_is (goal.at.After-lesser c).After-rested)
 
   start_is : to_z w32 (of_z w32 c.lesser.result) -ℤ to_z w32 (of_z w32 entry.args.long)
       ≡ min_z entry.args.deadline end -ℤ entry.args.long

@@ -36,7 +36,7 @@ module _ (critical : Bool) (list : List Point) (w : ℕ) (by : ℤ) (may : criti
 -- What the search found.
 module _ (c : After-last_by) where
   abbrev s : Start
-  s = c.before.before
+  s = (goal.at.After-last_by c).Start
 
   abbrev list : List Point
   list = list_at s.args.work.now s.args.place s.args.count
@@ -47,12 +47,12 @@ module _ (c : After-last_by) where
 pub returns-in-Nothing : goal.returns-in-Nothing
 returns-in-Nothing c =
     let d = c.before.before in
-    let a = (s d).args in
-    sym (left-nothing a.critical (list d) a.weight a.by d.if-critical.false (sym (finds d) ∙ c.in-Nothing.is))
+    let a = (s (goal.at.returns-in-Nothing c).After-last_by).args in
+    sym (left-nothing a.critical (list (goal.at.returns-in-Nothing c).After-last_by) a.weight a.by d.if-critical.false (sym (finds (goal.at.returns-in-Nothing c).After-last_by) ∙ c.in-Nothing.is))
 
 pub returns-in-At : goal.returns-in-At
 returns-in-At c =
-    let d : After-last_by = c.before.before.before in
+    let d : After-last_by = (goal.at.returns-in-At c).After-last_by in
     let a = (s d).args in
     let e = c.found-1.given in
     sym (left_at a.critical (list d) a.weight a.by d.if-critical.false e.0.0 e.0.1.0 (sym (finds d) ∙ e.1))

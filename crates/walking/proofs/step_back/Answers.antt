@@ -52,7 +52,7 @@ module _ (s : Start) where
 
 module _ (c : After-leaves-left) where
   abbrev entry : Start
-  entry = c.before.before.before.before
+  entry = (goal.at.After-leaves-left c).Start
 
   -- It is whether the job is left out.
   left_is : c.leaves-left.result
@@ -79,7 +79,7 @@ module _ (c : After-leaves-left) where
 
 pub last_start-last-requires : goal.last_start-last-requires
 last_start-last-requires c =
-    let told : After-leaves-left = c.before.before in
+    let told : After-leaves-left = (goal.at.last_start-last-requires c).After-leaves-left in
     let s = entry told in
     let f = facts s in
     let g = fitting s in
@@ -93,7 +93,7 @@ last_start-last-requires c =
 
 module _ (c : After-last_start-last) where
   abbrev tested : After-leaves-left
-  tested = c.before.before.before
+  tested = (goal.at.After-last_start-last c).After-leaves-left
 
   last-is : to_z w32 (of_z w32 c.last_start-last.result) ≡ last (entry tested)
   last-is =
@@ -108,7 +108,7 @@ module _ (c : After-last_start-last) where
 
 pub overflow_cast-job : goal.overflow_cast-job
 overflow_cast-job c =
-    let s = entry (tested c.before.before) in
+    let s = entry (tested (goal.at.overflow_cast-job c).After-last_start-last) in
     rw (weight-back s) (omega (signed, (facts s).weight, abs_is s.args.job.weight))
 
 -- ---- what the job gives
@@ -120,7 +120,7 @@ at_most false n = omega arith
 
 module _ (c : After-no_bit_if-worth) where
   abbrev weighed : After-no_weight_if-gain
-  weighed = c.before
+  weighed = (goal.at.After-no_bit_if-worth c).After-no_weight_if-gain
 
   abbrev told : After-last_start-last
   told = weighed.before.before.before
@@ -139,7 +139,7 @@ module _ (c : After-no_bit_if-worth) where
 
 pub overflow_add-result : goal.overflow_add-result
 overflow_add-result c =
-    let d : After-no_bit_if-worth = c.before in
+    let d : After-no_bit_if-worth = (goal.at.overflow_add-result c).After-no_bit_if-worth in
     let s = start d in
     let fits = s.requires.fits in
     let most = at_most (out d) s.args.bit in
@@ -147,7 +147,7 @@ overflow_add-result c =
 
 pub overflow_sub-result : goal.overflow_sub-result
 overflow_sub-result c =
-    let d : After-no_bit_if-worth = c.before in
+    let d : After-no_bit_if-worth = (goal.at.overflow_sub-result c).After-no_bit_if-worth in
     rw (gain-is d) (step_is (tested (told d))).0
 
 -- ---- the trail before the job
@@ -159,7 +159,7 @@ same-trail e f g = rw (e, f, g)
 
 module _ (c : After-either_time) where
   abbrev given : After-no_bit_if-worth
-  given = c.before.before
+  given = (goal.at.After-either_time c).After-no_bit_if-worth
 
   time-is : to_z w32 (of_z w32 c.either_time.result)
       ≡ cond (out given) (start given).args.trail.by (last (start given))

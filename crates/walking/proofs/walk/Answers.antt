@@ -16,7 +16,7 @@ use Rattle.walking.specs.declared.End.{End}
 use Rattle.walking.specs.Trail.{Walks}
 use Rattle.walking.specs.TrailLaws.{Trails, trail-start, trail-end, CanStep, can-step}
 use Rattle.walking.proofs.walk.Goals as goal
-use Rattle.walking.proofs.walk.Goals.{After-bit_at, After-job_in-job, After-struct_told-1, In-loop-k, Start}
+use Rattle.walking.proofs.walk.Goals.{After-bit_at, After-job_in-job, In-loop-k, Start}
 
 -- What is given, with the end as the code reads it back.
 module _ (s : Start) where
@@ -33,19 +33,19 @@ module _ (s : Start) where
   walks = rw finish-back s.requires
 
 -- The stages of the code: where it starts, seen from where the end is read, and a turn, seen from where its job is read.
-abbrev start : After-struct_told-1 → Start
+abbrev start : Start → Start
 start read = read.before.before.before.before
 
 abbrev read-in : After-bit_at → After-job_in-job
 read-in c = c.before.before.before
 
 pub loop-k-init : goal.loop-k-init
-loop-k-init c = trail-start (walks (start c))
+loop-k-init c = trail-start (walks (start (goal.at.loop-k-init c).Start))
 
 -- The place of the job is one of all, below 48.
 module _ (turn : In-loop-k) where
   abbrev at-start : Start
-  at-start = start turn.before.before
+  at-start = start (goal.at.In-loop-k turn).Start
 
   place-below : turn.loop-k.k - 1 < at-start.args.n
   place-below = omega (arith, turn.loop-k.invariant.few, jobs-count (bytes at-start), at-start.requires.count)
@@ -59,28 +59,28 @@ job_in-job-requires c =
     record-in s.args.bytes.now _ s.requires.order.header (omega (arith, place-below c, s.requires.count))
 
 pub offset_bounds-places-k : goal.offset_bounds-places-k
-offset_bounds-places-k c = omega (arith, place-few c.before)
+offset_bounds-places-k c = omega (arith, place-few (goal.at.offset_bounds-places-k c).In-loop-k)
 
 pub bounds-places-k : goal.bounds-places-k
 bounds-places-k c =
-    let turn : In-loop-k = c.before.before in
+    let turn : In-loop-k = (goal.at.bounds-places-k c).In-loop-k in
     omega (arith, place-below turn, (at-start turn).requires.room_places)
 
 pub offset_bounds-counts-k : goal.offset_bounds-counts-k
-offset_bounds-counts-k c = omega (arith, place-few c.before.before)
+offset_bounds-counts-k c = omega (arith, place-few (goal.at.offset_bounds-counts-k c).In-loop-k)
 
 pub bounds-counts-k : goal.bounds-counts-k
 bounds-counts-k c =
-    let turn : In-loop-k = c.before.before.before in
+    let turn : In-loop-k = (goal.at.bounds-counts-k c).In-loop-k in
     omega (arith, place-below turn, (at-start turn).requires.room_counts)
 
 pub bit_at-requires : goal.bit_at-requires
-bit_at-requires c = let turn : In-loop-k = c.before.before.before in omega (arith, place-few turn)
+bit_at-requires c = let turn : In-loop-k = (goal.at.bit_at-requires c).In-loop-k in omega (arith, place-few turn)
 
 -- The trail, with the job at its place read.
 module _ (c : After-job_in-job) where
   abbrev turn : In-loop-k
-  turn = c.before
+  turn = (goal.at.After-job_in-job c).In-loop-k
 
   abbrev entry : Start
   entry = at-start turn
@@ -106,10 +106,10 @@ step_back-trail-requires c = rw c.bit_at.ensures (step (read-in c)).asks
 pub loop-k-preserved : goal.loop-k-preserved
 loop-k-preserved c =
     let bit = c.before in
-    (step (read-in bit)).keeps c.step_back-trail.result (rw bit.bit_at.ensures at c.step_back-trail.ensures)
+    (step (read-in (goal.at.loop-k-preserved c).After-bit_at)).keeps c.step_back-trail.result (rw bit.bit_at.ensures at c.step_back-trail.ensures)
 
 pub returns : goal.returns
 returns c =
-    let s = start c.before.before in
+    let s = start (goal.at.returns c).Start in
     let none : c.loop-k.k ≡ 0 = omega arith in
     rw (finish-back s) at (trail-end (walks s) (rw none at c.loop-k.invariant))

@@ -10,11 +10,11 @@ use Rattle.week_sheet.proofs.read_some.Goals.{After-count-n, After-feed_piece-pa
 
 pub returns : goal.returns
 returns c =
-    let f : After-feed_piece-part = c.before.before.before.before.before in
-    let n : After-count-n = f.before.before.before.before.before in
-    let r : After-read-got = n.before.before.before.before in
-    let s : Start = r.before.before.before.before.before in
+    let f : After-feed_piece-part = (goal.at.returns c).After-feed_piece-part in
+    let n : After-count-n = (goal.at.After-feed_piece-part f).After-count-n in
+    let r : After-read-got = (goal.at.After-count-n n).After-read-got in
+    let s : Start = (goal.at.After-read-got r).Start in
     let came : List ℕ = take n.count-n.result r.read-got.new.buf in
     let fed : Fed s.args.begun s.args.figures.now s.args.front.now came s.args.work.now f.feed_piece-part.result
     f.feed_piece-part.new.figures f.feed_piece-part.new.front f.feed_piece-part.new.work = f.feed_piece-part.ensures in
-    (fed, n.count-n.ensures.0.0)
+    (record { fed = fed; counted = n.count-n.ensures.0.0 })

@@ -23,13 +23,13 @@ read c = header_read c.args.bytes.now c.header_at-header.result c.header_at-head
 pub start_at-requires : goal.start_at-requires
 start_at-requires c =
     let h = c.before.before in
-    rw (t0-kept h.requires (read h)) (can-start h.requires (read h))
+    rw (t0-kept h.requires (read (goal.at.start_at-requires c).After-header_at-header)) (can-start h.requires (read (goal.at.start_at-requires c).After-header_at-header))
 
 -- The first list that was started.
-started : (c : After-start_at) → let h : After-header_at-header = c.before.before.before in
+started : (c : After-start_at) → let h : After-header_at-header = (goal.at.After-start_at c).After-header_at-header in
     Held c.start_at.new.work 0 (start_point h.header_at-header.result.t0 ∷ [])
 started c =
-    let h : After-header_at-header = c.before.before.before in
+    let h : After-header_at-header = (goal.at.After-start_at c).After-header_at-header in
     rw (t0-kept h.requires (read h)) at c.start_at.ensures
 
 -- The work area is as long as it was.
@@ -38,14 +38,14 @@ room c = search rules
 
 pub fill_last-last-requires : goal.fill_last-last-requires
 fill_last-last-requires c =
-    let s : After-start_at = c.before.before in
-    let h : After-header_at-header = s.before.before.before in
+    let s : After-start_at = (goal.at.fill_last-last-requires c).After-start_at in
+    let h : After-header_at-header = (goal.at.After-start_at s).After-header_at-header in
     can-fill h.requires (read h) (started s) (room s)
 
 pub returns : goal.returns
 returns c =
-    let f : After-fill_last-last = c.before.before.before in
-    let s : After-start_at = f.before.before.before in
-    let h : After-header_at-header = s.before.before.before in
-    let a : Start = h.before.before in
+    let f : After-fill_last-last = (goal.at.returns c).After-fill_last-last in
+    let s : After-start_at = (goal.at.After-fill_last-last f).After-start_at in
+    let h : After-header_at-header = (goal.at.After-start_at s).After-header_at-header in
+    let a : Start = (goal.at.After-header_at-header h).Start in
     weighed a.requires (read h) (started s) (room s) f.fill_last-last.ensures (to_z-of_z a.ranges.t) c.last_by.ensures

@@ -8,4 +8,4 @@ use Rattle.case_lines.proofs.told.put.Goals as goal
 pub slice_bounds-write_all-end : goal.slice_bounds-write_all-end
 slice_bounds-write_all-end c =
     let p = c.put_number-end in
-    sym (length-take-le p.result p.new.0 (omega arith))
+    sym (length-take-le p.result p.new.out (omega arith))
