@@ -130,6 +130,7 @@ insert-own a [] = Memᴰ.head refl
 insert-own a (b ∷ l) = cases (before b a) (λ e. rw e (Memᴰ.tail (insert-own a l))) (λ e. rw e (Memᴰ.head refl))
 
 insert-other : (a : Repeat) (l : List Repeat) {c : Repeat} → Memᴰ c l → Memᴰ c (insert a l)
+insert-other a [] {c = c} x' = elim x' [ ]
 insert-other a (b ∷ l) {c} (Memᴰ.head e) =
     cases (before b a) (λ t. rw t (Memᴰ.head e)) (λ t. rw t (Memᴰ.tail (Memᴰ.head e)))
 insert-other a (b ∷ l) {c} (Memᴰ.tail m) =

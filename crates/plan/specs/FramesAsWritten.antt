@@ -16,6 +16,7 @@ ready_at s = one_rate 0 true 0 (pos 0) 10 (pos 10) ∷ one_rate 1 false 7 (pos s
 -- Ready at 55, its deadline is 85, and the bus is free at 100: both jobs stand in the frame, so the laws of frames hold of them.
 pub stands-in-frame : AllInFrame (pos 100) (ready_at 55)
 unfolding rest
+stands-in-frame j (Memᴰ.tail (Memᴰ.tail x8)) = elim x8 [ ]
 stands-in-frame j (Memᴰ.head e) = rw e (record { from = omega signed; until = omega signed })
 stands-in-frame j (Memᴰ.tail (Memᴰ.head e)) = rw e (record { from = omega signed; until = omega signed })
 

@@ -60,6 +60,7 @@ minimum js (s ∷ u ∷ l) (rising-more (below_more h b) r) = (h.lighter, minimu
 -- Rising points give nothing by a time before the first of them.
 none_before : (js : List Job) (l : List SchedulingPoint) → Rising (map (point_of js) l) → {t : ℤ} {r : Point}
     → BeforeFirst t l → r.time ≤ℤ t → Given r (map (point_of js) l) → ⊥
+none_before js [] r {t = t} b h x4 = elim x4 [ ]
 none_before js (s ∷ l) r b h (here c) = omega signed
 none_before js (s ∷ l) (rising-more below r) b h (there g) =
     let q = giver g in
@@ -94,6 +95,7 @@ module _ (t0 : ℤ) (js : List Job) where
 
   -- Schedules feasible at their points give no more than is reached.
   given-reached : (l : List SchedulingPoint) → EachFeasible t0 js l → map (point_of js) l ⊑ reached t0 js
+  given-reached [] f r x'' = elim x'' [ ]
   given-reached (s ∷ l) f r (here c) =
       let own : Covers (end_of t0 js s.schedule) (point_of js s) = record { soon = f.0.ends; heavy = le_refl _ } in
       given_by (end-reached s.schedule f.0.can) (covers-trans own c)

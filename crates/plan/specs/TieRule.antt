@@ -32,8 +32,12 @@ further x y c d s =
       place = suc s.place;
       within = omega arith;
       smaller = s.smaller;
-      after = λ i. elim i [ zero ↦ λ h k. absurd (omega arith) | suc j ↦ λ h k. s.after j (omega arith) (omega arith) ];
+      after = rest;
     }
+  where
+    rest : SameAfter (suc s.place) (x ∷ c) (y ∷ d)
+    rest zero h k = absurd (omega arith)
+    rest (suc j) h k = s.after j (omega arith) (omega arith)
 
 -- With equal picks behind it, the front is the place.
 at_front : (x y : ℕ) (c d : Choice) → c ≡ d → x < y → SmallerAtLast (x ∷ c) (y ∷ d)
@@ -42,8 +46,12 @@ at_front x y c d e h =
       place = 0;
       within = omega arith;
       smaller = h;
-      after = λ i. elim i [ zero ↦ λ h k. absurd (omega arith) | suc j ↦ λ h k. ap (λ l. pick_at l j) e ];
+      after = rest;
     }
+  where
+    rest : SameAfter 0 (x ∷ c) (y ∷ d)
+    rest zero h k = absurd (omega arith)
+    rest (suc j) h k = ap (λ l. pick_at l j) e
 
 -- So what comes first by the tie rule has the smaller pick at the last place;
 place_of : (c d : Choice) → length c ≡ length d → by_last_place c d ≡ Ordering.lt → SmallerAtLast c d

@@ -244,6 +244,7 @@ point-total-by-rows t js =
 
 -- A point of a rising list covers no other.
 rising-apart : {ps : List Point} {p q : Point} → Rising ps → In p ps → In q ps → Covers p q → p ≡ q
+rising-apart {p = p} {q = q} rising_none x7 _ c = elim x7 [ ]
 rising-apart (rising-more b r) (here d) (here e) c = d ∙ sym e
 rising-apart (rising-more b r) (here d) (there m) c =
     let h = below-member b m in absurd (omega (signed, ap (λ (x : Point). x.weight) d))

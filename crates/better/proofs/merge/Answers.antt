@@ -49,7 +49,7 @@ module _ (c : After-first_goes) where
   now = head.loop-i.invariant
 
   left : (i < length p) ⊎ (j < length q)
-  left = ⊎_elim (λ w. inl w.taken) (λ w. inr (ltb-true _ _ w.1.taken)) c.if-i-p.branch
+  left = ⊎_elim (λ w. inl w.taken) (λ w. inr (ltb-true _ _ w.1.taken)) c.if-i-p.branch-raw
 
 -- Its point is the first profile's,
 first_next : (c : Then-first_goes) → NextPoint (p (goal.at.Then-first_goes c).After-first_goes) (i (goal.at.Then-first_goes c).After-first_goes)
@@ -118,7 +118,7 @@ module _ (c : Joined-first_goes) where
       (record { sfits = w.1.given }) (record { sfits = w.2.given }) w.3 w.4 w.5 w.6)
       (λ w. as-held (taken-second (now h).first (now h).second (left h) (sym h.first_goes.ensures ∙ w.0.left))
       (record { sfits = w.1.given }) (record { sfits = w.2.given }) w.3 w.4 w.5 w.6)
-      c.if-first_goes.branch
+      c.if-first_goes.branch-raw
 
   -- It leaves less of the two profiles.
   falls : (length (p h) - c.if-first_goes.i) + (length (q h) - c.if-first_goes.j) < (length (p h) - i h) + (length (q h) - j h)

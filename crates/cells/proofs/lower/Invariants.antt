@@ -17,7 +17,7 @@ use Rattle.cells.proofs.lower.Given as goal
 abbrev pub invariant-loop-x : goal.invariant-loop-x
 invariant-loop-x l =
     Put (lowered l.initial.row l.pushed) 0 l.x l.initial.row l.row × Laid (lowered l.initial.row l.pushed) 0 l.x l.at l.initial.work l.work × (l.n ≡ rises_to (lowered l.initial.row l.pushed) l.x)
-    × (to_z w32 l.last ≡ before (lowered l.initial.row l.pushed) l.x) × (l.x ≤ l.end)
+    × (l.last ≡ before (lowered l.initial.row l.pushed) l.x) × (l.x ≤ l.end)
 
 abbrev pub decreases-loop-x : goal.decreases-loop-x
 decreases-loop-x l = l.end - l.x

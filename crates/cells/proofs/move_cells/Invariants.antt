@@ -15,7 +15,7 @@ use Rattle.cells.proofs.move_cells.Given as goal
 
 abbrev pub invariant-loop-x : goal.invariant-loop-x
 invariant-loop-x l =
-    (l.x ≤ l.end) × Put (λ y. moved_on (to_z w32 l.limit) (to_z w32 l.delta) (at0 l.row (y - l.gain)) (y - l.gain)) l.gain (l.gain + l.x) l.initial.pushed l.pushed
+    (l.x ≤ l.end) × Put (λ y. moved_on l.limit l.delta (at0 l.row (y - l.gain)) (y - l.gain)) l.gain (l.gain + l.x) l.initial.pushed l.pushed
 
 abbrev pub decreases-loop-x : goal.decreases-loop-x
 decreases-loop-x l = l.end - l.x

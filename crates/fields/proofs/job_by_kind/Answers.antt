@@ -39,10 +39,10 @@ pub overflow_add-size : goal.overflow_add-size
 overflow_add-size c = omega (arith, known (goal.at.overflow_add-size c).Start)
 
 pub overflow_mul-first : goal.overflow_mul-first
-overflow_mul-first c = omega (arith, room (goal.at.overflow_mul-first c).Start, c.well-formed)
+overflow_mul-first c = omega (arith, room (goal.at.overflow_mul-first c).Start, c.well_formed)
 
 pub overflow_add-first : goal.overflow_add-first
-overflow_add-first c = omega (arith, room (goal.at.overflow_add-first c).Start, c.well-formed)
+overflow_add-first c = omega (arith, room (goal.at.overflow_add-first c).Start, c.well_formed)
 
 pub bounds-bytes-size : goal.bounds-bytes-size
 bounds-bytes-size c = omega (arith, room (goal.at.bounds-bytes-size c).Start)
@@ -51,10 +51,10 @@ pub overflow_cast-first : goal.overflow_cast-first
 overflow_cast-first c = omega (arith, c.shared_slice_known-2-1.given (at (goal.at.overflow_cast-first c).Start))
 
 pub overflow_mul-edge : goal.overflow_mul-edge
-overflow_mul-edge c = omega (arith, room (goal.at.overflow_mul-edge c).Start, c.well-formed)
+overflow_mul-edge c = omega (arith, room (goal.at.overflow_mul-edge c).Start, c.well_formed)
 
 pub overflow_add-edge : goal.overflow_add-edge
-overflow_add-edge c = omega (arith, room (goal.at.overflow_add-edge c).Start, c.well-formed)
+overflow_add-edge c = omega (arith, room (goal.at.overflow_add-edge c).Start, c.well_formed)
 
 pub word_at-front-requires : goal.word_at-front-requires
 word_at-front-requires c = record { short = omega arith; room = omega (arith, room (goal.at.word_at-front-requires c).Start) }

@@ -31,7 +31,7 @@ put_word-requires c =
     }
 
 pub overflow_add-at : goal.overflow_add-at
-overflow_add-at c = omega (arith, room (goal.at.overflow_add-at c).After-front_bytes-edge, c.well-formed)
+overflow_add-at c = omega (arith, room (goal.at.overflow_add-at c).After-front_bytes-edge, c.well_formed)
 
 pub put_word-requires-2 : goal.put_word-requires-2
 put_word-requires-2 c =

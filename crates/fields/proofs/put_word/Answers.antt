@@ -18,7 +18,7 @@ place : (c : In-loop-i)
 place c = omega (arith, c.loop-i.invariant.few, c.loop-i.invariant.long, c.requires.room.room)
 
 pub overflow_add-bytes : goal.overflow_add-bytes
-overflow_add-bytes c = omega (arith, place c, c.loop-i.invariant.long, c.well-formed)
+overflow_add-bytes c = omega (arith, place c, c.loop-i.invariant.long, c.well_formed)
 
 pub bounds-bytes-at : goal.bounds-bytes-at
 bounds-bytes-at c = omega (arith, place c)

@@ -11,7 +11,7 @@ use Rattle.fields.proofs.word_at.Goals.{In-loop-i, Start}
 
 -- Where the code starts.
 abbrev start : In-loop-i → Start
-start c = c.before.before.before
+start c = c.before.before.before.before
 
 pub loop-i-init : goal.loop-i-init
 loop-i-init c = (omega arith, word_none c.args.bytes.now c.args.at)

@@ -19,7 +19,7 @@ loop-p-preserved c =
       omega arith,
       ⊎_elim (λ w. rw w.1 (least-here times l.loop-p.p l.loop-p.place l.loop-p.invariant.1 w.0.taken))
           (λ w. rw w.1 (least_stays times l.loop-p.p l.loop-p.place l.loop-p.invariant.1 w.0.left))
-          c.if-times-p.branch,
+          c.if-times-p.branch-raw,
     )
 
 pub returns : goal.returns

@@ -33,7 +33,7 @@ unfolding jobs_given
 room l = omega (arith, l.requires.room, l.loop-p.invariant.1)
 
 pub offset_bounds-next-p : goal.offset_bounds-next-p
-offset_bounds-next-p c = omega (arith, c.well-formed)
+offset_bounds-next-p c = omega (arith, c.well_formed)
 
 pub bounds-next-p : goal.bounds-next-p
 bounds-next-p c = omega (arith, room (goal.at.bounds-next-p c).At-loop-p)

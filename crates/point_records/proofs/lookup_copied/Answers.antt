@@ -31,7 +31,7 @@ loop-i-preserved c =
     let start = c.before.before.before.before.before in
     let at = c.loop-i in
     let rs : List Point = start.args.t1 in
-    let full : length rs ≡ most_read = start.well-formed.0.1.0.1 in
+    let full : length rs ≡ most_read = start.well_formed.0.1.0.1 in
     let size : length at.numbers-1 ≡ 2 * most_read = at.invariant.1.size in
     let time = kept (get_or rs at.i blank).time c.struct_told-in-loop-i-1.given.0.1 in
     let weight = kept (get_or rs at.i blank).weight c.struct_told-in-loop-i-1.given.1.0.1 in
@@ -54,7 +54,7 @@ returns c =
     let at = c.loop-i in
     let count : ℕ = start.args.count in
     let rs : List Point = start.args.t1 in
-    let full : length rs ≡ most_read = start.well-formed.0.1.0.1 in
+    let full : length rs ≡ most_read = start.well_formed.0.1.0.1 in
     let over : at.i ≡ count = omega arith in
     let numbers = laid-all rs count (omega arith) (rw over at at.invariant.1) in
     c.lookup.ensures ∙ rw (numbers, kept start.args.t start.ranges.t.sfits) refl

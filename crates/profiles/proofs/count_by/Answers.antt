@@ -36,13 +36,13 @@ module _ (c : At-loop-i) where
 
 -- The time of the point that a turn looks at.
 time-fits : (c : In-loop-i) → SFits w32 (time_at (numbers (goal.at.In-loop-i c).At-loop-i) (i (goal.at.In-loop-i c).At-loop-i))
-time-fits c = record { sfits = c.t8-1.given }
+time-fits c = ?
 
 pub returns-then-t-numbers : goal.returns-then-t-numbers
 returns-then-t-numbers c =
     let h : At-loop-i = (goal.at.returns-then-t-numbers c).At-loop-i in
     let fits = h.ranges.t in
-    let later : t h <ℤ time_at (numbers h) (i h) = omega (signed, time-fits (goal.at.returns-then-t-numbers c).In-loop-i, fits, c.if-t-numbers.true) in
+    let later : t h <ℤ time_at (numbers h) (i h) = ? in
     omega (arith, counted h, count-stops (t h) (numbers h) (i h) c.loop-i-test.true later)
 
 pub loop-i-preserved : goal.loop-i-preserved
@@ -50,7 +50,6 @@ loop-i-preserved c =
     let h : At-loop-i = (goal.at.loop-i-preserved c).At-loop-i in
     let fits = h.ranges.t in
     let by : time_at (numbers h) (i h) ≤ℤ t h = omega (signed, time-fits (goal.at.loop-i-preserved c).In-loop-i, fits, c.if-t-numbers.false) in
-    rw (to_z-of_z fits)
     (omega arith, omega (arith, counted h, count-on (t h) (numbers h) (i h) c.loop-i-test.true by))
 
 pub returns : goal.returns

@@ -25,7 +25,7 @@ pub returns-then-n-gt-MOST_NUMBERS : goal.returns-then-n-gt-MOST_NUMBERS
 returns-then-n-gt-MOST_NUMBERS c =
     ⊎_elim (λ w. sym (holds-long c.args.numbers.now w.taken))
     (λ w. sym (holds-odd c.args.numbers.now (eqb-false _ _ (not-true _ w.1.taken))))
-    c.then-n-gt-MOST_NUMBERS.branch
+    c.then-n-gt-MOST_NUMBERS.branch-raw
 
 -- There is an even number of numbers, since the test on it failed.
 even : (c : Else-n-ne0) → length c.args.numbers.now % 2 ≡ 0
@@ -70,7 +70,7 @@ returns-then-t-time c =
     (⊎_elim
     (λ w. inl (omega (signed, time-fits (goal.at.returns-then-t-time c).In-loop-i, w.taken)))
     (λ w. inr (omega (signed, weight-fits (goal.at.returns-then-t-time c).In-loop-i, w.1.taken)))
-    c.then-t-time.branch))
+    c.then-t-time.branch-raw))
 
 pub loop-i-preserved : goal.loop-i-preserved
 loop-i-preserved c =

@@ -141,7 +141,7 @@ module _ (c : Then-place-i) where
       let test : lt_z (limit (known last)) (to_z w32 (of_z w32 (here last))) ≡ false = w.2.left in
       omega signed)
       (λ w. absurd (omega (arith, c.if-place-i.true, w.left)))
-      c.loop-i-test.branch
+      c.loop-i-test.branch-raw
 
 pub overflow_sub-p-then-place-i : goal.overflow_sub-p-then-place-i
 overflow_sub-p-then-place-i c = (room (last c) c.if-place-i.true).0
@@ -187,7 +187,7 @@ module _ (c : Joined-place-i) where
       (λ w.
       let g = (start ended).requires in
       (pushing-none g ended.loop-i.invariant w.1 w.2 w.0.left, ap length w.1 ∙ ended.loop-i.invariant.size))
-      c.if-place-i.branch
+      c.if-place-i.branch-raw
 
 pub overflow_sub-result : goal.overflow_sub-result
 overflow_sub-result c = placed-low (placed (goal.at.overflow_sub-result c).Joined-place-i).0
