@@ -54,7 +54,7 @@ module _ (c : After-start_at-start) where
   start = start_from entry.args.plan.now entry.args.k
 
   start_is : to_z w32 (of_z w32 c.start_at-start.result) ≡ start
-  start_is = to_z-of_z (record { sfits = c.start_at-start.type_inv }) ∙ c.start_at-start.ensures
+  start_is = to_z-of_z (search rules) ∙ c.start_at-start.ensures
 
   sum_is : to_z w32 (of_z w32 c.start_at-start.result) +ℤ to_z w32 (of_z w32 entry.args.job.length) ≡ start +ℤ entry.args.job.length
   sum_is = ap₂ (λ x y. x +ℤ y) start_is (to_z-of_z (fitting entry).long)
@@ -96,7 +96,7 @@ returns-then-free-start c =
     let d = c.before.before in
     let e = entry (goal.at.returns-then-free-start c).After-start_at-start in
     let free : to_z w32 (of_z w32 c.rested.result) ≡ (start (goal.at.returns-then-free-start c).After-start_at-start +ℤ e.args.job.length) +ℤ pos rest =
-    to_z-of_z (record { sfits = c.rested.type_inv }) ∙ c.rested.ensures ∙ ap (λ (z : ℤ). z +ℤ pos rest) (end_back (goal.at.returns-then-free-start c).After-start_at-start) in
+    to_z-of_z (search rules) ∙ c.rested.ensures ∙ ap (λ (z : ℤ). z +ℤ pos rest) (end_back (goal.at.returns-then-free-start c).After-start_at-start) in
     ap (λ z. record { fine = true; next = e.args.k + 1; free = z }) free
     ∙ sym (turn-legal e.args.job (facts e) (start (goal.at.returns-then-free-start c).After-start_at-start) e.args.free (start-in e.args.plan.now e.args.k) e.args.k
     (sym (tested (goal.at.returns-then-free-start c).After-start_at-start) ∙ c.if-free-start.true))

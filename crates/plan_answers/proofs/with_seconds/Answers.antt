@@ -8,5 +8,5 @@ use Rattle.plan_answers.proofs.with_seconds.Goals as goal
 
 pub returns : goal.returns
 returns c =
-    let fits : SFits w32 c.args.plan.finish = record { sfits = c.struct_told-1.given.1.1.1.1.1.1.1.0.1 } in
+    let fits : SFits w32 c.args.plan.finish = search rules in
     rw (to_z-of_z fits) refl

@@ -37,7 +37,7 @@ put_kept-kept-requires c =
     let l : At-loop-place = (goal.at.put_kept-kept-requires c).At-loop-place in
     let w : After-put_word = (goal.at.At-loop-place l).After-put_word in
     let s = entry w in
-    rw (to_z-of_z (record { sfits = c.start-1.given }))
+    rw (to_z-of_z (search rules))
     (kept-room w.put_word.new.bytes s.args.mask s.args.starts.now (room w) l.loop-place.bytes l.loop-place.auto l.loop-place.place
     l.loop-place.invariant c.loop-place-test.true)
 
@@ -50,8 +50,8 @@ loop-place-preserved c =
     let s = entry w in
     writing-on w.put_word.new.bytes s.args.mask s.args.starts.now (room w) l.loop-place.bytes l.loop-place.auto l.loop-place.place
     l.loop-place.invariant turn.loop-place-test.true k.put_kept-kept.new.bytes k.put_kept-kept.result
-    (rw (to_z-of_z (record { sfits = k.start-1.given })) at k.put_kept-kept.ensures.counts)
-    (rw (to_z-of_z (record { sfits = k.start-1.given })) at k.put_kept-kept.ensures.writes)
+    (rw (to_z-of_z (search rules)) at k.put_kept-kept.ensures.counts)
+    (rw (to_z-of_z (search rules)) at k.put_kept-kept.ensures.writes)
 
 pub plan_bytes-requires : goal.plan_bytes-requires
 plan_bytes-requires c =

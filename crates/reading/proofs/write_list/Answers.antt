@@ -27,7 +27,7 @@ module _ (c : In-loop-k) where
   number = at0 s.args.work.now (s.args.place + c.loop-k.k)
 
   fits : SFits w32 number
-  fits = record { sfits = c.code-1.given }
+  fits = search rules
 
   there : pos 0 ≤ℤ number
   there = number-there s.args.count s.requires.held c.loop-k.k (omega arith)
@@ -54,7 +54,7 @@ loop-k-preserved c =
     let r = t.before.before in
     let l = r.loop-k in
     let p = point_of (number (goal.at.loop-k-preserved c).In-loop-k) in
-    let f : SFits w32 t.time_in.result = record { sfits = t.time_in.type_inv } in
+    let f : SFits w32 t.time_in.result = search rules in
     let x = to_z w32 (of_z w32 t.time_in.result) in
     let y = to_z w32 w.weight_in.result in
     let time : x ≡ p.time = to_z-of_z f ∙ t.time_in.ensures ∙ ap (λ (z : ℤ). (point_of z).time) (to_z-of_z (fits (goal.at.loop-k-preserved c).In-loop-k)) in

@@ -19,7 +19,7 @@ rested-requires c = omega signed
 module _ (c : After-rested) where
   end_is : to_z w32 (of_z w32 c.args.by) -ℤ to_z w32 (of_z w32 c.rested.result) ≡ c.args.by -ℤ pos rest
   end_is =
-      let f : SFits w32 c.rested.result = record { sfits = c.rested.type_inv } in
+      let f : SFits w32 c.rested.result = search rules in
       let r : to_z w32 (of_z w32 c.rested.result) ≡ pos rest = omega (signed, c.rested.ensures, add_is (pos 0) (pos rest)) in
       ap₂ (λ x y. x -ℤ y) (to_z-of_z c.ranges.by) r
 
@@ -39,7 +39,7 @@ module _ (c : After-lesser) where
 
   last-is : to_z w32 (of_z w32 c.lesser.result) ≡ min_z entry.args.deadline end
   last-is =
-      to_z-of_z (record { sfits = c.lesser.type_inv })
+      to_z-of_z (search rules)
       ∙ c.lesser.ensures
       ∙ ap₂ min_z (to_z-of_z entry.fits.deadline) (to_z-of_z (end_fits (goal.at.After-lesser c).After-rested) ∙ end_is (goal.at.After-lesser c).After-rested)
 
