@@ -11,7 +11,7 @@ use Rattle.seconds.specs.Ranges.{InFree}
 use Rattle.seconds.specs.Signed.{signed}
 use Rattle.order.specs.Job.{Point}
 use Rattle.profile.specs.Profile.{lookup, last_point}
-use Rattle.profile.specs.Rising.{below-member, Rising, rising-more}
+use Rattle.profile.proofs.Rising.{below-member, Rising, rising-more}
 use Rattle.codes.specs.Code.{code, limit_of, at0}
 use Rattle.codes.specs.CodeLaws.{code_below, limit-early, limit-late}
 use Rattle.codes.specs.Held.{Held, held_none, held_more, After}

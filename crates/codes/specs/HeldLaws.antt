@@ -5,7 +5,7 @@ use mathlib.Core.List.Memᴰ.{head}
 use mathlib.Core.List.Memᴰ.{tail}
 use mathlib.Core.List.{List, ◌∷◌, ◌++◌, Memᴰ as In}
 use Rattle.order.specs.Job.{Point}
-use Rattle.profile.specs.Closure.{PointWithin}
+use Rattle.profile.proofs.Closure.{PointWithin}
 use Rattle.codes.specs.Code.{code, point_of, at0, list_at}
 use Rattle.codes.specs.CodeLaws.{point-back}
 use Rattle.codes.specs.Held.{Held, held_none, held_more}

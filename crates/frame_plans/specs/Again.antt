@@ -10,12 +10,12 @@ use denote.Triple.Entry.{Args}
 use Rattle.order.specs.Job.{Job, Order}
 use Rattle.order.specs.Choice.{Choice, feasible}
 use Rattle.plan.specs.Frames.{best_kept, two_frames, frames}
-use Rattle.plan.specs.FramesLaws.{frames-best, two-frames-best, two-frames-none}
+use Rattle.plan.proofs.FramesLaws.{frames-best, two-frames-best, two-frames-none}
 use Rattle.packed.specs.Judge.{fine, judge}
 use Rattle.packed.specs.Packed.{jobs_of, order_of}
 use Rattle.packed.specs.Refusals.{order_checks}
 use Rattle.frames.specs.Frames.{frame_of, frame_numbers, making_checks}
-use Rattle.frames.specs.FrameLaws.{making-fine, inside-frame}
+use Rattle.frames.proofs.FrameLaws.{making-fine, inside-frame}
 use Rattle.planner.specs.Calls.{plan_numbers}
 use Rattle.planner.proofs.Planning.{Planning}
 use Rattle.planner.proofs.Outcomes.{planning-says}

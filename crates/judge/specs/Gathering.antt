@@ -15,10 +15,10 @@ use Rattle.packed.specs.Places.{each, first}
 use Rattle.packed.specs.PlacesLaws.{each-end, first_on, first-here, first-end}
 use Rattle.packed.specs.Judge.{fine, judge}
 use Rattle.packed.specs.Packed.{job_fields, header_of, count_of, numbers_of, job_count, fields_at, the_weight, job_at, jobs_of}
-use Rattle.packed.specs.PackedLaws.{numbers-count, fields-of-numbers, whole-count}
+use Rattle.packed.proofs.PackedLaws.{numbers-count, fields-of-numbers, whole-count}
 use Rattle.packed.specs.Refusals.{header_checks, fields_within, bad_field, bad_at, first_bad, number_at}
-use Rattle.packed.specs.RefusalLaws.{header-fine}
-use Rattle.packed.specs.Steps.{bad-from-0, weights-on}
+use Rattle.packed.proofs.RefusalLaws.{header-fine}
+use Rattle.packed.proofs.Steps.{bad-from-0, weights-on}
 use Rattle.fields.specs.Fields.{fields_of, header_fields}
 use Rattle.fields.specs.Asked.{RecordIn}
 use Rattle.fields.specs.Facts.{job-facts, record-in, read-from, header_read}

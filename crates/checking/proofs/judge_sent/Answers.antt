@@ -6,7 +6,7 @@ use borrow.Author.Rules.{rules}
 use Rattle.packed.specs.Judge.{fine, judge}
 use Rattle.packed.specs.Packed.{count_of}
 use Rattle.packed.specs.Refusals.{order_checks}
-use Rattle.packed.specs.Accepted.{OrderFine, order-fine}
+use Rattle.packed.proofs.Accepted.{OrderFine, order-fine}
 use Rattle.fields.specs.Facts.{header_read}
 use Rattle.judge.specs.Told.{told-fine}
 use Rattle.checking.specs.CallLaws.{stopped-by-order, judged-by-plan}

@@ -3,7 +3,7 @@
 use mathlib.Core.Path.{sym, ◌∙◌}
 use borrow.Author.Rules.{rules}
 use Rattle.judge.specs.Told.{told-fine}
-use Rattle.extending.specs.CallLaws.{seven, extend-stopped}
+use Rattle.extending.proofs.CallLaws.{seven, extend-stopped}
 use Rattle.extending.proofs.extend.Goals as goal
 use Rattle.extending.proofs.extend.Goals.{After-judge_jobs, In-Fine}
 

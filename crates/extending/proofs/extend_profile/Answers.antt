@@ -7,7 +7,7 @@ use borrow.Author.Rules.{rules}
 use borrow.Author.Tests.{not-true, not-false}
 use Rattle.profiles.specs.Numbers.{holds_profile}
 use Rattle.filling.specs.BeginLaws.{last-light}
-use Rattle.extending.specs.CallLaws.{extend-passed, extend-not-valid, extend-too-heavy}
+use Rattle.extending.proofs.CallLaws.{extend-passed, extend-not-valid, extend-too-heavy}
 use Rattle.extending.proofs.extend_profile.Goals as goal
 use Rattle.extending.proofs.extend_profile.Goals.{After-judge_weight, After-last_weight-before, Else-not-valid, In-Fine, Start}
 

@@ -10,7 +10,7 @@ use mir.Syntax.{w32}
 use mir.Val.{SFits}
 use mir.Facts.{to_z-of_z}
 use borrow.Author.Rules.{rules}
-use Rattle.packed.specs.LayoutLaws.{AreBytes}
+use Rattle.packed.proofs.LayoutLaws.{AreBytes}
 use Rattle.fields.specs.Asked.{WordIs}
 use Rattle.fields.specs.Words.{job-words}
 use Rattle.fields.specs.Facts.{record-known, record-room, record-says}

@@ -3,7 +3,7 @@
 use mathlib.Core.Path.{sym}
 use native.Mathlib.Omega.{arith}
 use borrow.Author.Rules.{rules}
-use Rattle.packed.specs.PackedLaws.{kind-byte}
+use Rattle.packed.proofs.PackedLaws.{kind-byte}
 use Rattle.fields.proofs.kind_in.Goals as goal
 
 pub overflow_cast-result : goal.overflow_cast-result

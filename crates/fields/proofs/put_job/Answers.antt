@@ -7,7 +7,7 @@ use native.Mathlib.Omega.{arith}
 use lib.ListN.{length, take, drop}
 use borrow.Author.Rules.{rules}
 use Rattle.packed.specs.Layout.{bytes_of, front_bytes, record_bytes}
-use Rattle.packed.specs.LayoutLaws.{record-front}
+use Rattle.packed.proofs.LayoutLaws.{record-front}
 use Rattle.fields.specs.Words.{words-written}
 use Rattle.fields.specs.Bits.{front-small, front-least, back-small, record-parts}
 use Rattle.fields.proofs.put_job.Goals as goal

@@ -9,7 +9,7 @@ use Rattle.packed.specs.JudgeLaws.{stages-fine}
 use Rattle.packed.specs.Packed.{numbers_of}
 use Rattle.packed.specs.Refusals.{order_checks, halves_checks}
 use Rattle.judge.specs.Told.{told-fine}
-use Rattle.halves.specs.CallLaws.{halves-stopped, plan-light, halves-done}
+use Rattle.halves.proofs.CallLaws.{halves-stopped, plan-light, halves-done}
 use Rattle.halves.proofs.plan_halves.Goals as goal
 use Rattle.halves.proofs.plan_halves.Goals.{After-judge_order_of_halves, After-plan_order, In-Fine, Start}
 

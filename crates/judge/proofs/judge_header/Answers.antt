@@ -15,10 +15,10 @@ use borrow.Author.Rules.{rules}
 use borrow.Author.Tests.{lt-ltb, le-ltb, eq-eqb, ne_eqb, not-true, not-false}
 use Rattle.seconds.specs.Ranges.{is_time}
 use Rattle.packed.specs.Layout.{record_bytes}
-use Rattle.packed.specs.LayoutLaws.{bytes-few}
+use Rattle.packed.proofs.LayoutLaws.{bytes-few}
 use Rattle.packed.specs.Judge.{plainly, refused, judge}
 use Rattle.packed.specs.Refusals.{header_checks}
-use Rattle.packed.specs.Steps.{header-judge}
+use Rattle.packed.proofs.Steps.{header-judge}
 use Rattle.fields.specs.Facts.{HeaderRead, header_read}
 use Rattle.fields.specs.declared.Header.{Header}
 use Rattle.judge.specs.Verdicts.{kind_judged}

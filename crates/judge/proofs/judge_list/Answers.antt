@@ -12,7 +12,7 @@ use borrow.Author.Tests.{lt-ltb, le-ltb, eq-eqb, ne_eqb, not-true, not-false}
 use Rattle.seconds.specs.Ranges.{is_time}
 use Rattle.packed.specs.Judge.{plainly, fine, refused, judge}
 use Rattle.packed.specs.Refusals.{list_checks}
-use Rattle.packed.specs.Steps.{list-judge}
+use Rattle.packed.proofs.Steps.{list-judge}
 use Rattle.judge.proofs.judge_list.Goals as goal
 use Rattle.judge.proofs.judge_list.Goals.{After-is_time, Start}
 

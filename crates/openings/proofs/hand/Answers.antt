@@ -11,7 +11,7 @@ use borrow.Author.Rules.{part_to_end}
 use Rattle.ties.specs.Winning.{rule_of}
 use Rattle.choosing.specs.Choosing.{Asked, winner_of}
 use Rattle.ties.specs.declared.Chosen.{Chosen}
-use Rattle.choosing.specs.ChoosingLaws.{headers-there, handed}
+use Rattle.choosing.proofs.ChoosingLaws.{headers-there, handed}
 use Rattle.openings.proofs.hand.Goals as goal
 use Rattle.openings.proofs.hand.Goals.{After-ask, Start}
 

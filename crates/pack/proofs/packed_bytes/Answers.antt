@@ -5,7 +5,7 @@ use Prim.Native.Nat.{◌+◌, ◌*◌, ◌≤◌}
 use native.Mathlib.Nat.{mul-le-mul}
 use native.Mathlib.Omega.{arith}
 use borrow.Author.Rules.{rules}
-use Rattle.packed.specs.LayoutLaws.{bytes-few}
+use Rattle.packed.proofs.LayoutLaws.{bytes-few}
 use Rattle.pack.proofs.packed_bytes.Goals as goal
 use Rattle.pack.proofs.packed_bytes.Goals.{After-record_bytes}
 

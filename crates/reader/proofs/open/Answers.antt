@@ -5,7 +5,7 @@ use borrow.Author.Rules.{rules}
 use Rattle.packed.specs.Judge.{fine, judge}
 use Rattle.packed.specs.Packed.{count_of}
 use Rattle.packed.specs.Refusals.{header_checks}
-use Rattle.packed.specs.RefusalLaws.{header-fine}
+use Rattle.packed.proofs.RefusalLaws.{header-fine}
 use Rattle.fields.specs.Facts.{header_read}
 use Rattle.judge.specs.Told.{told-fine, refusal-told}
 use Rattle.reader.specs.Reading.{opened_by}

@@ -11,11 +11,11 @@ use Rattle.packed.specs.declared.Refusal.{Refusal}
 use Rattle.packed.specs.Judge.{in_field, plainly}
 use Rattle.packed.specs.Packed.{count_of, job_fields}
 use Rattle.packed.specs.Refusals.{fields_within, bad_field}
-use Rattle.packed.specs.FieldLaws.{no-field-within}
+use Rattle.packed.proofs.FieldLaws.{no-field-within}
 use Rattle.fields.specs.Fields.{fields_of}
 use Rattle.fields.specs.Facts.{record-in}
 use Rattle.fields.specs.declared.Job.{Job}
-use Rattle.reader.specs.ReadingLaws.{made_again, step_end, step-job, step-bad, OpenFine, open-accepted, open-refused}
+use Rattle.reader.proofs.ReadingLaws.{made_again, step_end, step-job, step-bad, OpenFine, open-accepted, open-refused}
 use Rattle.reader.specs.declared.Read.TheVariants as Read
 use Rattle.reader.specs.declared.Moved.{Moved}
 use Rattle.reader.proofs.step.Goals as goal

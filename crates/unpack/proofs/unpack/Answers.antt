@@ -8,7 +8,7 @@ use mir.Facts.{to_z-of_z}
 use borrow.Author.Rules.{rules}
 use Rattle.packed.specs.Judge.{fine, judge}
 use Rattle.packed.specs.Refusals.{order_checks}
-use Rattle.packed.specs.Accepted.{order-fine}
+use Rattle.packed.proofs.Accepted.{order-fine}
 use Rattle.fields.specs.Facts.{header_read}
 use Rattle.fields.specs.declared.Header.{Header}
 use Rattle.judge.specs.Told.{told-fine}
