@@ -9,7 +9,7 @@ use Rattle.order.specs.Choice.{outcomes}
 use Rattle.order.specs.Given.{Covers, Given, here, there, ◌⊑◌, Same}
 use Rattle.order.specs.Easier.{NoLower, EasierJobs}
 use Rattle.order.proofs.EasierLaws.{same-jobs}
-use Rattle.order.proofs.Runs.{run-monotone}
+use Rattle.order.proofs.Runs.{easier-run}
 use Rattle.order.proofs.Outcomes.{outcome-of, outcome-in, outcomes-then, then-outcomes}
 
 -- ---- covering
@@ -81,13 +81,17 @@ pub ⊑-append : {ps ps' qs qs' : List Point} → ps ⊑ ps' → qs ⊑ qs' → 
     ⊎_elim (λ l. given-left qs' (h r l)) (λ l. given-right ps' (k r l)) (given-either ps g)
 
 -- Easier jobs, or the same, keep it so: moves are monotone.
-pub ⊑-outcomes : {new old : List Job} → EasierJobs NoLower new old → {ps qs : List Point} → ps ⊑ qs
+pub easier-outcomes : {new old : List Job} → EasierJobs NoLower new old → {ps qs : List Point} → ps ⊑ qs
     → outcomes old ps ⊑ outcomes new qs
-⊑-outcomes {new} {old} e {ps} {qs} h = ⊑-by λ (r : Point) (m : Memᴰ r (outcomes old ps)).
+easier-outcomes {new} {old} e {ps} {qs} h = ⊑-by λ (r : Point) (m : Memᴰ r (outcomes old ps)).
     let o = outcome-of old ps m in
     let k = giver (h o.from (given-own o.listed)) in
-    let n = run-monotone e o.choice k.0 o.from k.2 o.gives in
+    let n = easier-run e o.choice k.0 o.from k.2 o.gives in
     given_by (outcome-in new qs o.choice k.1 n.1) n.2
+
+-- The same jobs keep it so: their moves are monotone.
+pub ⊑-outcomes : (js : List Job) {ps qs : List Point} → ps ⊑ qs → outcomes js ps ⊑ outcomes js qs
+⊑-outcomes js h = easier-outcomes (same-jobs js) h
 
 -- ---- two lists give the same
 
@@ -105,7 +109,7 @@ pub same-append : {ps ps' qs qs' : List Point} → Same ps ps' → Same qs qs' �
 same-append s t = record { to = ⊑-append s.to t.to; back = ⊑-append s.back t.back }
 
 pub same-outcomes : (js : List Job) {ps qs : List Point} → Same ps qs → Same (outcomes js ps) (outcomes js qs)
-same-outcomes js s = record { to = ⊑-outcomes (same-jobs js) s.to; back = ⊑-outcomes (same-jobs js) s.back }
+same-outcomes js s = record { to = ⊑-outcomes js s.to; back = ⊑-outcomes js s.back }
 
 -- Lists with the same members give the same.
 pub same-members : {ps qs : List Point} → ((p : Point) → Memᴰ p ps → Memᴰ p qs)

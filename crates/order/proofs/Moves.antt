@@ -198,9 +198,9 @@ module _ (j : Job) (k : ℕ) (r : Rate) (is : rate_of j k ≡ some r) (p : Point
       sum = m.sum ∙ ap (λ (o : Option Rate). p.weight + gain_at o) is
 
 -- A move of an easier job, or of the same, from a point that covers another leads to a point that covers where the other leads.
-pub move-monotone : {new old : Job} → EasierJob NoLower new old → (x : ℕ) (p r : Point) {r' : Point} → Covers p r
+pub easier-move : {new old : Job} → EasierJob NoLower new old → (x : ℕ) (p r : Point) {r' : Point} → Covers p r
     → move old x r ≡ some r' → (q : Point) × (move new x p ≡ some q) × Covers q r'
-move-monotone {new} {old} e x p r {r'} h m =
+easier-move {new} {old} e x p r {r'} h m =
     let was = moved old x r m in (
       move_to new x p,
       move-allowed new x p (easier-allowed e h.soon x was.may),
@@ -209,6 +209,11 @@ move-monotone {new} {old} e x p r {r'} h m =
         heavy = omega (arith, h.heavy, was.sum, easier-gain e x);
       },
     )
+
+-- A move from a point that covers another leads to a point that covers where the other leads.
+pub move-monotone : (j : Job) (x : ℕ) (p r : Point) {r' : Point} → Covers p r → move j x r ≡ some r'
+    → (q : Point) × (move j x p ≡ some q) × Covers q r'
+move-monotone j x p r h e = easier-move (no-lower-job j j (same-job j)) x p r h e
 
 -- ---- backwards: the latest time at which the bus may be free, for a pick to leave it free by a given time
 

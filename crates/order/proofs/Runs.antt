@@ -12,7 +12,8 @@ use Rattle.order.specs.Job.{Job, Point, allowed, gain_of, picks, move, jobs_with
 use Rattle.order.specs.Choice.{Choice, feasible, finish, kept_weight, with_each, choices, run}
 use Rattle.order.specs.Given.{Covers}
 use Rattle.order.specs.Easier.{NoLower, EasierJobs}
-use Rattle.order.proofs.Moves.{move_to, moved, move-allowed, move-refused, move-monotone, point-path}
+use Rattle.order.proofs.EasierLaws.{same-jobs}
+use Rattle.order.proofs.Moves.{move_to, moved, move-allowed, move-refused, easier-move, point-path}
 use Rattle.order.proofs.Moves.{pick-listed, bus_free-in-range}
 use Rattle.order.proofs.Within.{jobs-within}
 
@@ -147,17 +148,22 @@ run-last js j e p f =
 -- ---- where a run ends
 
 -- A run of easier jobs, or of the same, from a point that covers another ends in a point that covers the other's end.
-pub run-monotone : {new old : List Job} → EasierJobs NoLower new old → (c : Choice) (p r : Point) {r' : Point} → Covers p r
+pub easier-run : {new old : List Job} → EasierJobs NoLower new old → (c : Choice) (p r : Point) {r' : Point} → Covers p r
     → run old c r ≡ some r' → (q : Point) × (run new c p ≡ some q) × Covers q r'
-run-monotone Forall₂.nil c p r h m =
+easier-run Forall₂.nil c p r h m =
     let none = run_none c r m in
     (p, ap (λ (d : Choice). run [] d p) none.0 ∙ run-nil p, rw (← none.1) h)
-run-monotone (Forall₂.cons e es) [] p r h m = absurd (none-ne-some _ m)
-run-monotone (Forall₂.cons {a = j} {b = k} {l₁ = js} {l₂ = ks} e es) (x ∷ c) p r h m =
+easier-run (Forall₂.cons e es) [] p r h m = absurd (none-ne-some _ m)
+easier-run (Forall₂.cons {a = j} {b = k} {l₁ = js} {l₂ = ks} e es) (x ∷ c) p r h m =
     let was = run-first k ks x c r m in
-    let step = move-monotone e x p r h was.1 in
-    let further = run-monotone es c step.0 was.0 step.2 was.2 in
+    let step = easier-move e x p r h was.1 in
+    let further = easier-run es c step.0 was.0 step.2 was.2 in
     (further.0, run-cons j js x c p step.1 ∙ further.1, further.2)
+
+-- A run from a point that covers another ends in a point that covers the other's end.
+pub run-monotone : (js : List Job) (c : Choice) (p r : Point) {r' : Point} → Covers p r → run js c r ≡ some r'
+    → (q : Point) × (run js c p ≡ some q) × Covers q r'
+run-monotone js c p r h e = easier-run (same-jobs js) c p r h e
 
 -- A choice runs from p to q: it is feasible, and q has its bus-free time, and its kept weight on top of p's.
 pub record Ran (js : List Job) (c : Choice) (p q : Point) : Type 0 where
@@ -187,7 +193,7 @@ easier-choice {new} {old} e c {s} {t} h can =
     let r : Point = record { time = t; weight = 0 } in
     let end : Point = record { time = finish old c t; weight = kept_weight old c } in
     let was : run old c r ≡ some end = runs old c r (record { can = can; free = refl; sum = omega arith }) in
-    let now = run-monotone e c p r (record { soon = h; heavy = omega arith }) was in
+    let now = easier-run e c p r (record { soon = h; heavy = omega arith }) was in
     let q = ran new c p now.1 in
     (q.can, omega (signed, q.free, now.2.soon), omega (arith, q.sum, now.2.heavy))
 

@@ -72,25 +72,25 @@ last-heaviest {ps} s r m = go (last_point ps) refl
     go (some q) e = ⊎_elim (λ (h : r ≡ q). rw h (le_refl q.weight)) (λ (h : Below r q). omega arith) (last-after s e r m)
 
 -- It covers each point that the list gives, or is heavier.
-pub last-covers : {ps : List Point} {q r : Point} → Rising ps → last_point ps ≡ some q → Given r ps
+pub last-covers-given : {ps : List Point} {q r : Point} → Rising ps → last_point ps ≡ some q → Given r ps
     → Covers q r ⊎ (r.weight < q.weight)
-last-covers {ps} {q} {r} s e g = let n = giver g in go n.0 n.2 (last-after s e n.0 n.1)
+last-covers-given {ps} {q} {r} s e g = let n = giver g in go n.0 n.2 (last-after s e n.0 n.1)
   where
     go : (x : Point) → Covers x r → (x ≡ q) ⊎ Below x q → Covers q r ⊎ (r.weight < q.weight)
     go x c (inl f) = inl (rw f at c)
     go x c (inr b) = inr (omega signed)
 
 -- So in a list's profile it covers each point of the list, or is heavier;
-list-covers : (ps : List Point) {q r : Point} → last_point (profile_of ps) ≡ some q → Memᴰ r ps
+last-covers : (ps : List Point) {q r : Point} → last_point (profile_of ps) ≡ some q → Memᴰ r ps
     → Covers q r ⊎ (r.weight < q.weight)
-list-covers ps {r = r} e m = last-covers (profile_of-rises ps) e ((profile_of-same ps).back r (given-own m))
+last-covers ps {r = r} e m = last-covers-given (profile_of-rises ps) e ((profile_of-same ps).back r (given-own m))
 
 best-of-last : (ps : List Point) {q : Point} → last_point (profile_of ps) ≡ some q → Best ps q
 best-of-last ps {q} e = record {
   member = profile_of-member ps (last-member (profile_of ps) e);
-  heaviest = λ r m. ⊎_elim (λ (c : Covers q r). c.heavy) (λ (h : r.weight < q.weight). omega arith) (list-covers ps e m);
+  heaviest = λ r m. ⊎_elim (λ (c : Covers q r). c.heavy) (λ (h : r.weight < q.weight). omega arith) (last-covers ps e m);
   earliest = λ r m w.
-      ⊎_elim (λ (c : Covers q r). c.soon) (λ (h : r.weight < q.weight). absurd (omega arith)) (list-covers ps e m);
+      ⊎_elim (λ (c : Covers q r). c.soon) (λ (h : r.weight < q.weight). absurd (omega arith)) (last-covers ps e m);
 }
 
 -- so it is the list's best, and the list's best is that point;

@@ -8,12 +8,12 @@ use Rattle.order.specs.Job.{Job, Order, Point}
 use Rattle.order.specs.Choice.{outcomes}
 use Rattle.order.specs.Easier.{NoLower, EasierJobs, EasierOrder}
 use Rattle.order.specs.Given.{Covers, Given, here, ◌⊑◌}
-use Rattle.order.proofs.GivenLaws.{given-own, given-left, ⊑_trans, ⊑-outcomes}
+use Rattle.order.proofs.GivenLaws.{given-own, given-left, ⊑_trans, easier-outcomes}
 use Rattle.profile.specs.Profile.{worth, profile_of, extend, better_of, start_point, order_profile, last_point}
 use Rattle.profile.specs.NoWorse.{AtLeast, NoWorse}
 use Rattle.profile.proofs.Rising.{Rising, rising-one}
 use Rattle.profile.proofs.Points.{given-none, profile_of-rises, profile_of-same}
-use Rattle.profile.proofs.Last.{last_none, last-member, last-covers}
+use Rattle.profile.proofs.Last.{last_none, last-member, last-covers-given}
 use Rattle.profile.proofs.Greatest.{Greatest, nothing, greatest, Under}
 use Rattle.profile.proofs.Worth.{worth-greatest, given-under, under-given, lookup-worth}
 
@@ -54,7 +54,7 @@ profile_of-no-worse new old h =
 pub extend-no-worse : {new old : List Job} {P Q : List Point} → EasierJobs NoLower new old → Rising P → Rising Q → NoWorse P Q
     → NoWorse (extend P new) (extend Q old)
 extend-no-worse {new} {old} {P} {Q} e r s h =
-    profile_of-no-worse (outcomes new P) (outcomes old Q) (⊑-outcomes e ((no-worse-gives r s).0 h))
+    profile_of-no-worse (outcomes new P) (outcomes old Q) (easier-outcomes e ((no-worse-gives r s).0 h))
 
 -- The better of two profiles is no worse than the first.
 pub better_of-no-worse : {P : List Point} (Q : List Point) → Rising P → NoWorse (better_of P Q) P
@@ -90,4 +90,4 @@ last-no-worse {new} {old} {r} s u h e = go (last_point new) refl ((no-worse-give
   where
     go : (o : Option Point) → last_point new ≡ o → Given r new → LastNoWorse new r
     go none d g = absurd (given-none (subst (Given r) (last_none new d) g))
-    go (some q) d g = record { last = q; is = d; better = last-covers s d g }
+    go (some q) d g = record { last = q; is = d; better = last-covers-given s d g }

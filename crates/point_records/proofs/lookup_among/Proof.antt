@@ -34,8 +34,8 @@ use sound.WpLaws.{FmC, fm_of, WpFn-mono}
 use denote.RattleType.{RattleType, owns}
 use denote.Laws.{Is, shows}
 use denote.Memory.{mem, shares, pointee}
-use denote.Plain.{uint_vals, uint_tells, uint_makes, uint_lawful}
-use denote.Signed.{sint_vals, sint_tells, sint_makes, sint_lawful}
+use denote.Plain.{uint_vals, uint_Tells, uint_Makes, uint_lawful}
+use denote.Signed.{sint_vals, sint_Tells, sint_Makes, sint_lawful}
 use denote.Builtin.{i32, usize}
 use denote.Array.{array_vals, Array-Tells}
 use denote.Index.{row, whole_out, whole_in}
@@ -50,7 +50,7 @@ use denote.Triple.Call.{calls_at}
 use denote.Triple.Entry.{Vals, on_entry}
 use denote.Triple.Spec.{Meets, triple_of}
 use denote.Triple.Table.{entered, cited}
-use denote.Triple.Walked.{says, Stays, stay_dropped, walk_of, Goes-dropped, ends_at, walked, walk_meets}
+use denote.Triple.Walked.{says, Stays, stay_dropped, walk_of, Goes-dropped, ends_at, walked, walk_Meets}
 use denote.Triple.Clauses.{ensured, lasts}
 use denote.Exit.{yes}
 use borrow.Table.Elements.{at, cut_app, join_app}
@@ -179,7 +179,7 @@ module _ {M : Type 1} {𝓤 : Ura M} (𝓛 : Logic 𝓤) (mem : Memory → SProp
     passed = ((tt, tt, tt, (n, tt), (vint w64 n ∷ [], tt)), tt);
     head = ‵ ftrue;
     had = λ w k. given (k ≡ min n most_passed) (‵ (usize.own_val k (w ∷ [])));
-    asks = qed 𝓛 [] ∵ nothing ! $ nothing ! $ owned ! usize (Is usize) (uint_makes 𝓛 w64) n _ (refl, fits) $ fjoin ! $
+    asks = qed 𝓛 [] ∵ nothing ! $ nothing ! $ owned ! usize (Is usize) (uint_Makes 𝓛 w64) n _ (refl, fits) $ fjoin ! $
         nothing ! $ join ! $ done !;
     gives = came-back 𝓛 usize (ensured 𝓛 among.ended (among.clauses 𝓛 mem run) tt (n, tt) tt)
         (λ k. k ≡ min n most_passed)
@@ -199,7 +199,7 @@ module _ {M : Type 1} {𝓤 : Ura M} (𝓛 : Logic 𝓤) (mem : Memory → SProp
     goes =
         qed 𝓛 (‵ (flft κ full_share) ∷ ‵ (Own 𝓛 κ k rs l γ) ∷ []) ∵
         nothing ! $ move ! (1 ∷ 0 ∷ []) $ join ! $ nothing ! $
-        owned ! i32 (Is i32) (sint_makes 𝓛 w32) t _ (refl, t-fits) $ fjoin ! $ move ! (2 ∷ 0 ∷ []) $ fjoin ! $
+        owned ! i32 (Is i32) (sint_Makes 𝓛 w32) t _ (refl, t-fits) $ fjoin ! $ move ! (2 ∷ 0 ∷ []) $ fjoin ! $
         move ! (1 ∷ 0 ∷ []) $ join ! $ nothing ! $ move ! (1 ∷ 0 ∷ []) $ done !
 
     abbrev Ensured : Finding → SProp 𝓤
@@ -286,7 +286,7 @@ lookup-among-meets : {M : Type 1} {𝓤 : Ura M} (𝓛 : Logic 𝓤) (mem : Memo
     → Triple 𝓤 (𝓣.C #lookup-records) (Records 𝓛 mem run)
     → Meets 𝓛 lookup-among.signature (WpFn 𝓤 𝓛.H 𝓣.C 𝓣.Λ code.function) (lookup-among.spec 𝓛 mem run)
 lookup-among-meets {𝓤 = 𝓤} 𝓛 mem run 𝓣 known_among known-records =
-    walk_meets 𝓛 lookup-among.ended stayed (
+    walk_Meets 𝓛 lookup-among.ended stayed (
       Goes-dropped 𝓛 0 (slot (Rs most_passed)) yes (λ κs x f. refl),
       (
         Goes-dropped 𝓛 0 (slot usize) yes (λ κs x f. refl),
@@ -296,7 +296,7 @@ lookup-among-meets {𝓤 = 𝓤} 𝓛 mem run 𝓣 known_among known-records =
     (lookup-among.clauses 𝓛 mem run) (WpFn 𝓤 𝓛.H 𝓣.C 𝓣.Λ code.function) (WpFn-mono 𝓤 𝓛.H 𝓛.laws 𝓣 code.function)
     (walked 𝓛 lookup-among.ended stayed (lookup-among.clauses 𝓛 mem run) (WpFn 𝓤 𝓛.H 𝓣.C 𝓣.Λ code.function)
     (λ κs. (array_vals vals, (uint_vals w64, (sint_vals w32, tt))))
-    (λ κs. (Array-Tells R vals tells most_passed, (uint_tells w64, (sint_tells w32, tt))))
+    (λ κs. (Array-Tells R vals tells most_passed, (uint_Tells w64, (sint_Tells w32, tt))))
     (λ κs qs bounds a g are. via 𝓤 _ (fst∗ 𝓤 _ (emp 𝓤))
     (walk 𝓛 mem run a.0 a.1.0 are.1.0.1 a.1.1.0 are.1.1.0.1 𝓣.C 𝓣.Λ (fm_of 𝓤 𝓛.H 𝓛.laws 𝓣)
     known_among known-records are.0)))

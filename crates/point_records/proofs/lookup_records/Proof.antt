@@ -37,13 +37,13 @@ use sound.WpLaws.{FmC, fm_of, WpFn-mono}
 use denote.RattleType.{owns}
 use denote.Laws.{Is, shows}
 use denote.Memory.{pointee, shares}
-use denote.Plain.{uint_lawful}
-use denote.Signed.{sint_vals, sint_tells, sint_makes, sint_lawful}
+use denote.Plain.{uint_Lawful}
+use denote.Signed.{sint_vals, sint_Tells, sint_Makes, sint_lawful}
 use denote.Builtin.{i32, usize}
 use denote.Index.{row, place_is, elem_out, elem_back, elem_put, looks_slice, shuts_slice}
 use denote.Ref.{Bor}
 use denote.Signature.{plain}
-use denote.Slice.{slice_ty, slice_val, ShrSlice, shr_slice_vals, shr_slice_tells, shr_slice_lawful, shr_slice_copy}
+use denote.Slice.{slice_ty, slice_val, ShrSlice, shr_slice_vals, shr_slice_Tells, shr_slice_Lawful, shr_slice_copy}
 use denote.Steps.{owned, peeks, facts, nothing, only}
 use denote.Enum.Laws as enums
 use denote.Triple.Statement.{Triple}
@@ -51,7 +51,7 @@ use denote.Triple.Entry.{Vals, on_entry}
 use denote.Triple.Spec.{Meets, triple_of}
 use denote.Triple.Table.{entered, cited}
 use denote.Triple.Walked.{says, Stays, stay_none, stay_none_slice, walk_of, Goes-none, Goes-none_slice, Walks, ends_at, walked}
-use denote.Triple.Walked.{walk_meets}
+use denote.Triple.Walked.{walk_Meets}
 use denote.Exit.{yes}
 use Rattle.seconds.specs.Signed.{signed}
 use Rattle.profiles.specs.Answer.{lookup_of}
@@ -133,7 +133,7 @@ module _ {M : Type 1} {𝓤 : Ura M} (𝓛 : Logic 𝓤) (mem : Memory → SProp
       suffices ! _
       (ends_at 𝓛 lookup-records.ended stayed (lookup-records.clauses 𝓛 mem run) bound w r (tt, (tt, tt)) (tt, (tt, tt))) $
       says ! e $ nothing ! $ move ! (2 ∷ 0 ∷ []) $ join ! $ frame ! $ nothing ! $
-      owned ! i32 (Is i32) (sint_makes 𝓛 w32) t _ (refl, t-fits) $ fjoin ! $ move ! (2 ∷ 0 ∷ []) $ fjoin ! $ frame ! $ done !
+      owned ! i32 (Is i32) (sint_Makes 𝓛 w32) t _ (refl, t-fits) $ fjoin ! $ move ! (2 ∷ 0 ∷ []) $ fjoin ! $ frame ! $ done !
 
   -- ---- the loop, from where the slice is open: n points are to be copied to the local array, _4
 
@@ -311,7 +311,7 @@ module _ {M : Type 1} {𝓤 : Ura M} (𝓛 : Logic 𝓤) (mem : Memory → SProp
         alloc1 ! (λ l₀. alloc1 ! (λ l₁. alloc1 ! (λ l₂. alloc1 ! (λ l₃. alloc1 ! (λ l₄. alloc1 ! (λ l₅. alloc1 ! (λ l₆. alloc1 ! (λ l₇.
         alloc1 ! (λ l₈. alloc1 ! (λ l₉. alloc1 ! (λ l₁₀. alloc1 ! (λ l₁₁. alloc1 ! (λ l₁₂. alloc1 ! (λ l₁₃. alloc1 ! (λ l₁₄.
         alloc0 ! $ params1 ! $
-        pass1 ! (init ! 26 refl ((shr_slice_lawful 𝓛 (named 0) κ R).typed s (v ∷ []) is).0) $
+        pass1 ! (init ! 26 refl ((shr_slice_Lawful 𝓛 (named 0) κ R).typed s (v ∷ []) is).0) $
         pass1 ! (init ! 24 refl ((sint_lawful 𝓛 w32).typed t _ (refl, t-fits)).0) $ pass0 ! $
         -- [_14; …; _0; …; the token; what the parameters own]: local i is entry 28 - 2 * i
         assigns ! (of_opd ! (load ! (from ! (fld ! refl (stop !))) (look_in ! 26 (sub ! 1 refl (whole !)))))
@@ -319,7 +319,7 @@ module _ {M : Type 1} {𝓤 : Ura M} (𝓛 : Logic 𝓤) (mem : Memory → SProp
         nothing ! $ calls-for ! fm (ToRead 𝓛 mem run) known-to-read (use-to-read 𝓛 mem run (length ps) fits)
         (and_then ! (local ! 17 refl) (no_more !)) (λ w n. learn ! (λ n-is.
         facts ! usize (Is usize) (shows 𝓛 usize) n (w ∷ []) (λ is-n.
-        land ! (from ! (stop !)) (init ! 22 refl ((uint_lawful 𝓛 w64).typed n _ is-n).0) $
+        land ! (from ! (stop !)) (init ! 22 refl ((uint_Lawful 𝓛 w64).typed n _ is-n).0) $
         rewrite ! 22 (λ (us : List Val). ‵ (fat full_share word l₃ 0 (only us))) is-n.0 refl $
         nothing ! $ calls-for ! fm (BlankRecords 𝓛 mem run) known-blank (use-blank 𝓛 mem run)
         (no_more !) (λ w' rs. learn ! (λ _.
@@ -355,13 +355,13 @@ module _ {M : Type 1} {𝓤 : Ura M} (𝓛 : Logic 𝓤) (mem : Memory → SProp
 
   lookup-records-walks : Walks 𝓛 lookup-records.ended stayed Run (lookup-records.clauses 𝓛 mem run)
   lookup-records-walks = walked 𝓛 lookup-records.ended stayed (lookup-records.clauses 𝓛 mem run) Run
-      (λ κs. (shr_slice_vals, (sint_vals w32, tt))) (λ κs. (shr_slice_tells (named 0) κs.0 R, (sint_tells w32, tt)))
+      (λ κs. (shr_slice_vals, (sint_vals w32, tt))) (λ κs. (shr_slice_Tells (named 0) κs.0 R, (sint_Tells w32, tt)))
       (λ κs qs bounds a g are. via 𝓤 _ (fst∗ 𝓤 _ (emp 𝓤))
       (walk 𝓛 mem run κs.0 qs.0 a.0.ref_ptr.0 a.0.ref_ptr.1 0 a.0.now a.1.0 are.1.0.1
       𝓣 (fm_of 𝓤 H 𝓛.laws 𝓣) known-to-read known-blank known-copied are.0.0.1.0 are.0))
 
   lookup-records-meets : Meets 𝓛 lookup-records.signature Run (lookup-records.spec 𝓛 mem run)
-  lookup-records-meets = walk_meets 𝓛 lookup-records.ended stayed
+  lookup-records-meets = walk_Meets 𝓛 lookup-records.ended stayed
       (Goes-none_slice 𝓛 1 (0 ∷ []) tt (plain (λ _. R)) yes, (Goes-none 𝓛 1 (λ _. i32) yes (λ κs x f. refl), tt))
       (lookup-records.clauses 𝓛 mem run) Run (WpFn-mono 𝓤 H 𝓛.laws 𝓣 code.function) lookup-records-walks
 

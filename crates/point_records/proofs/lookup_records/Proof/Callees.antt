@@ -19,8 +19,8 @@ use types.Logic.{Logic, sem}
 use contract.Monad.{Fun, fact, fact_i}
 use types.Kit.{‵, given, ◌$◌, ◌∵◌, !, qed, move, join, fjoin, frame, done}
 use denote.Laws.{Is}
-use denote.Plain.{uint_makes}
-use denote.Signed.{sint_makes}
+use denote.Plain.{uint_Makes}
+use denote.Signed.{sint_Makes}
 use denote.Builtin.{i32, usize}
 use denote.Steps.{owned, nothing}
 use denote.Triple.Statement.{Contract}
@@ -56,7 +56,7 @@ module _ {M : Type 1} {𝓤 : Ura M} (𝓛 : Logic 𝓤) (mem : Memory → SProp
       passed = ((tt, tt, tt, (m, tt), (vint w64 m ∷ [], tt)), tt);
       head = ‵ ftrue;
       had = λ w n. given (n ≡ min m most_read) (‵ (usize.own_val n (w ∷ [])));
-      asks = qed 𝓛 [] ∵ nothing ! $ nothing ! $ owned ! usize (Is usize) (uint_makes 𝓛 w64) m _ (refl, fits) $ fjoin ! $
+      asks = qed 𝓛 [] ∵ nothing ! $ nothing ! $ owned ! usize (Is usize) (uint_Makes 𝓛 w64) m _ (refl, fits) $ fjoin ! $
           nothing ! $ join ! $ frame ! $ done !;
       gives = came-back 𝓛 usize
           (ensured 𝓛 to_read.ended (to_read.clauses 𝓛 mem run) tt (m, tt) tt) (λ n. n ≡ min m most_read)
@@ -83,8 +83,8 @@ module _ {M : Type 1} {𝓤 : Ura M} (𝓛 : Logic 𝓤) (mem : Memory → SProp
       head = ‵ ((Rs most_read).own rs (v ∷ []));
       had = λ w r. given (r ≡ lookup_of (flattened (take n rs)) t) (‵ ((F.the_row).own_val r (w ∷ [])));
       asks = qed 𝓛 (‵ ((Rs most_read).own rs (v ∷ [])) ∷ []) ∵ says ! few $ nothing ! $ frame ! $ nothing ! $
-          owned ! i32 (Is i32) (sint_makes 𝓛 w32) t _ (refl, fits) $ fjoin ! $
-          owned ! usize (Is usize) (uint_makes 𝓛 w64) n _ (refl, omega arith) $ fjoin ! $ move ! (1 ∷ 0 ∷ []) $ fjoin ! $ done !;
+          owned ! i32 (Is i32) (sint_Makes 𝓛 w32) t _ (refl, fits) $ fjoin ! $
+          owned ! usize (Is usize) (uint_Makes 𝓛 w64) n _ (refl, omega arith) $ fjoin ! $ move ! (1 ∷ 0 ∷ []) $ fjoin ! $ done !;
       gives = came-back 𝓛 F.the_row
           (ensured 𝓛 lookup-copied.ended (lookup-copied.clauses 𝓛 mem run) tt (rs, (n, (t, tt))) tt)
           (λ r. r ≡ lookup_of (flattened (take n rs)) t)
