@@ -22,6 +22,7 @@ held-read held_none = refl
 held-read {l} (held_more {i = i} s e h) = ap₂ ◌∷◌ (ap point_of e ∙ point-back s) (held-read h)
 
 pub held-within : {l : List ℤ} {i : ℕ} {ps : List Point} → Held l i ps → (p : Point) → In p ps → PointWithin p
+held-within {l = l} (held_none {i = i}) p x4 = elim x4 [ ]
 held-within (held_more s e h) p (head d) = rw d s
 held-within (held_more s e h) p (tail m) = held-within h p m
 

@@ -6,7 +6,7 @@ use Rattle.std.proofs.Math.Path.{ap}
 use Rattle.std.proofs.Math.ListN.{get_or}
 use Rattle.std.specs.Int.Signed.{non_neg}
 use Rattle.std.specs.Int.{Width, w32}
-use mir.Val.{Fits, bits, to_z, of_z}
+use mir.Val.{Fits, SFits, bits, to_z, of_z}
 use borrow.Table.Steps.{cases}
 use Rattle.seconds.specs.Signed.{signed, abs_is}
 use Rattle.seconds.specs.Ranges.{Between}
@@ -31,7 +31,7 @@ use Rattle.judge.specs.declared.Gathered.{Gathered}
 
 -- It is what its bits say.
 pub kept : (greatest : ℕ) (z : ℤ) → Between (pos 0) (pos greatest) z → greatest < 1048576 → to_z w32 (of_z w32 z) ≡ z
-kept greatest z b l = to_z-of_z (omega signed)
+kept greatest z b l = let f : SFits w32 z = omega signed in to_z-of_z f
 
 -- It has room in any unsigned number that has room for the greatest.
 pub casts : (w : Width) (greatest : ℕ) (z : ℤ) → Between (pos 0) (pos greatest) z → greatest < 1048576 → greatest < 2 ^ bits w

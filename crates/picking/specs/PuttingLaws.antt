@@ -30,7 +30,7 @@ module _ {number ready : ℕ} {j : Repeating} (can : CanMake number ready (numbe
   ready-is = to_z_pos w32 (omega (signed, can.soon))
 
   pub deadline-is : to_z w32 (of_z w32 j.deadline) ≡ j.deadline
-  deadline-is = to_z-of_z (omega (signed, can.repeats.deadline))
+  deadline-is = to_z-of_z {w = w32} {z = j.deadline} (omega (signed, can.repeats.deadline))
 
   deadline-fits : SFits w32 (to_z w32 ready +ℤ to_z w32 (of_z w32 j.deadline))
   deadline-fits = omega (signed, ready-is, deadline-is, can.soon, can.repeats.deadline)

@@ -172,6 +172,9 @@ later-from r [] x m = absurd (not-nil m)
 later-from r (p ∷ ps) x (head e) = (p, head refl, e)
 later-from r (p ∷ ps) x (tail n) = let k = later-from r ps x n in (k.0, tail k.1, k.2)
 
+later-put : (r : Rate) (p : Point) {ps : List Point} → In p ps → In (later_by r p) (all_later r ps)
+later-put r p (head e) = head (ap (later_by r) e)
+later-put r p (tail n) = tail (later-put r p n)
+
 pub later-in : (r : Rate) {ps : List Point} (p : Point) → In p ps → In (later_by r p) (all_later r ps)
-later-in r p (head e) = head (ap (later_by r) e)
-later-in r p (tail n) = tail (later-in r p n)
+later-in r p x = later-put r p x

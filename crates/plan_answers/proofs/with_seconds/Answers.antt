@@ -1,5 +1,6 @@
 -- `plan_answers::with_seconds` meets its contract: each number is copied, the finish from its bits.
 -- Assumes nothing.
+use borrow.Author.Rules.{rules}
 use mathlib.Core.Path.{refl}
 use mir.Syntax.{w32}
 use mir.Val.{SFits}

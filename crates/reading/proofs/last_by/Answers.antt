@@ -79,9 +79,6 @@ module _ (c : Else-end-place) where
   abbrev number : ℤ
   number = at0 (s a).args.work.now (a.after-end.result - 1)
 
-  fits : SFits w32 number
-  fits = search rules
-
   more : (s a).args.place < a.after-end.result
   more = omega (arith, (searched a).low)
 
@@ -89,18 +86,18 @@ module _ (c : Else-end-place) where
   there = found_number (s a).requires (late (not-early a)) (searched a) more
 
 pub weight_in-requires : goal.weight_in-requires
-weight_in-requires c = let f = fits (goal.at.weight_in-requires c).Else-end-place in omega (signed, there (goal.at.weight_in-requires c).Else-end-place)
+weight_in-requires c = let f : SFits w32 (at0 c.args.work.now (c.after-end.result - 1)) = search rules in omega (signed, there (goal.at.weight_in-requires c).Else-end-place)
 
 pub time_in-requires : goal.time_in-requires
-time_in-requires c = let f = fits (goal.at.time_in-requires c).Else-end-place in omega (signed, there (goal.at.time_in-requires c).Else-end-place)
+time_in-requires c = let f : SFits w32 (at0 c.args.work.now (c.after-end.result - 1)) = search rules in omega (signed, there (goal.at.time_in-requires c).Else-end-place)
 
 pub returns : goal.returns
 returns c =
-    let r = c.before.before in
     let p = point_of (number (goal.at.returns c).Else-end-place) in
     let t : SFits w32 c.time_in.result = search rules in
+    let n : SFits w32 (at0 c.args.work.now (c.after-end.result - 1)) = search rules in
     let weight : c.weight_in.result ≡ p.weight =
-    c.weight_in.ensures ∙ ap (λ (z : ℤ). (point_of z).weight) (to_z-of_z (fits (goal.at.returns c).Else-end-place)) in
+    c.weight_in.ensures ∙ ap (λ (z : ℤ). (point_of z).weight) (to_z-of_z n) in
     let time : to_z w32 (of_z w32 c.time_in.result) ≡ p.time =
-    to_z-of_z t ∙ c.time_in.ensures ∙ ap (λ (z : ℤ). (point_of z).time) (to_z-of_z (fits (goal.at.returns c).Else-end-place)) in
+    to_z-of_z t ∙ c.time_in.ensures ∙ ap (λ (z : ℤ). (point_of z).time) (to_z-of_z n) in
     ap₂ At weight time ∙ sym (ap found (last_found (s (a (goal.at.returns c).Else-end-place)).requires (late (not-early (a (goal.at.returns c).Else-end-place))) (searched (a (goal.at.returns c).Else-end-place)) (more (goal.at.returns c).Else-end-place)))

@@ -39,13 +39,13 @@ module _ (c : After-lesser) where
 
   last-is : to_z w32 (of_z w32 c.lesser.result) ≡ min_z entry.args.deadline end
   last-is =
-      to_z-of_z (search rules)
+      to_z-of_z {w = w32} {z = c.lesser.result} (search rules)
       ∙ c.lesser.ensures
-      ∙ ap₂ min_z (to_z-of_z entry.fits.deadline) (to_z-of_z (end_fits (goal.at.After-lesser c).After-rested) ∙ end_is (goal.at.After-lesser c).After-rested)
+      ∙ ap₂ min_z (to_z-of_z entry.ranges.deadline) (to_z-of_z (end_fits (goal.at.After-lesser c).After-rested) ∙ end_is (goal.at.After-lesser c).After-rested)
 
   start_is : to_z w32 (of_z w32 c.lesser.result) -ℤ to_z w32 (of_z w32 entry.args.long)
       ≡ min_z entry.args.deadline end -ℤ entry.args.long
-  start_is = ap₂ (λ x y. x -ℤ y) last-is (to_z-of_z entry.fits.long)
+  start_is = ap₂ (λ x y. x -ℤ y) last-is (to_z-of_z entry.ranges.long)
 
   start_fits : SFits w32 (to_z w32 (of_z w32 c.lesser.result) -ℤ to_z w32 (of_z w32 entry.args.long))
   start_fits =
