@@ -48,10 +48,10 @@ module _ {number ready : ℕ} {j : Repeating} (can : CanMake number ready (numbe
   job-made =
       let m = can.repeats in
       let numbered : to_z w32 number ≡ pos number = to_z_pos w32 (omega (signed, can.few)) in
-      let mark : to_z w32 (of_z w32 j.critical) ≡ j.critical = to_z-of_z (omega (signed, m.mark)) in
+      let mark : to_z w32 (of_z w32 j.critical) ≡ j.critical = to_z-of_z {w = w32} {z = j.critical} (omega (signed, m.mark)) in
       let weighed : Between (pos 0) (pos heaviest) j.weight = weight-range (same j.critical (pos 1)) j.weight m.weight in
-      let weight : to_z w32 (of_z w32 j.weight) ≡ j.weight = to_z-of_z (omega (signed, weighed)) in
-      let long : to_z w32 (of_z w32 j.length) ≡ j.length = to_z-of_z (omega (signed, m.long)) in
+      let weight : to_z w32 (of_z w32 j.weight) ≡ j.weight = to_z-of_z {w = w32} {z = j.weight} (omega (signed, weighed)) in
+      let long : to_z w32 (of_z w32 j.length) ≡ j.length = to_z-of_z {w = w32} {z = j.length} (omega (signed, m.long)) in
       rw (to_z-of_z deadline-fits, numbered, mark, weight, ready-is, long, deadline-is)
 
 -- ---- the next repeat

@@ -11,5 +11,4 @@ use Rattle.adding.proofs.one_refused.Goals as goal
 pub returns : goal.returns
 unfolding no_sheet
 returns c =
-    let s = c.before.before in
-    ap (λ (l : List ℕ). set (set l 0 1) s.args.refusal.number 1) c.none-one.ensures ∙ refused-numbers s.args.refusal s.requires
+    ap (λ (l : List ℕ). set (set l 0 1) c.args.refusal.number 1) c.none-one.ensures ∙ refused-numbers c.args.refusal c.requires

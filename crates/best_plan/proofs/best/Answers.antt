@@ -10,10 +10,9 @@ use Rattle.best_plan.proofs.best.Goals.{After-judge_sent}
 
 pub best_within-requires : goal.best_within-requires
 best_within-requires c =
-    let e = c.before in
     let j : After-judge_sent = (goal.at.best_within-requires c).After-judge_sent in
     let a = j.args in
-    told-fine (legal_checks a.order.now a.plan.now) (sym j.judge_sent.ensures ∙ e.in-Fine.is)
+    told-fine (legal_checks a.order.now a.plan.now) (sym j.judge_sent.ensures ∙ c.in-Fine.is)
 
 pub returns-in-Refused : goal.returns-in-Refused
 returns-in-Refused c =

@@ -18,10 +18,9 @@ start c = (goal.at.Else-work-lt-AREA c).Start
 
 pub returns-then-work-lt-AREA : goal.returns-then-work-lt-AREA
 returns-then-work-lt-AREA c =
-    let t = c.before in
     let s : Start = (goal.at.returns-then-work-lt-AREA c).Start in
     rw c.plainly.ensures
-    (no_room s.args.order.now s.args.plan.now s.args.work.now s.requires t.if-work-lt-AREA.true)
+    (no_room s.args.order.now s.args.plan.now s.args.work.now s.requires c.if-work-lt-AREA.true)
 
 -- The part lent is as long as the area.
 lent : (c : Else-work-lt-AREA) → let s = start c in
@@ -35,13 +34,11 @@ slice_bounds-is_best-end-2 c = omega (arith, lent (goal.at.slice_bounds-is_best-
 
 pub is_best-yes-requires : goal.is_best-yes-requires
 is_best-yes-requires c =
-    let d = c.before in
     let s = start (goal.at.is_best-yes-requires c).Else-work-lt-AREA in
     record { accepted = s.requires; room = omega (arith, lent (goal.at.is_best-yes-requires c).Else-work-lt-AREA) }
 
 pub returns : goal.returns
 returns c =
-    let k = c.before in
     let b : After-is_best-yes = (goal.at.returns c).After-is_best-yes in
     let d : Else-work-lt-AREA = (goal.at.After-is_best-yes b).Else-work-lt-AREA in
     let s = start d in
@@ -49,4 +46,4 @@ returns c =
     let long : length part ≡ area = omega (arith, lent d) in
     let rest = drop area s.args.work.now in
     best-told s.args.order.now s.args.plan.now s.args.work.now s.requires (part ++ rest) d.if-work-lt-AREA.false
-    b.is_best-yes.ensures (drop_at part rest area long) k.clear.ensures
+    b.is_best-yes.ensures (drop_at part rest area long) c.clear.ensures

@@ -6,14 +6,12 @@ use Rattle.best_plan.proofs.is_best.Goals.{Then-is_legal}
 
 pub returns-then-is_legal : goal.returns-then-is_legal
 returns-then-is_legal c =
-    let m = c.before in
     let t : Then-is_legal = (goal.at.returns-then-is_legal c).Then-is_legal in
     let l = t.before in
     let a = l.args in
-    legal-then a.order.now a.plan.now l.is_legal.ensures t.if-is_legal.true m.keeps_most.ensures
+    legal-then a.order.now a.plan.now l.is_legal.ensures t.if-is_legal.true c.keeps_most.ensures
 
 pub returns : goal.returns
 returns c =
-    let l = c.before in
-    let a = l.args in
-    not-legal a.order.now a.plan.now l.is_legal.ensures c.if-is_legal.false
+    let a = c.args in
+    not-legal a.order.now a.plan.now c.is_legal.ensures c.if-is_legal.false

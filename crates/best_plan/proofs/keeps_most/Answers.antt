@@ -32,7 +32,7 @@ mask_of-requires c =
     mask-there s.requires
 
 pub kept_weight-kept-requires : goal.kept_weight-kept-requires
-kept_weight-kept-requires c = let h = c.before in
+kept_weight-kept-requires c =
     let s : Start = (goal.at.kept_weight-kept-requires c).Start in
     can-sum s.requires (read (goal.at.kept_weight-kept-requires c).After-header_at-header)
 

@@ -11,8 +11,7 @@ use Rattle.best_plan.proofs.kept_weight.Goals.{After-weight_of-weight, In-loop-p
 
 pub loop-place-init : goal.loop-place-init
 loop-place-init c =
-    let s = c.before in
-    sum-starts s.args.order.now s.args.n s.args.mask s.requires
+    sum-starts c.args.order.now c.args.n c.args.mask c.requires
 
 -- In a turn: there are at most 48 jobs, and this one's record is there.
 module _ (c : In-loop-place) where
@@ -34,9 +33,7 @@ keeps-requires c = few (goal.at.keeps-requires c).In-loop-place
 
 pub weight_of-weight-requires : goal.weight_of-weight-requires
 weight_of-weight-requires c =
-    let j = c.before in
-    let t = j.before in
-    job-weighs t.loop-place.invariant t.loop-place-test.true j.job_in-job.result j.job_in-job.ensures
+    job-weighs c.loop-place.invariant c.loop-place-test.true c.job_in-job.result c.job_in-job.ensures
 
 -- What the job counts is small.
 small : (c : After-weight_of-weight) → c.weight_of-weight.result ≤ 50
@@ -62,10 +59,7 @@ loop-place-smaller c =
 
 pub loop-place-preserved : goal.loop-place-preserved
 loop-place-preserved c =
-    let k = c.before in
-    let j = k.before in
-    let t = j.before in
-    sum-on t.loop-place.invariant t.loop-place-test.true j.job_in-job.result j.job_in-job.ensures k.keeps.ensures
+    sum-on c.loop-place.invariant c.loop-place-test.true c.job_in-job.result c.job_in-job.ensures c.keeps.ensures
     c.weight_of-weight.ensures
 
 pub returns : goal.returns

@@ -9,6 +9,5 @@ use Rattle.best_plan.proofs.not_above.Goals as goal
 
 pub returns-in-At : goal.returns-in-At
 returns-in-At c =
-    let k = c.before in
-    let found : weight_in k.args.found ≡ some k.in-At.most = ap weight_in k.in-At.is in
-    sym (ap (λ (m : Option ℕ). not_above m k.args.weight) found)
+    let found : weight_in c.args.found ≡ some c.in-At.most = ap weight_in c.in-At.is in
+    sym (ap (λ (m : Option ℕ). not_above m c.args.weight) found)

@@ -16,6 +16,4 @@ overflow_cast-result c =
 
 pub returns-then-kept : goal.returns-then-kept
 returns-then-kept c =
-    let t = c.before.before in
-    let a = t.before in
-    rw t.if-kept.true (weight-kept a.args.job a.requires)
+    rw c.if-kept.true (weight-kept c.args.job c.requires)

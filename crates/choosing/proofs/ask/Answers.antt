@@ -26,12 +26,11 @@ first-passed c =
 
 pub compare-requires : goal.compare-requires
 compare-requires c =
-    let p = c.before in
     let j : After-judge_order-in-Fine = (goal.at.compare-requires c).After-judge_order-in-Fine in
     let s = entry (goal.at.After-judge_order-in-Fine j).In-Fine in
     record {
       one = first-passed (goal.at.After-judge_order-in-Fine j).In-Fine;
-      other = told-fine (order_checks s.args.second.now) (sym j.judge_order-in-Fine.ensures ∙ p.in-Fine-judge_order.is);
+      other = told-fine (order_checks s.args.second.now) (sym j.judge_order-in-Fine.ensures ∙ c.in-Fine-judge_order.is);
     }
 
 pub returns-in-Refused : goal.returns-in-Refused

@@ -29,9 +29,7 @@ room c = search rules
 
 pub fill_last-last-requires : goal.fill_last-last-requires
 fill_last-last-requires c =
-    let p = c.before.before in
-    let h = p.before.before in
-    can-fill h.requires (counted (goal.at.fill_last-last-requires c).After-header_at-header) p.start_profile-count.ensures (room (goal.at.fill_last-last-requires c).After-start_profile-count)
+    can-fill c.requires (counted (goal.at.fill_last-last-requires c).After-header_at-header) c.start_profile-count.ensures (room (goal.at.fill_last-last-requires c).After-start_profile-count)
 
 pub write_list-requires : goal.write_list-requires
 write_list-requires c =
@@ -42,9 +40,8 @@ write_list-requires c =
 
 pub returns : goal.returns
 returns c =
-    let w = c.before in
     let f : After-fill_last-last = (goal.at.returns c).After-fill_last-last in
     let p : After-start_profile-count = (goal.at.After-fill_last-last f).After-start_profile-count in
     let h : After-header_at-header = (goal.at.After-start_profile-count p).After-header_at-header in
     extended h.requires (counted h) p.start_profile-count.ensures (room p) f.fill_last-last.ensures
-    w.write_list.ensures
+    c.write_list.ensures

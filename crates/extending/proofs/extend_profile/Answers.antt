@@ -17,11 +17,10 @@ start c = (goal.at.Else-not-valid c).Start
 
 pub returns-then-not-valid : goal.returns-then-not-valid
 returns-then-not-valid c =
-    let t = c.before in
     let s : Start = (goal.at.returns-then-not-valid c).Start in
     rw c.plainly.ensures
     (extend-not-valid s.args.profile.now s.args.bytes.now s.args.out.now s.args.work.now s.requires
-    (sym t.valid.ensures ∙ t.if-not-valid.true))
+    (sym c.valid.ensures ∙ c.if-not-valid.true))
 
 -- Past the test the profile is valid.
 is-valid : (c : Else-not-valid) → let s = start c in
@@ -33,7 +32,6 @@ last_weight-before-requires c = is-valid c
 
 pub overflow_cast-before : goal.overflow_cast-before
 overflow_cast-before c =
-    let v = c.before in
     let s = start (goal.at.overflow_cast-before c).Else-not-valid in
     omega (arith, c.last_weight-before.ensures, last-light s.args.profile.now (is-valid (goal.at.overflow_cast-before c).Else-not-valid))
 

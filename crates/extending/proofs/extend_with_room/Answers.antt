@@ -17,18 +17,15 @@ start c = (goal.at.Else-work-lt-AREA c).Start
 
 pub returns-then-out-lt-MOST_NUMBERS : goal.returns-then-out-lt-MOST_NUMBERS
 returns-then-out-lt-MOST_NUMBERS c =
-    let t = c.before in
-    let s = t.before.before in
     rw c.plainly.ensures
-    (extend-no-room s.args.profile.now s.args.bytes.now s.args.out.now s.args.work.now s.requires t.if-out-lt-MOST_NUMBERS.true)
+    (extend-no-room c.args.profile.now c.args.bytes.now c.args.out.now c.args.work.now c.requires c.if-out-lt-MOST_NUMBERS.true)
 
 pub returns-then-work-lt-AREA : goal.returns-then-work-lt-AREA
 returns-then-work-lt-AREA c =
-    let t = c.before in
     let s : Start = (goal.at.returns-then-work-lt-AREA c).Start in
     rw c.plainly-then-work-lt-AREA.ensures
     (extend-no-space s.args.profile.now s.args.bytes.now s.args.out.now s.args.work.now s.requires
-    t.if-out-lt-MOST_NUMBERS.false t.if-work-lt-AREA.true)
+    c.if-out-lt-MOST_NUMBERS.false c.if-work-lt-AREA.true)
 
 -- The part lent is as long as the area.
 lent : (c : Else-work-lt-AREA) → let s = start c in

@@ -12,29 +12,25 @@ loop-i-init c = (omega arith, refl)
 
 pub bounds-front-got : goal.bounds-front-got
 bounds-front-got c =
-    let l = c.before.before in
-    let a = l.args in
-    let same : length l.loop-i.front ≡ length a.front.now =
-    ap length l.loop-i.invariant.1 ∙ kept-length a.front.now a.got (take l.loop-i.i (drop a.at a.piece.now)) in
+    let a = c.args in
+    let same : length c.loop-i.front ≡ length a.front.now =
+    ap length c.loop-i.invariant.1 ∙ kept-length a.front.now a.got (take c.loop-i.i (drop a.at a.piece.now)) in
     omega arith
 
 pub loop-i-preserved : goal.loop-i-preserved
 loop-i-preserved c =
-    let l = c.before.before in
-    let a = l.args in (
+    let a = c.args in (
       omega arith,
-      copy_step a.front.now a.got a.piece.now a.at l.loop-i.i l.loop-i.front l.loop-i.invariant.1 (omega arith) (omega arith),
+      copy_step a.front.now a.got a.piece.now a.at c.loop-i.i c.loop-i.front c.loop-i.invariant.1 (omega arith) (omega arith),
     )
 
 pub shape_of-front : goal.shape_of-front
 shape_of-front c =
-    let l = c.before in
-    let a = l.args in
-    ap length l.loop-i.invariant.1 ∙ kept-length a.front.now a.got (take l.loop-i.i (drop a.at a.piece.now))
+    let a = c.args in
+    ap length c.loop-i.invariant.1 ∙ kept-length a.front.now a.got (take c.loop-i.i (drop a.at a.piece.now))
 
 pub returns : goal.returns
 returns c =
-    let l = c.before in
-    let a = l.args in
-    let end : l.loop-i.i ≡ a.n = omega arith in
-    l.loop-i.invariant.1 ∙ ap (λ k. kept_in a.front.now a.got (take k (drop a.at a.piece.now))) end
+    let a = c.args in
+    let end : c.loop-i.i ≡ a.n = omega arith in
+    c.loop-i.invariant.1 ∙ ap (λ k. kept_in a.front.now a.got (take k (drop a.at a.piece.now))) end

@@ -12,50 +12,32 @@ returns-then-feed-lt-FEED c =
 
 pub returns-then-front-lt-FRONT : goal.returns-then-front-lt-FRONT
 returns-then-front-lt-FRONT c =
-    let e = c.before in
-    let a = e.args in
-    front-short a.feed-1.now a.front-1.now a.piece.now a.work-1.now e.if-feed-lt-FEED.false c.if-front-lt-FRONT.true
+    let a = c.args in
+    front-short a.feed-1.now a.front-1.now a.piece.now a.work-1.now c.if-feed-lt-FEED.false c.if-front-lt-FRONT.true
 
 pub returns-then-work-lt-AREA : goal.returns-then-work-lt-AREA
 returns-then-work-lt-AREA c =
-    let f = c.before in
-    let e = f.before in
-    let a = e.args in
-    area-short a.feed-1.now a.front-1.now a.piece.now a.work-1.now e.if-feed-lt-FEED.false f.if-front-lt-FRONT.false (omega (arith, c.if-work-lt-AREA.true))
+    let a = c.args in
+    area-short a.feed-1.now a.front-1.now a.piece.now a.work-1.now c.if-feed-lt-FEED.false c.if-front-lt-FRONT.false (omega (arith, c.if-work-lt-AREA.true))
 
 pub take_piece-requires : goal.take_piece-requires
 take_piece-requires c =
-    let then = c.before.before.before in
-    let s = then.before in
-    let g = s.before.before.before in
-    let f = g.before in
-    let e = f.before in
     record {
-      long = e.if-feed-lt-FEED.false;
-      wide = f.if-front-lt-FRONT.false;
-      space = omega (arith, g.if-work-lt-AREA.false);
-      state = sym s.is_state.ensures ∙ then.if-is_state.true;
+      long = c.if-feed-lt-FEED.false;
+      wide = c.if-front-lt-FRONT.false;
+      space = omega (arith, c.if-work-lt-AREA.false);
+      state = sym c.is_state.ensures ∙ c.if-is_state.true;
     }
 
 pub returns-then-is_state : goal.returns-then-is_state
 returns-then-is_state c =
-    let took = c.before.before.before.before.before in
-    let then = took.before.before.before.before in
-    let s = then.before in
-    let g = s.before.before.before in
-    let f = g.before in
-    let e = f.before in
-    let a = e.args in
-    let t = took.take_piece in
-    piece-taken a.feed-1.now a.front-1.now a.piece.now a.work-1.now e.if-feed-lt-FEED.false f.if-front-lt-FRONT.false (omega (arith, g.if-work-lt-AREA.false))
-    (sym s.is_state.ensures ∙ then.if-is_state.true) t.result t.new.feed t.new.front t.new.work t.ensures
+    let a = c.args in
+    let t = c.take_piece in
+    piece-taken a.feed-1.now a.front-1.now a.piece.now a.work-1.now c.if-feed-lt-FEED.false c.if-front-lt-FRONT.false (omega (arith, c.if-work-lt-AREA.false))
+    (sym c.is_state.ensures ∙ c.if-is_state.true) t.result t.new.feed t.new.front t.new.work t.ensures
 
 pub returns : goal.returns
 returns c =
-    let s = c.before in
-    let g = s.before.before.before in
-    let f = g.before in
-    let e = f.before in
-    let a = e.args in
-    no-state a.feed-1.now a.front-1.now a.piece.now a.work-1.now e.if-feed-lt-FEED.false f.if-front-lt-FRONT.false (omega (arith, g.if-work-lt-AREA.false))
-    (sym s.is_state.ensures ∙ c.if-is_state.false)
+    let a = c.args in
+    no-state a.feed-1.now a.front-1.now a.piece.now a.work-1.now c.if-feed-lt-FEED.false c.if-front-lt-FRONT.false (omega (arith, c.if-work-lt-AREA.false))
+    (sym c.is_state.ensures ∙ c.if-is_state.false)

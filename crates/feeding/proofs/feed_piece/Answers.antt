@@ -29,30 +29,25 @@ shape_of-work-then-is_over c = c.loop-at.invariant.8
 
 pub returns-then-is_over : goal.returns-then-is_over
 returns-then-is_over c =
-    let l = c.before.before.before.before in
-    let s = l.before.before.before.before in
-    let a = s.args in
+    let a = c.args in
     let over = sym c.is_over.ensures ∙ c.if-is_over.true in
     record {
-      sound = l.loop-at.invariant.1;
+      sound = c.loop-at.invariant.1;
       state =
-          sym (run-over (seen l.loop-at.state l.loop-at.figures l.loop-at.front) (drop l.loop-at.at a.piece.now) over) ∙ l.loop-at.invariant.3;
+          sym (run-over (seen c.loop-at.state c.loop-at.figures c.loop-at.front) (drop c.loop-at.at a.piece.now) over) ∙ c.loop-at.invariant.3;
       less =
           λ begun. omega
-          (arith, left_over l.loop-at.state l.loop-at.figures over, left-some a.begun a.figures-1.now a.front-1.now s.requires.sound begun);
-      behind = l.loop-at.invariant.4;
-      beyond = l.loop-at.invariant.5;
+          (arith, left_over c.loop-at.state c.loop-at.figures over, left-some a.begun a.figures-1.now a.front-1.now c.requires.sound begun);
+      behind = c.loop-at.invariant.4;
+      beyond = c.loop-at.invariant.5;
     }
 
 pub one_turn-t-requires : goal.one_turn-t-requires
 one_turn-t-requires c =
-    let if = c.before.before.before in
-    let l = if.before.before.before.before in
-    let s = l.before.before.before.before in
     record {
-      space = omega (arith, s.requires.space, l.loop-at.invariant.8);
-      sound = l.loop-at.invariant.1;
-      more = sym if.is_over.ensures ∙ if.if-is_over.false;
+      space = omega (arith, c.requires.space, c.loop-at.invariant.8);
+      sound = c.loop-at.invariant.1;
+      more = sym c.is_over.ensures ∙ c.if-is_over.false;
       here = omega arith;
     }
 
@@ -63,23 +58,21 @@ loop-at-smaller c =
 
 pub loop-at-preserved : goal.loop-at-preserved
 loop-at-preserved c =
-    let r = c.before.before.before.before.before.before in
-    let t = r.one_turn-t in
-    let l = r.before.before.before.before.before.before.before.before in
-    let piece = l.args.piece.now in
+    let t = c.one_turn-t in
+    let piece = c.args.piece.now in
     let rest : run (seen t.result.part t.new.figures t.new.front) (drop t.result.next piece)
-    ≡ run (seen l.loop-at.state l.loop-at.figures l.loop-at.front) (drop l.loop-at.at piece) =
+    ≡ run (seen c.loop-at.state c.loop-at.figures c.loop-at.front) (drop c.loop-at.at piece) =
     t.ensures.rest in (
       t.ensures.inside,
       t.ensures.sound,
-      less-again (left l.loop-at.state l.loop-at.figures) (left t.result.part t.new.figures) l.loop-at.at t.result.next _ t.ensures.less
-          t.ensures.on l.loop-at.invariant.2,
-      rest ∙ l.loop-at.invariant.3,
-      t.ensures.behind ∙ l.loop-at.invariant.4,
-      t.ensures.beyond ∙ l.loop-at.invariant.5,
-      t.auto.1.0 ∙ l.loop-at.invariant.6,
-      t.auto.1.1.0 ∙ l.loop-at.invariant.7,
-      t.auto.1.1.1.1.1.0 ∙ l.loop-at.invariant.8,
+      less-again (left c.loop-at.state c.loop-at.figures) (left t.result.part t.new.figures) c.loop-at.at t.result.next _ t.ensures.less
+          t.ensures.on c.loop-at.invariant.2,
+      rest ∙ c.loop-at.invariant.3,
+      t.ensures.behind ∙ c.loop-at.invariant.4,
+      t.ensures.beyond ∙ c.loop-at.invariant.5,
+      t.auto.1.0 ∙ c.loop-at.invariant.6,
+      t.auto.1.1.0 ∙ c.loop-at.invariant.7,
+      t.auto.1.1.1.1.1.0 ∙ c.loop-at.invariant.8,
     )
 
 pub shape_of-figures : goal.shape_of-figures
@@ -93,13 +86,12 @@ shape_of-work c = c.loop-at.invariant.8
 
 pub returns : goal.returns
 returns c =
-    let l = c.before in
-    let a = l.args in
-    let end : drop l.loop-at.at a.piece.now ≡ [] = drop_of_length-le a.piece.now {i = l.loop-at.at} (omega arith) in
+    let a = c.args in
+    let end : drop c.loop-at.at a.piece.now ≡ [] = drop_of_length-le a.piece.now {i = c.loop-at.at} (omega arith) in
     record {
-      sound = l.loop-at.invariant.1;
-      state = ap (run (seen l.loop-at.state l.loop-at.figures l.loop-at.front)) (sym end) ∙ l.loop-at.invariant.3;
-      less = λ begun. omega (arith, l.loop-at.invariant.2);
-      behind = l.loop-at.invariant.4;
-      beyond = l.loop-at.invariant.5;
+      sound = c.loop-at.invariant.1;
+      state = ap (run (seen c.loop-at.state c.loop-at.figures c.loop-at.front)) (sym end) ∙ c.loop-at.invariant.3;
+      less = λ begun. omega (arith, c.loop-at.invariant.2);
+      behind = c.loop-at.invariant.4;
+      beyond = c.loop-at.invariant.5;
     }

@@ -9,26 +9,18 @@ use Rattle.feeding.proofs.keep.Goals as goal
 
 pub returns-then-got-ge-FRONT : goal.returns-then-got-ge-FRONT
 returns-then-got-ge-FRONT c =
-    let s = c.before.before.before in
-    let a = s.args in
+    let a = c.args in
     sym (kept_full a.front-1.now a.got (take a.n (drop a.at a.piece.now)) c.if-got-ge-FRONT.true)
 
 pub copy-requires : goal.copy-requires
 copy-requires c =
-    let least = c.before in
-    let else = least.before in
-    let s = else.before.before.before in
-    (s.requires.wide, (omega (arith, else.if-got-ge-FRONT.false, least.least-m.ensures), omega (arith, least.least-m.ensures, s.requires.has)))
+    (c.requires.wide, (omega (arith, c.if-got-ge-FRONT.false, c.least-m.ensures), omega (arith, c.least-m.ensures, c.requires.has)))
 
 pub returns : goal.returns
 returns c =
-    let copied = c.before.before in
-    let least = copied.before.before in
-    let else = least.before in
-    let s = else.before.before.before in
-    let a = s.args in
-    let put : copied.copy.new.front ≡ kept_in a.front-1.now a.got (take least.least-m.result (drop a.at a.piece.now)) =
-    copied.copy.ensures in
+    let a = c.args in
+    let put : c.copy.new.front ≡ kept_in a.front-1.now a.got (take c.least-m.result (drop a.at a.piece.now)) =
+    c.copy.ensures in
     put
-    ∙ keep-least a.front-1.now a.got (drop a.at a.piece.now) a.n least.least-m.result
-    (omega (arith, length-drop a.at a.piece.now, s.requires.has)) else.if-got-ge-FRONT.false least.least-m.ensures
+    ∙ keep-least a.front-1.now a.got (drop a.at a.piece.now) a.n c.least-m.result
+    (omega (arith, length-drop a.at a.piece.now, c.requires.has)) c.if-got-ge-FRONT.false c.least-m.ensures

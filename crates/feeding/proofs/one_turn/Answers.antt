@@ -6,33 +6,24 @@ use Rattle.feeding.proofs.one_turn.Goals as goal
 
 pub returns-then-known-eq0 : goal.returns-then-known-eq0
 returns-then-known-eq0 c =
-    let if = c.before.before in
-    let s = if.before.before.before.before in
-    let a = s.args in
-    turn-high a.part a.figures-1.now a.front-1.now a.piece.now a.at a.work-1.now s.requires if.if-known-eq0.true c.wide-high.result c.wide-high.ensures.value c.wide-high.ensures.upper_bound
+    let a = c.args in
+    turn-high a.part a.figures-1.now a.front-1.now a.piece.now a.at a.work-1.now c.requires c.if-known-eq0.true c.wide-high.result c.wide-high.ensures.value c.wide-high.ensures.upper_bound
 
 pub settle-begun-requires : goal.settle-begun-requires
 settle-begun-requires c =
-    let w = c.before.before.before in
-    let if = w.before.before in
-    let s = if.before.before.before.before.before in
-    let a = s.args in
+    let a = c.args in
     record {
-      can = few-enough a.part a.figures-1.now a.front-1.now a.piece.now a.at a.work-1.now s.requires;
-      wide = s.requires.sound.wide;
-      most = omega (arith, s.requires.sound.half if.if-known-eq1.true, w.wide-low.ensures.upper_bound);
+      can = few-enough a.part a.figures-1.now a.front-1.now a.piece.now a.at a.work-1.now c.requires;
+      wide = c.requires.sound.wide;
+      most = omega (arith, c.requires.sound.half c.if-known-eq1.true, c.wide-low.ensures.upper_bound);
       come = omega arith;
     }
 
 pub returns-then-known-eq1 : goal.returns-then-known-eq1
 returns-then-known-eq1 c =
-    let t = c.before.before.before in
-    let w = t.before.before.before.before in
-    let if = w.before.before in
-    let s = if.before.before.before.before.before in
-    let a = s.args in
-    turn_low a.part a.figures-1.now a.front-1.now a.piece.now a.at a.work-1.now s.requires if.if-known-eq1.true w.wide-low.result w.wide-low.ensures.value
-    t.settle-begun.result t.settle-begun.new.figures t.settle-begun.new.work t.settle-begun.ensures
+    let a = c.args in
+    turn_low a.part a.figures-1.now a.front-1.now a.piece.now a.at a.work-1.now c.requires c.if-known-eq1.true c.wide-low.result c.wide-low.ensures.value
+    c.settle-begun.result c.settle-begun.new.figures c.settle-begun.new.work c.settle-begun.ensures
 
 pub overflow_sub-size : goal.overflow_sub-size
 overflow_sub-size c =
@@ -43,41 +34,29 @@ overflow_sub-size c =
 
 pub keep-requires : goal.keep-requires
 keep-requires c =
-    let l = c.before in
-    let e = l.before in
-    let s = e.before.before.before.before.before in
-    let two = known_two s.args.part.known s.requires.sound.few e.if-known-eq0.false e.if-known-eq1.false in
-    let left = s.requires.sound.inside (omega (arith, two)) in
+    let two = known_two c.args.part.known c.requires.sound.few c.if-known-eq0.false c.if-known-eq1.false in
+    let left = c.requires.sound.inside (omega (arith, two)) in
     record {
-      wide = s.requires.sound.wide;
-      has = omega (arith, l.least-n.ensures, s.requires.here);
-      small = omega (arith, l.least-n.ensures, left, s.requires.sound.most);
+      wide = c.requires.sound.wide;
+      has = omega (arith, c.least-n.ensures, c.requires.here);
+      small = omega (arith, c.least-n.ensures, left, c.requires.sound.most);
     }
 
 pub settle-more-requires : goal.settle-more-requires
 settle-more-requires c =
-    let k = c.before.before.before.before.before in
-    let l = k.before.before in
-    let e = l.before in
-    let s = e.before.before.before.before.before in
-    let two = known_two s.args.part.known s.requires.sound.few e.if-known-eq0.false e.if-known-eq1.false in
-    let a = s.args in
-    let left = s.requires.sound.inside (omega (arith, two)) in
+    let two = known_two c.args.part.known c.requires.sound.few c.if-known-eq0.false c.if-known-eq1.false in
+    let a = c.args in
+    let left = c.requires.sound.inside (omega (arith, two)) in
     record {
-      can = few-enough a.part a.figures-1.now a.front-1.now a.piece.now a.at a.work-1.now s.requires;
-      wide = omega (arith, s.requires.sound.wide, k.keep.auto.0);
-      most = s.requires.sound.most;
-      come = omega (arith, l.least-n.ensures, left);
+      can = few-enough a.part a.figures-1.now a.front-1.now a.piece.now a.at a.work-1.now c.requires;
+      wide = omega (arith, c.requires.sound.wide, c.keep.auto.0);
+      most = c.requires.sound.most;
+      come = omega (arith, c.least-n.ensures, left);
     }
 
 pub returns : goal.returns
 returns c =
-    let t = c.before.before.before in
-    let k = t.before.before.before.before.before.before in
-    let l = k.before.before in
-    let e = l.before in
-    let s = e.before.before.before.before.before in
-    let two = known_two s.args.part.known s.requires.sound.few e.if-known-eq0.false e.if-known-eq1.false in
-    let a = s.args in
-    turn_more a.part a.figures-1.now a.front-1.now a.piece.now a.at a.work-1.now s.requires two l.least-n.result l.least-n.ensures k.keep.new.front
-    k.keep.ensures t.settle-more.result t.settle-more.new.figures t.settle-more.new.work t.settle-more.ensures
+    let two = known_two c.args.part.known c.requires.sound.few c.if-known-eq0.false c.if-known-eq1.false in
+    let a = c.args in
+    turn_more a.part a.figures-1.now a.front-1.now a.piece.now a.at a.work-1.now c.requires two c.least-n.result c.least-n.ensures c.keep.new.front
+    c.keep.ensures c.settle-more.result c.settle-more.new.figures c.settle-more.new.work c.settle-more.ensures

@@ -6,5 +6,4 @@ use Rattle.feeding.proofs.put_part.Goals as goal
 
 pub bounds-feed-27 : goal.bounds-feed-27
 bounds-feed-27 c =
-    let s = c.before.before in
-    omega (arith, s.requires.long, length-set s.args.feed.now 26 s.args.part.known)
+    omega (arith, c.requires.long, length-set c.args.feed.now 26 c.args.part.known)

@@ -10,15 +10,10 @@ add_into-requires c = c.requires.can
 
 pub returns-then-got-size : goal.returns-then-got-size
 returns-then-got-size c =
-    let added = c.before.before.before in
-    let least = added.before.before.before.before in
-    let then = least.before in
-    let s = then.before.before.before in
-    settle-whole s.args.figures.now s.args.front.now s.args.size s.args.got s.args.work.now s.requires
-    (omega (arith, then.if-got-size.true)) (least.least-kept.result - 0) (omega (arith, least.least-kept.ensures)) added.add_into.result added.add_into.new.figures
-    added.add_into.new.work added.add_into.auto.0 added.add_into.ensures
+    settle-whole c.args.figures.now c.args.front.now c.args.size c.args.got c.args.work.now c.requires
+    (omega (arith, c.if-got-size.true)) (c.least-kept.result - 0) (omega (arith, c.least-kept.ensures)) c.add_into.result c.add_into.new.figures
+    c.add_into.new.work c.add_into.auto.0 c.add_into.ensures
 
 pub returns : goal.returns
 returns c =
-    let s = c.before.before.before in
-    settle-part s.args.figures.now s.args.front.now s.args.size s.args.got s.args.work.now s.requires c.if-got-size.false
+    settle-part c.args.figures.now c.args.front.now c.args.size c.args.got c.args.work.now c.requires c.if-got-size.false

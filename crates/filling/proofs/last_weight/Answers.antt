@@ -29,8 +29,7 @@ last-read c =
 
 pub overflow_cast-result : goal.overflow_cast-result
 overflow_cast-result c =
-    let s = c.before.before in
-    rw (last-read (goal.at.overflow_cast-result c).Else-n-eq0) (tt, omega (arith, last-light s.args.numbers.now s.requires))
+    rw (last-read (goal.at.overflow_cast-result c).Else-n-eq0) (tt, omega (arith, last-light c.args.numbers.now c.requires))
 
 pub returns : goal.returns
 returns c = ap nat_abs (last-read (goal.at.returns c).Else-n-eq0)

@@ -17,8 +17,7 @@ code_of-requires c = rw (to_z-of_z c.ranges.t0) (time-free c.requires.timely, om
 
 pub returns : goal.returns
 returns c =
-    let s = c.before in
-    let is : to_z w32 (of_z w32 c.code_of_lem.result) ≡ code_of s.args.t0 0 =
+    let is : to_z w32 (of_z w32 c.code_of_lem.result) ≡ code_of c.args.t0 0 =
     read_back_lem c.code_of_lem.result c.code_of_lem.type-inv ∙ c.code_of_lem.ensures
-    ∙ ap (λ (t : ℤ). code_of t 0) (to_z-of_z s.ranges.t0) in
-    rw is (started s.requires)
+    ∙ ap (λ (t : ℤ). code_of t 0) (to_z-of_z c.ranges.t0) in
+    rw is (started c.requires)

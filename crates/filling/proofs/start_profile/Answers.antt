@@ -48,8 +48,7 @@ overflow_cast-weight c = rw (weight-back (goal.at.overflow_cast-weight c).In-loo
 
 pub code_of-requires : goal.code_of-requires
 code_of-requires c =
-    let d = c.before.before in
-    let time = time_at (begun (goal.at.code_of-requires c).In-loop-i).args.numbers.now d.loop-i.i in
+    let time = time_at (begun (goal.at.code_of-requires c).In-loop-i).args.numbers.now c.loop-i.i in
     let time-back : to_z w32 (of_z w32 time) ≡ time = read_back_lem time c.code_of-arg-1.given in
     rw (time-back, weight-back (goal.at.code_of-requires c).In-loop-i) ((within (goal.at.code_of-requires c).In-loop-i).time, (within (goal.at.code_of-requires c).In-loop-i).weight-1)
 

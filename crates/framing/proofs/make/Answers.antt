@@ -12,16 +12,14 @@ use Rattle.framing.proofs.make.Goals.{After-put_header, After-totals_of-made, Af
 pub returns-then-count-gt-MOST_JOBS : goal.returns-then-count-gt-MOST_JOBS
 returns-then-count-gt-MOST_JOBS c =
     let t : After-totals_of-made = (goal.at.returns-then-count-gt-MOST_JOBS c).After-totals_of-made in
-    let a = t.before.before in
-    let frames = frames-many a.args.numbers.now a.args.order.now a.requires t.totals_of-made.ensures c.if-count-gt-MOST_JOBS.true in
+    let frames = frames-many t.args.numbers.now t.args.order.now t.requires t.totals_of-made.ensures c.if-count-gt-MOST_JOBS.true in
     (record { answer = ap Refused c.plainly.ensures ∙ frames.0; lent = frames.1 })
 
 pub returns-then-weight-gt-MOST_WEIGHT : goal.returns-then-weight-gt-MOST_WEIGHT
 returns-then-weight-gt-MOST_WEIGHT c =
     let e : Else-count-gt-MOST_JOBS = (goal.at.returns-then-weight-gt-MOST_WEIGHT c).Else-count-gt-MOST_JOBS in
     let t : After-totals_of-made = (goal.at.Else-count-gt-MOST_JOBS e).After-totals_of-made in
-    let a = t.before.before in
-    let frames = frames-heavy a.args.numbers.now a.args.order.now a.requires t.totals_of-made.ensures e.if-count-gt-MOST_JOBS.false
+    let frames = frames-heavy t.args.numbers.now t.args.order.now t.requires t.totals_of-made.ensures e.if-count-gt-MOST_JOBS.false
     c.if-weight-gt-MOST_WEIGHT.true in
     (record { answer = ap Refused c.plainly-then-weight-gt-MOST_WEIGHT.ensures ∙ frames.0; lent = frames.1 })
 
@@ -30,30 +28,9 @@ returns-then-order-written c =
     let f : Else-weight-gt-MOST_WEIGHT = (goal.at.returns-then-order-written c).Else-weight-gt-MOST_WEIGHT in
     let e : Else-count-gt-MOST_JOBS = (goal.at.Else-weight-gt-MOST_WEIGHT f).Else-count-gt-MOST_JOBS in
     let t : After-totals_of-made = (goal.at.Else-count-gt-MOST_JOBS e).After-totals_of-made in
-    let a = t.before.before in
-    let frames = frames-no-room a.args.numbers.now a.args.order.now a.requires t.totals_of-made.ensures e.if-count-gt-MOST_JOBS.false
+    let frames = frames-no-room t.args.numbers.now t.args.order.now t.requires t.totals_of-made.ensures e.if-count-gt-MOST_JOBS.false
     f.if-weight-gt-MOST_WEIGHT.false c.if-order-written.true in
     (record { answer = ap Refused c.plainly-then-order-written.ensures ∙ frames.0; lent = frames.1 })
-
-pub put_header-requires : goal.put_header-requires
-put_header-requires c =
-    let f : Else-weight-gt-MOST_WEIGHT = (goal.at.put_header-requires c).Else-weight-gt-MOST_WEIGHT in
-    let e : Else-count-gt-MOST_JOBS = (goal.at.Else-weight-gt-MOST_WEIGHT f).Else-count-gt-MOST_JOBS in
-    let t : After-totals_of-made = (goal.at.Else-count-gt-MOST_JOBS e).After-totals_of-made in
-    let a = t.before.before in
-    header-room a.args.numbers.now a.args.order.now a.requires t.totals_of-made.ensures e.if-count-gt-MOST_JOBS.false f.if-weight-gt-MOST_WEIGHT.false
-    c.if-order-written.false
-
-pub write_repeats-requires : goal.write_repeats-requires
-write_repeats-requires c =
-    let h : After-put_header = (goal.at.write_repeats-requires c).After-put_header in
-    let g : Else-order-written = (goal.at.After-put_header h).Else-order-written in
-    let f : Else-weight-gt-MOST_WEIGHT = (goal.at.Else-order-written g).Else-weight-gt-MOST_WEIGHT in
-    let e : Else-count-gt-MOST_JOBS = (goal.at.Else-weight-gt-MOST_WEIGHT f).Else-count-gt-MOST_JOBS in
-    let t : After-totals_of-made = (goal.at.Else-count-gt-MOST_JOBS e).After-totals_of-made in
-    let a = t.before.before in
-    can_write a.args.numbers.now a.args.order.now a.requires t.totals_of-made.ensures e.if-count-gt-MOST_JOBS.false f.if-weight-gt-MOST_WEIGHT.false
-    g.if-order-written.false h.put_header.new.bytes h.put_header.auto.0
 
 pub returns : goal.returns
 returns c =
@@ -63,8 +40,7 @@ returns c =
     let f : Else-weight-gt-MOST_WEIGHT = (goal.at.Else-order-written g).Else-weight-gt-MOST_WEIGHT in
     let e : Else-count-gt-MOST_JOBS = (goal.at.Else-weight-gt-MOST_WEIGHT f).Else-count-gt-MOST_JOBS in
     let t : After-totals_of-made = (goal.at.Else-count-gt-MOST_JOBS e).After-totals_of-made in
-    let a = t.before.before in
-    frames-written a.args.numbers.now a.args.order.now a.requires t.totals_of-made.ensures e.if-count-gt-MOST_JOBS.false f.if-weight-gt-MOST_WEIGHT.false
+    frames-written t.args.numbers.now t.args.order.now t.requires t.totals_of-made.ensures e.if-count-gt-MOST_JOBS.false f.if-weight-gt-MOST_WEIGHT.false
     g.if-order-written.false w.write_repeats.new.order
     (w.write_repeats.ensures
-    ∙ ap (first_records 0 (frame_numbers a.args.numbers.now) t.totals_of-made.result.count) h.put_header.ensures)
+    ∙ ap (first_records 0 (frame_numbers t.args.numbers.now) t.totals_of-made.result.count) h.put_header.ensures)

@@ -1,10 +1,9 @@
 -- `gathering::gather` meets its contract: between turns the points of the cells before x are written. Assumes nothing.
-use Prim.Native.Nat.{suc, ◌+◌, ◌-◌, ◌≤◌, ◌<◌}
+use Prim.Native.Nat.{suc, ◌+◌, ◌<◌}
 use mathlib.Core.Path.{◌≡◌}
 use native.Mathlib.Omega.{arith}
 use lib.ListN.{length}
 use Rattle.seconds.specs.Signed.{read_back_lem}
-use Rattle.gathering.specs.Points.{Gathered}
 use Rattle.gathering.specs.PointsLaws.{gather_none, gather-room, gather-more}
 use Rattle.gathering.proofs.gather.Goals as goal
 use Rattle.gathering.proofs.gather.Goals.{In-loop-x}

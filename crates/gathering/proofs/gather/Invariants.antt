@@ -1,11 +1,6 @@
 -- `gathering::gather` meets its contract: between turns the points of the cells before x are written. Assumes nothing.
-use Prim.Native.Nat.{suc, ◌+◌, ◌-◌, ◌≤◌, ◌<◌}
-use mathlib.Core.Path.{◌≡◌}
-use native.Mathlib.Omega.{arith}
-use lib.ListN.{length}
-use Rattle.seconds.specs.Signed.{read_back_lem}
+use Prim.Native.Nat.{◌-◌, ◌≤◌}
 use Rattle.gathering.specs.Points.{Gathered}
-use Rattle.gathering.specs.PointsLaws.{gather_none, gather-room, gather-more}
 use Rattle.gathering.proofs.gather.Given as goal
 
 abbrev pub invariant-loop-x : goal.invariant-loop-x

@@ -7,7 +7,6 @@ use lib.IntN.{ℤ}
 use mir.Syntax.{w32}
 use mir.Val.{to_z, of_z}
 use mir.Facts.{to_z-of_z}
-use borrow.Author.Rules.{rules}
 use Rattle.cells.specs.Laying.{is_point}
 use Rattle.gathering.proofs.keep.Goals as goal
 

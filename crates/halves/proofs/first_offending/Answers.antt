@@ -16,8 +16,7 @@ start c = c.before.before.before.before
 
 pub loop-place-init : goal.loop-place-init
 loop-place-init c =
-    let s = c.before.before in
-    search-starts s.args.bytes.now s.args.n s.args.awaited.now s.requires
+    search-starts c.args.bytes.now c.args.n c.args.awaited.now c.requires
 
 -- In a turn: there are at most 48 jobs, and this one's record is there.
 module _ (c : In-loop-place) where
@@ -36,9 +35,7 @@ job_in-job-requires c = room c
 
 pub take_half-requires : goal.take_half-requires
 take_half-requires c =
-    let j = c.before in
-    let t = j.before in
-    can-take t.loop-place.invariant t.loop-place-test.true j.job_in-job.result j.job_in-job.ensures
+    can-take c.loop-place.invariant c.loop-place-test.true c.job_in-job.result c.job_in-job.ensures
 
 pub shape_of-awaited-then-take_half : goal.shape_of-awaited-then-take_half
 shape_of-awaited-then-take_half c =

@@ -16,11 +16,9 @@ header_at-header-requires c = ((order-fine c.args.bytes.now).0 c.requires).heade
 
 pub first_offending-place-requires : goal.first_offending-place-requires
 first_offending-place-requires c =
-    let h = c.before in
-    let s = h.before.before in
     record {
-      order = (order-fine s.args.bytes.now).0 s.requires;
-      count = (header_read s.args.bytes.now h.header_at-header.result h.header_at-header.ensures).count;
+      order = (order-fine c.args.bytes.now).0 c.requires;
+      count = (header_read c.args.bytes.now c.header_at-header.result c.header_at-header.ensures).count;
       none = refl;
     }
 
@@ -32,16 +30,11 @@ counted c =
 
 pub returns-then-place-n : goal.returns-then-place-n
 returns-then-place-n c =
-    let t = c.before in
-    let f = t.before.before in
-    let h = f.before.before in
     ap Refused c.at_place.ensures
-    ∙ offending-told (numbers_of h.args.bytes.now) f.first_offending-place.result h.header_at-header.result.count
-    f.first_offending-place.ensures (counted (goal.at.returns-then-place-n c).After-header_at-header) t.if-place-n.true
+    ∙ offending-told (numbers_of c.args.bytes.now) c.first_offending-place.result c.header_at-header.result.count
+    c.first_offending-place.ensures (counted (goal.at.returns-then-place-n c).After-header_at-header) c.if-place-n.true
 
 pub returns : goal.returns
 returns c =
-    let f = c.before.before in
-    let h = f.before.before in
-    none_told (numbers_of h.args.bytes.now) f.first_offending-place.result h.header_at-header.result.count
-    f.first_offending-place.ensures (counted (goal.at.returns c).After-header_at-header) c.if-place-n.false
+    none_told (numbers_of c.args.bytes.now) c.first_offending-place.result c.header_at-header.result.count
+    c.first_offending-place.ensures (counted (goal.at.returns c).After-header_at-header) c.if-place-n.false

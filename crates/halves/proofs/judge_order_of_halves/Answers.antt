@@ -34,7 +34,6 @@ returns-in-Refused c =
 
 pub returns-in-Fine : goal.returns-in-Fine
 returns-in-Fine c =
-    let e = c.before in
     let s = start (goal.at.returns-in-Fine c).In-Fine in
     let bytes = s.args.bytes.now in
     c.judge_halves.ensures

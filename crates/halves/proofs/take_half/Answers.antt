@@ -21,8 +21,7 @@ facts s = (job-facts s.args.job).0 s.requires.within
 
 pub overflow_cast-number : goal.overflow_cast-number
 overflow_cast-number c =
-    let s = c.before.before in
-    casts w64 highest_number s.args.job.number (facts (goal.at.overflow_cast-number c).Start).number (omega arith) (omega arith)
+    casts w64 highest_number c.args.job.number (facts (goal.at.overflow_cast-number c).Start).number (omega arith) (omega arith)
 
 pub overflow_cast-weight : goal.overflow_cast-weight
 overflow_cast-weight c =

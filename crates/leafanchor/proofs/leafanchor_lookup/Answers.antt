@@ -13,7 +13,6 @@ use Rattle.leafanchor.proofs.leafanchor_lookup.Goals as goal
 
 pub returns : goal.returns
 returns c =
-    let s = c.before.before in
-    let by : ℤ → Finding = lookup_of s.args.profile.now in
-    let found : c.lookup.result ≡ by (to_z w32 (of_z w32 s.args.t)) = c.lookup.ensures in
-    c.lookup_answer.ensures ∙ ap lookup_numbers (found ∙ ap by (to_z-of_z s.ranges.t))
+    let by : ℤ → Finding = lookup_of c.args.profile.now in
+    let found : c.lookup.result ≡ by (to_z w32 (of_z w32 c.args.t)) = c.lookup.ensures in
+    c.lookup_answer.ensures ∙ ap lookup_numbers (found ∙ ap by (to_z-of_z c.ranges.t))

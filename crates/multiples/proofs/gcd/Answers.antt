@@ -1,6 +1,6 @@
 -- `multiples::gcd` meets its contract. The invariant: the two numbers at hand have the divisor that is asked for. The measure is the
 -- second of them. Assumes nothing.
-use mathlib.Core.Path.{◌≡◌, refl, sym, ◌∙◌}
+use mathlib.Core.Path.{◌≡◌, sym, ◌∙◌}
 use native.Mathlib.Nat.{mod-lt}
 use native.Mathlib.Omega.{arith}
 use Rattle.multiples.specs.Multiples.{gcd}

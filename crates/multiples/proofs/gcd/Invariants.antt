@@ -1,10 +1,7 @@
 -- `multiples::gcd` meets its contract. The invariant: the two numbers at hand have the divisor that is asked for. The measure is the
 -- second of them. Assumes nothing.
-use mathlib.Core.Path.{◌≡◌, refl, sym, ◌∙◌}
-use native.Mathlib.Nat.{mod-lt}
-use native.Mathlib.Omega.{arith}
+use mathlib.Core.Path.{◌≡◌}
 use Rattle.multiples.specs.Multiples.{gcd}
-use Rattle.multiples.specs.MultiplesLaws.{gcd-zero, gcd-step}
 use Rattle.multiples.proofs.gcd.Given as goal
 
 abbrev pub invariant-loop-y : goal.invariant-loop-y

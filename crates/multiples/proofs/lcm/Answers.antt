@@ -4,7 +4,6 @@ use mathlib.Core.Path.{◌≡◌, ap}
 use Prim.Native.Nat.{◌*◌, ◌/◌, ◌≤◌}
 use native.Mathlib.Nat.{div-le_self, mul-le-mul}
 use native.Mathlib.Omega.{arith}
-use borrow.Author.Rules.{rules}
 use Rattle.multiples.specs.Multiples.{gcd, lcm}
 use Rattle.multiples.specs.MultiplesLaws.{gcd-positive}
 use Rattle.multiples.proofs.lcm.Goals as goal

@@ -44,11 +44,10 @@ returns-in-Refused c =
 
 pub returns-in-End : goal.returns-in-End
 returns-in-End c =
-    let t = c.before in
-    let m = t.args.moved in
-    let made : c.no_job-in-End.result ≡ no_job t.plainly.result 1 m.place = c.no_job-in-End.ensures in
-    let none : t.plainly.result ≡ no_refusal = t.plainly.ensures in
-    made ∙ ap (λ (r : Refusal). no_job r 1 m.place) none ∙ sym (ap (step_from m) t.in-End.is)
+    let m = c.args.moved in
+    let made : c.no_job-in-End.result ≡ no_job c.plainly.result 1 m.place = c.no_job-in-End.ensures in
+    let none : c.plainly.result ≡ no_refusal = c.plainly.ensures in
+    made ∙ ap (λ (r : Refusal). no_job r 1 m.place) none ∙ sym (ap (step_from m) c.in-End.is)
 
 pub returns-in-Job : goal.returns-in-Job
 returns-in-Job c =

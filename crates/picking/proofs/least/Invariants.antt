@@ -1,11 +1,7 @@
 -- `picking::least` meets its contract. The invariant: the place is that of the least of the numbers before p.
 -- Assumes nothing.
 use Prim.Native.Nat.{◌-◌, ◌≤◌}
-use mathlib.Core.Path.{◌≡◌}
-use mathlib.Core.Logic.{⊎_elim}
-use native.Mathlib.Omega.{arith}
 use Rattle.picking.specs.Picking.{IsLeast}
-use Rattle.picking.specs.PickingLaws.{least-alone, least-here, least_stays}
 use Rattle.picking.proofs.least.Given as goal
 
 abbrev pub invariant-loop-p : goal.invariant-loop-p

@@ -5,7 +5,6 @@ use mathlib.Core.Path.{ap, ◌∙◌}
 use mathlib.Core.List.{List, ◌++◌}
 use lib.IntN.{ℤ}
 use lib.ListN.{take, drop}
-use borrow.Author.Rules.{rules}
 use Rattle.packed.specs.Layout.{encode, bytes_of, job_layout, record_bytes}
 use Rattle.picking.specs.PuttingLaws.{can-pick, job-given, can-make, next_fits, moves-on, job-next, job-room}
 use Rattle.picking.proofs.put_next.Goals as goal
@@ -18,8 +17,7 @@ pub count_of-requires : goal.count_of-requires
 count_of-requires c =
     let r : After-repeating_at-job = (goal.at.count_of-requires c).After-repeating_at-job in
     let l : After-least-place = (goal.at.After-repeating_at-job r).After-least-place in
-    let a = l.before.before.before.before in
-    (job-given a.requires l.least-place.result l.least-place.ensures r.repeating_at-job.result r.repeating_at-job.ensures).period.low
+    (job-given l.requires l.least-place.result l.least-place.ensures r.repeating_at-job.result r.repeating_at-job.ensures).period.low
 
 pub overflow_add-next : goal.overflow_add-next
 overflow_add-next c =
@@ -40,7 +38,7 @@ put_job-requires c =
     let r : After-repeating_at-job = (goal.at.put_job-requires c).After-repeating_at-job in
     let l : After-least-place = (goal.at.After-repeating_at-job r).After-least-place in
     job-room l.requires l.least-place.result l.least-place.ensures r.repeating_at-job.result
-    r.repeating_at-job.ensures c.Job-of.result c.Job-of.ensures
+    r.repeating_at-job.ensures c.job_of.result c.job_of.ensures
 
 pub returns : goal.returns
 unfolding record_bytes
@@ -49,10 +47,12 @@ returns c =
     let p : After-count_of = (goal.at.After-job_of j).After-count_of in
     let r : After-repeating_at-job = (goal.at.After-count_of p).After-repeating_at-job in
     let l : After-least-place = (goal.at.After-repeating_at-job r).After-least-place in
-    let a = l.before.before.before.before in
     let put : List ℤ → List ℕ = λ seven.
-    take (4 + 8 * a.args.k) a.args.order.now ++ bytes_of 8 (encode (job_layout 0) seven)
-    ++ drop (4 + 8 * a.args.k + 8) a.args.order.now in (record { moves = moves-on a.requires l.least-place.result l.least-place.ensures r.repeating_at-job.result r.repeating_at-job.ensures
-          p.count_of.result p.count_of.ensures; writes = c.put_job.ensures
-          ∙ ap put (job-next a.requires l.least-place.result l.least-place.ensures r.repeating_at-job.result r.repeating_at-job.ensures
-          j.Job-of.result j.Job-of.ensures) })
+    take (4 + 8 * l.args.k) l.args.order.now ++ bytes_of 8 (encode (job_layout 0) seven)
+    ++ drop (4 + 8 * l.args.k + 8) l.args.order.now in (record {
+      moves = moves-on l.requires l.least-place.result l.least-place.ensures r.repeating_at-job.result r.repeating_at-job.ensures
+          p.count_of.result p.count_of.ensures;
+      writes = c.put_job.ensures
+          ∙ ap put (job-next l.requires l.least-place.result l.least-place.ensures r.repeating_at-job.result r.repeating_at-job.ensures
+          j.job_of.result j.job_of.ensures);
+    })

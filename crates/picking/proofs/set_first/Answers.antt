@@ -1,9 +1,9 @@
 -- `picking::set_first` meets its contract. The invariant: the jobs before p have their phases. The measure is the number of jobs
 -- that are left. Assumes nothing.
-use Prim.Native.Nat.{ℕ, ◌-◌, ◌/◌, ◌≤◌, ◌<◌}
-use mathlib.Core.Path.{◌≡◌, refl, ◌∙◌}
+use Prim.Native.Nat.{ℕ, ◌/◌, ◌≤◌}
+use mathlib.Core.Path.{◌≡◌, ◌∙◌}
 use native.Mathlib.Omega.{arith}
-use lib.ListN.{length, get_or, length-set}
+use lib.ListN.{length, length-set}
 use Rattle.seconds.specs.Signed.{signed}
 use Rattle.judge.specs.Gathering.{noted-on}
 use Rattle.frames.specs.Frames.{jobs_given, phase_at}
@@ -18,8 +18,7 @@ read : (c : After-repeating_at-job)
 unfolding jobs_given
 read c =
     let l : At-loop-p = (goal.at.After-repeating_at-job c).At-loop-p in
-    let s = l.before.before in
-    job_read s.args.numbers.now l.loop-p.p c.repeating_at-job.result s.requires.given (omega arith) c.repeating_at-job.ensures
+    job_read l.args.numbers.now l.loop-p.p c.repeating_at-job.result l.requires.given (omega arith) c.repeating_at-job.ensures
 
 pub count_of-requires : goal.count_of-requires
 count_of-requires c = omega (signed, read (goal.at.count_of-requires c).After-repeating_at-job)
@@ -45,5 +44,4 @@ pub returns : goal.returns
 unfolding jobs_given
 returns c =
     let l : At-loop-p = (goal.at.returns c).At-loop-p in
-    let a = l.args in
     none_done l.requires.given l.loop-p.next (room l) (λ p h. l.loop-p.invariant.2 p (omega arith))

@@ -1,14 +1,9 @@
 -- `picking::set_first` meets its contract. The invariant: the jobs before p have their phases. The measure is the number of jobs
 -- that are left. Assumes nothing.
-use Prim.Native.Nat.{ℕ, ◌-◌, ◌/◌, ◌≤◌, ◌<◌}
-use mathlib.Core.Path.{◌≡◌, refl, ◌∙◌}
-use native.Mathlib.Omega.{arith}
-use lib.ListN.{length, get_or, length-set}
-use Rattle.seconds.specs.Signed.{signed}
-use Rattle.judge.specs.Gathering.{noted-on}
-use Rattle.frames.specs.Frames.{jobs_given, phase_at}
-use Rattle.repeating.specs.RepeatingLaws.{JobRead, job_read}
-use Rattle.picking.specs.PickingLaws.{none_done}
+use Prim.Native.Nat.{ℕ, ◌-◌, ◌≤◌, ◌<◌}
+use mathlib.Core.Path.{◌≡◌}
+use lib.ListN.{length, get_or}
+use Rattle.frames.specs.Frames.{phase_at}
 use Rattle.picking.proofs.set_first.Given as goal
 
 abbrev pub invariant-loop-p : goal.invariant-loop-p

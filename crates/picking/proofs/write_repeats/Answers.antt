@@ -1,54 +1,48 @@
 -- `picking::write_repeats` meets its contract. The invariant: the first k repeats are written, and the next ready times are those
 -- behind them. The measure is the number of repeats that are left. Assumes nothing.
-use Prim.Native.Nat.{ℕ, ◌+◌, ◌*◌, ◌-◌, ◌≤◌}
-use mathlib.Core.Path.{◌≡◌, refl, sym, ap, ◌∙◌}
+use Prim.Native.Nat.{ℕ, ◌+◌, ◌*◌, ◌≤◌}
+use mathlib.Core.Path.{◌≡◌, sym, ap, ◌∙◌}
 use mathlib.Core.List.{List, ◌++◌}
 use native.Mathlib.Omega.{arith}
 use lib.IntN.{ℤ}
 use lib.ListN.{length, take, drop}
 use Rattle.packed.specs.Layout.{encode, bytes_of, job_layout, record_bytes}
 use Rattle.packed.specs.Packed.{fields_at}
-use Rattle.pack.specs.Writing.{first_records}
 use Rattle.pack.specs.WritingLaws.{none_written, written-length, one_more}
 use Rattle.frames.specs.Frames.{numbers_for, repeat_at, frame_numbers}
 use Rattle.frames.proofs.FrameLaws.{frame_at}
-use Rattle.picking.specs.Picking.{Reached}
 use Rattle.picking.proofs.write_repeats.Goals as goal
 use Rattle.picking.proofs.write_repeats.Goals.{After-put_next, At-loop-k}
 
 pub loop-k-init : goal.loop-k-init
-loop-k-init c =
-    let a = c.before.before.before.before in (
-      omega arith,
-      sym (none_written 0 (frame_numbers a.args.numbers.now) a.args.order.now),
-      c.set_first.ensures,
-      c.set_first.auto.1.0,
-    )
+loop-k-init c = (
+  omega arith,
+  sym (none_written 0 (frame_numbers c.args.numbers.now) c.args.order.now),
+  c.set_first.ensures,
+  c.set_first.auto.next,
+)
 
 -- The bytes stay as many.
 kept : (l : At-loop-k)
     → length l.loop-k.order ≡ length l.args.order.now
 unfolding record_bytes
 kept l =
-    let a = l.before.before.before.before.before in
-    let room : 4 + 8 * l.loop-k.k ≤ length a.args.order.now = omega (arith, a.requires.room, a.requires.all) in
-    ap length l.loop-k.invariant.1 ∙ written-length 0 (frame_numbers a.args.numbers.now) a.args.order.now l.loop-k.k room
+    let room : 4 + 8 * l.loop-k.k ≤ length l.args.order.now = omega (arith, l.requires.room, l.requires.all) in
+    ap length l.loop-k.invariant.1 ∙ written-length 0 (frame_numbers l.args.numbers.now) l.args.order.now l.loop-k.k room
 
 pub loop-k-preserved : goal.loop-k-preserved
 unfolding record_bytes
 loop-k-preserved c =
     let put : After-put_next = (goal.at.loop-k-preserved c).After-put_next in
     let l : At-loop-k = (goal.at.After-put_next put).At-loop-k in
-    let a = l.before.before.before.before.before in
-    let zs = a.args.numbers.now in
+    let zs = l.args.numbers.now in
     let k : ℕ = l.loop-k.k in
     let seven : List ℤ = numbers_for zs k (repeat_at zs k) in
     let behind : List ℕ → List ℕ = λ bs. take (4 + 8 * k) bs ++ bytes_of 8 (encode (job_layout 0) seven) ++ drop (4 + 8 * k + 8) bs in
-    let four : 4 ≤ length a.args.order.now = omega (arith, a.requires.room) in
-    let there : seven ≡ fields_at (frame_numbers zs) k = sym (frame_at zs k (omega (arith, a.requires.all))) in (
+    let four : 4 ≤ length l.args.order.now = omega (arith, l.requires.room) in
+    let there : seven ≡ fields_at (frame_numbers zs) k = sym (frame_at zs k (omega (arith, l.requires.all))) in (
       omega arith,
-      put.put_next.ensures.writes ∙ ap behind l.loop-k.invariant.1 ∙ one_more 0 (frame_numbers zs) a.args.order.now k seven four there,
+      put.put_next.ensures.writes ∙ ap behind l.loop-k.invariant.1 ∙ one_more 0 (frame_numbers zs) l.args.order.now k seven four there,
       put.put_next.ensures.moves,
-      put.put_next.auto.1.1.0 ∙ l.loop-k.invariant.3,
+      put.put_next.auto.next ∙ l.loop-k.invariant.3,
     )
-

@@ -1,17 +1,10 @@
 -- `picking::write_repeats` meets its contract. The invariant: the first k repeats are written, and the next ready times are those
 -- behind them. The measure is the number of repeats that are left. Assumes nothing.
-use Prim.Native.Nat.{ℕ, ◌+◌, ◌*◌, ◌-◌, ◌≤◌}
-use mathlib.Core.Path.{◌≡◌, refl, sym, ap, ◌∙◌}
-use mathlib.Core.List.{List, ◌++◌}
-use native.Mathlib.Omega.{arith}
-use lib.IntN.{ℤ}
-use lib.ListN.{length, take, drop}
-use Rattle.packed.specs.Layout.{encode, bytes_of, job_layout, record_bytes}
-use Rattle.packed.specs.Packed.{fields_at}
+use Prim.Native.Nat.{◌-◌, ◌≤◌}
+use mathlib.Core.Path.{◌≡◌}
+use lib.ListN.{length}
 use Rattle.pack.specs.Writing.{first_records}
-use Rattle.pack.specs.WritingLaws.{none_written, written-length, one_more}
-use Rattle.frames.specs.Frames.{numbers_for, repeat_at, frame_numbers}
-use Rattle.frames.proofs.FrameLaws.{frame_at}
+use Rattle.frames.specs.Frames.{frame_numbers}
 use Rattle.picking.specs.Picking.{Reached}
 use Rattle.picking.proofs.write_repeats.Given as goal
 

@@ -8,7 +8,6 @@ use Rattle.plan_writer.proofs.write_order.Goals.{Start}
 
 pub returns-then-out-lt-PLAN_ROOM : goal.returns-then-out-lt-PLAN_ROOM
 returns-then-out-lt-PLAN_ROOM c =
-    let t = c.before in
     let s : Start = (goal.at.returns-then-out-lt-PLAN_ROOM c).Start in
     rw c.plainly.ensures
-    (write-no-room s.args.order.now s.args.out.now s.args.work.now s.requires (omega (arith, t.if-out-lt-PLAN_ROOM.true)))
+    (write-no-room s.args.order.now s.args.out.now s.args.work.now s.requires (omega (arith, c.if-out-lt-PLAN_ROOM.true)))

@@ -1,15 +1,15 @@
 -- `pushing::push` meets its contract. The loop's invariant is `Pushing`: the numbers from `i` on are past the limit, and stand
 -- moved on from `p` to the top. Assumes nothing.
-use Rattle.std.proofs.Common.{◌≡◌, ◌≤◌, ◌<◌, ◌-◌, false, true, ℤ, ◌+ℤ◌, ◌≤ℤ◌, ◌<ℤ◌, length, ap, ◌∙◌, arith, rules, w32, to_z, of_z, length-set}
+use Rattle.std.proofs.Common.{◌≡◌, ◌-◌, false, true, ℤ, ◌≤ℤ◌, ◌<ℤ◌, ◌∙◌, arith, rules, w32, to_z, of_z}
 use Rattle.std.proofs.Common.{to_z-of_z}
 use Rattle.std.specs.Int.Signed.{lt_z}
 use mir.Val.{SFits}
 use Rattle.seconds.specs.Signed.{signed}
 use Rattle.codes.specs.Code.{at0, limit_of}
 use Rattle.pushing.specs.declared.Rate.{Rate}
-use Rattle.pushing.specs.Pushes.{Coded, Delta, RateFits, delta_of, waited_as}
+use Rattle.pushing.specs.Pushes.{Coded, Delta, RateFits, delta_of}
 use Rattle.pushing.specs.Numbers.{delta-fits}
-use Rattle.pushing.specs.Places.{Pushing, Placed, placed-low, pushing-start, pushing-room, pushing-coded}
+use Rattle.pushing.specs.Places.{pushing-coded}
 use Rattle.pushing.specs.Places.{pushing-more, pushing-none, pushing-waited}
 use Rattle.pushing.specs.PushLaws.{pushes}
 use Rattle.pushing.proofs.push.Goals as goal
@@ -58,16 +58,18 @@ returns c =
     let limit-is : to_z w32 (of_z w32 c.limit_by-limit.result) ≡ limit_of c.args.ready = to_z-of_z f ∙ rw (to_z-of_z c.ranges.ready) at c.limit_by-limit.ensures in
     let delta-is = delta-back c.requires.fits c.delta_of-delta.ensures in
     elim c.if-place-i.branch [
-      then-place-i w ↦
-        let coded = pushing-coded c.requires c.loop-i.invariant w.if-place-i.true in
-        let r = coded-back coded in
-        let soon : at0 c.args.work.now (c.loop-i.i - 1) ≤ℤ to_z w32 (of_z w32 c.limit_by-limit.result) = elim c.loop-i-test.branch [
-            then-loop-i-test+else-limit-work v ↦
-              let test : lt_z (to_z w32 (of_z w32 c.limit_by-limit.result)) (at0 c.args.work.now (c.loop-i.i - 1)) ≡ false = rw r at v.if-limit-work.false in
-              omega signed
-          | else-loop-i-test v ↦ absurd (omega (arith, w.if-place-i.true, v.loop-i-test.false)) ] in
-        let f : SFits w32 w.waits.result = search rules in
-        let is = to_z-of_z f ∙ rw (to_z-of_z c.ranges.ready, r) at w.waits.ensures in
-        pushes c.requires limit-is delta-is (pushing-waited c.requires c.loop-i.invariant w.pushed-is w.p-is w.if-place-i.true soon is)
-    | else-place-i w ↦
-        pushes c.requires limit-is delta-is (pushing-none c.requires c.loop-i.invariant w.pushed-is w.p-is w.if-place-i.false) ]
+      | then-place-i w ↦
+          let coded = pushing-coded c.requires c.loop-i.invariant w.if-place-i.true in
+          let r = coded-back coded in
+          let soon : at0 c.args.work.now (c.loop-i.i - 1) ≤ℤ to_z w32 (of_z w32 c.limit_by-limit.result) = elim c.loop-i-test.branch [
+            | then-loop-i-test+else-limit-work v ↦
+                let test : lt_z (to_z w32 (of_z w32 c.limit_by-limit.result)) (at0 c.args.work.now (c.loop-i.i - 1)) ≡ false = rw r at v.if-limit-work.false in
+                omega signed
+            | else-loop-i-test v ↦ absurd (omega (arith, w.if-place-i.true, v.loop-i-test.false))
+          ] in
+          let f : SFits w32 w.waits.result = search rules in
+          let is = to_z-of_z f ∙ rw (to_z-of_z c.ranges.ready, r) at w.waits.ensures in
+          pushes c.requires limit-is delta-is (pushing-waited c.requires c.loop-i.invariant w.pushed-is w.p-is w.if-place-i.true soon is)
+      | else-place-i w ↦
+          pushes c.requires limit-is delta-is (pushing-none c.requires c.loop-i.invariant w.pushed-is w.p-is w.if-place-i.false)
+    ]

@@ -31,8 +31,7 @@ few s = omega (arith, s.requires.count, s.requires.order.header.few)
 
 pub loop-i-init : goal.loop-i-init
 loop-i-init c =
-    let s = c.before.before in
-    (omega arith, omega arith, rw (listed-none s.args.bytes.now s.args.starts.now) (wrote_none (omega arith)))
+    (omega arith, omega arith, rw (listed-none c.args.bytes.now c.args.starts.now) (wrote_none (omega arith)))
 
 pub job_in-job-requires : goal.job_in-job-requires
 job_in-job-requires c =

@@ -21,12 +21,11 @@ overflow_add-sum c = omega (arith, c.shared_slice_known-1.given c.loop-i.i)
 
 pub loop-i-preserved : goal.loop-i-preserved
 loop-i-preserved c =
-    let l = c.before.before in
-    let figures = l.args.figures.now in (
+    let figures = c.args.figures.now in (
       omega arith,
       omega arith,
-      omega (arith, c.shared_slice_known-1.given l.loop-i.i),
-      ap (λ n. n + get_or figures l.loop-i.i 0) l.loop-i.invariant.3 ∙ sym (sum_step l.loop-i.i figures l.loop-i.invariant.0),
+      omega (arith, c.shared_slice_known-1.given c.loop-i.i),
+      ap (λ n. n + get_or figures c.loop-i.i 0) c.loop-i.invariant.3 ∙ sym (sum_step c.loop-i.i figures c.loop-i.invariant.0),
     )
 
 pub returns : goal.returns

@@ -5,7 +5,8 @@ use native.Mathlib.Omega.{arith}
 use lib.IntN.{ℤ}
 use lib.ListN.{length}
 use mir.Syntax.{w32}
-use mir.Val.{to_z, of_z}
+use mir.Val.{SFits, to_z, of_z}
+use mir.Facts.{to_z-of_z}
 use borrow.Author.Rules.{rules}
 use Rattle.seconds.specs.Signed.{read_back_lem}
 use Rattle.codes.specs.Code.{at0, end_of, lightness}
@@ -52,7 +53,9 @@ module _ (c : After-cells_to-far) where
   last = at0 (start there).args.work.now (end_of (start there).args.list - 1)
 
   last-back : to_z w32 (of_z w32 last) ≡ last
-  last-back = read_back_lem last c.cells_to-arg-1.given
+  last-back =
+      let f : SFits w32 last = search rules in
+      to_z-of_z f
 
   far-is : c.cells_to-far.result ≡ 512 - lightness last
   far-is = c.cells_to-far.ensures ∙ ap (λ (z : ℤ). 512 - lightness z) last-back
@@ -61,7 +64,8 @@ pub cells_to-far-requires : goal.cells_to-far-requires
 cells_to-far-requires c =
     let e : Else-list-eq0 = (goal.at.cells_to-far-requires c).Else-list-eq0 in
     let z = at0 (start e).args.work.now (end_of (start e).args.list - 1) in
-    let back : to_z w32 (of_z w32 z) ≡ z = read_back_lem z c.cells_to-arg-1.given in
+    let f : SFits w32 z = search rules in
+    let back : to_z w32 (of_z w32 z) ≡ z = to_z-of_z f in
     rw back (carried-least (own (start e)) (some e))
 
 pub gather-count-requires : goal.gather-count-requires

@@ -5,7 +5,8 @@ use mathlib.Core.Path.{◌≡◌, sym, ap, ap₂, ◌∙◌}
 use lib.IntN.{ℤ}
 use lib.Signed.{lt_z, ◌≤ℤ◌}
 use mir.Syntax.{w32}
-use mir.Val.{to_z, of_z}
+use mir.Val.{SFits, to_z, of_z}
+use mir.Facts.{to_z-of_z}
 use borrow.Author.Rules.{rules}
 use Rattle.seconds.specs.Signed.{signed, read_back_lem}
 use Rattle.codes.specs.Code.{at0, lightness}
@@ -24,8 +25,10 @@ module _ (c : After-last_start) where
 
   test-is : lt_z (to_z w32 (of_z w32 last.last_start.result)) (to_z w32 (of_z w32 start.args.job.ready))
       ≡ lt_z (last_start start.args.job start.args.rate) start.args.job.ready
-  test-is = ap₂ lt_z (read_back_lem last.last_start.result last.last_start.ok ∙ last.last_start.ensures)
-      (read_back_lem start.args.job.ready c.struct_told-1.given.1.0.1)
+  test-is =
+      let f : SFits w32 last.last_start.result = search rules in
+      let g : SFits w32 start.args.job.ready = search rules in
+      ap₂ lt_z (to_z-of_z f ∙ last.last_start.ensures) (to_z-of_z g)
 
 pub returns-then-last_start-job : goal.returns-then-last_start-job
 returns-then-last_start-job c =
@@ -56,29 +59,24 @@ module _ (c : Else-end-list) where
   found = (goal.at.Else-end-list c).After-startable_to-end
 
   abbrev ready : Else-last_start-job
-  ready = found.before
-
--- And is read back.
-module _ (c : Else-end-list) where
-  abbrev there : Else-end-list
-  there = c
+  ready = (goal.at.After-startable_to-end found).Else-last_start-job
 
   abbrev number : ℤ
-  number = at0 (start (told (ready there))).args.work.now ((found there).startable_to-end.result - 1)
-
-  number-back : to_z w32 (of_z w32 number) ≡ number
-  number-back = read_back_lem number c.cells_to-arg-1.given
+  number = at0 (start (told ready)).args.work.now (found.startable_to-end.result - 1)
 
 pub cells_to-requires : goal.cells_to-requires
 cells_to-requires c =
-    let d = there (goal.at.cells_to-requires c).Else-end-list in
+    let d = (goal.at.cells_to-requires c).Else-end-list in
     let e = ready d in
-    rw (number-back (goal.at.cells_to-requires c).Else-end-list) (found-least (start (told e)).requires (soon e) (found d).startable_to-end.ensures d.if-end-list.left)
+    let f : SFits w32 (number d) = search rules in
+    let back : to_z w32 (of_z w32 (number d)) ≡ number d = to_z-of_z f in
+    rw back (found-least (start (told e)).requires (soon e) (found d).startable_to-end.ensures d.if-end-list.false)
 
 pub returns : goal.returns
 returns c =
-    let r : Else-end-list = (goal.at.returns c).Else-end-list in
-    let d = there r in
+    let d : Else-end-list = (goal.at.returns c).Else-end-list in
     let e = ready d in
-    some-counted (start (told e)).requires (soon e) (found d).startable_to-end.ensures d.if-end-list.left
-    (c.cells_to.ensures ∙ ap (λ (z : ℤ). 512 - lightness z) (number-back r))
+    let f : SFits w32 (number d) = search rules in
+    let back : to_z w32 (of_z w32 (number d)) ≡ number d = to_z-of_z f in
+    some-counted (start (told e)).requires (soon e) (found d).startable_to-end.ensures d.if-end-list.false
+    (c.cells_to.ensures ∙ ap (λ (z : ℤ). 512 - lightness z) back)

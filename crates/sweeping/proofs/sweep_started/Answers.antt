@@ -6,7 +6,8 @@ use mathlib.Core.List.{List}
 use native.Mathlib.Omega.{arith}
 use lib.IntN.{ℤ}
 use mir.Syntax.{w32}
-use mir.Val.{to_z, of_z}
+use mir.Val.{SFits, to_z, of_z}
+use mir.Facts.{to_z-of_z}
 use borrow.Author.Rules.{rules}
 use Rattle.seconds.specs.RangesLaws.{time-free}
 use Rattle.seconds.specs.Signed.{read_back_lem}
@@ -41,49 +42,45 @@ overflow_sub-used c = omega (arith, some (goal.at.overflow_sub-used c).Start)
 pub slice_copy_out-cells_left : goal.slice_copy_out-cells_left
 slice_copy_out-cells_left c = let s : Start = (goal.at.slice_copy_out-cells_left c).Start in omega (arith, some s, s.requires.sweep.carried.room)
 
--- The last number of the stretch, read back.
-module _ (c : Start) where
-  abbrev start : Start
-  start = c
-
-  abbrev last : ℤ
-  last = at0 start.args.work.now (end_of start.args.list - 1)
-
-  last-back : to_z w32 (of_z w32 last) ≡ last
-  last-back = read_back_lem last c.cells_left-arg-1.given
+-- The last number of the stretch.
+abbrev last : Start → ℤ
+last s = at0 s.args.work.now (end_of s.args.list - 1)
 
 pub cells_left-requires : goal.cells_left-requires
 cells_left-requires c =
-    let s = start (goal.at.cells_left-requires c).Start in
-    rw (last-back (goal.at.cells_left-requires c).Start) (last-least s.args.job s.args.rate s.args.list s.requires.some s.requires.told s.requires.sweep.carried)
+    let s = (goal.at.cells_left-requires c).Start in
+    let f : SFits w32 (last s) = search rules in
+    let back : to_z w32 (of_z w32 (last s)) ≡ last s = to_z-of_z f in
+    rw back (last-least s.args.job s.args.rate s.args.list s.requires.some s.requires.told s.requires.sweep.carried)
 
 -- How far the cells reach.
 module _ (c : After-most-far) where
-  abbrev read : Start
-  read = (goal.at.After-most-far c).Start
-
   abbrev begun : Start
-  begun = start read
+  begun = (goal.at.After-most-far c).Start
 
-  far-is : c.most-far.result ≡ max (cond begun.args.job.critical 0 (512 - lightness (last read))) (begun.args.rate.gain + begun.args.many)
+  last-back : to_z w32 (of_z w32 (last begun)) ≡ last begun
+  last-back =
+      let f : SFits w32 (last begun) = search rules in
+      to_z-of_z f
+
+  far-is : c.most-far.result ≡ max (cond begun.args.job.critical 0 (512 - lightness (last begun))) (begun.args.rate.gain + begun.args.many)
   far-is =
       c.most-far.ensures
       ∙ ap (λ (k : ℕ). max k (begun.args.rate.gain + begun.args.many))
-      (c.cells_left.ensures ∙ ap (λ (z : ℤ). cond begun.args.job.critical 0 (512 - lightness z)) (last-back read))
+      (c.cells_left.ensures ∙ ap (λ (z : ℤ). cond begun.args.job.critical 0 (512 - lightness z)) last-back)
 
 -- The ready time, and what the two calls made of the job, read back.
 module _ (c : After-delta_of) where
-  abbrev struct : After-most-far
-  struct = (goal.at.After-delta_of c).After-most-far
-
   abbrev reached : After-most-far
-  reached = struct.before.before
+  reached = (goal.at.After-delta_of c).After-most-far
 
   abbrev entry : Start
   entry = begun reached
 
   ready-back : to_z w32 (of_z w32 entry.args.job.ready) ≡ entry.args.job.ready
-  ready-back = read_back_lem entry.args.job.ready struct.struct_told-1.given.1.0.1
+  ready-back =
+      let f : SFits w32 entry.args.job.ready = search rules in
+      to_z-of_z f
 
   limit_is : to_z w32 (of_z w32 c.limit_by.result) ≡ limit_of entry.args.job.ready
   limit_is = read_back_lem c.limit_by.result c.limit_by.type_inv ∙ c.limit_by.ensures ∙ ap limit_of ready-back
@@ -94,7 +91,8 @@ module _ (c : After-delta_of) where
 pub limit_by-requires : goal.limit_by-requires
 limit_by-requires c =
     let s = begun (goal.at.limit_by-requires c).After-most-far in
-    let back : to_z w32 (of_z w32 s.args.job.ready) ≡ s.args.job.ready = read_back_lem s.args.job.ready c.struct_told-1.given.1.0.1 in
+    let f : SFits w32 s.args.job.ready = search rules in
+    let back : to_z w32 (of_z w32 s.args.job.ready) ≡ s.args.job.ready = to_z-of_z f in
     rw back (time-free s.requires.sweep.can.starts)
 
 pub push_cells-requires : goal.push_cells-requires
@@ -136,7 +134,7 @@ module _ (c : After-wipe_if) where
   past = (goal.at.After-wipe_if c).After-wipe
 
   abbrev pushed : After-push_cells
-  pushed = past.before.before.before
+  pushed = (goal.at.After-wipe past).After-push_cells
 
 pub lower-rises-requires : goal.lower-rises-requires
 lower-rises-requires c =
@@ -170,21 +168,21 @@ module _ (c : After-lower-rises) where
       let also : Roomy s.args.job ps s.args.list s.args.work.now s.args.pushed.now =
       record { room = omega (arith, as-far, roomy.room); room_more = roomy.room_more; buffer = roomy.buffer } in
       next-carried s.args.job s.args.rate s.args.list s.requires.some s.requires.told carried can also (far-is (reached (made told)))
-      (pushed-on told) (past wiped).wipe.ensures wiped.wipe_if.ensures c.lower-rises.ensures.row c.lower-rises.ensures.laid.0
-      c.lower-rises.ensures.laid.1
+      (pushed-on told) (past wiped).wipe.ensures wiped.wipe_if.ensures c.lower-rises.ensures.row c.lower-rises.ensures.laid
+      c.lower-rises.ensures.counted
 
 pub overflow_add-result : goal.overflow_add-result
 overflow_add-result c =
     let d : After-lower-rises = (goal.at.overflow_add-result c).After-lower-rises in
-    let counted = lowered (wiped d).wipe_if.new.row (past (wiped d)).wipe.last.0 in
-    omega (arith, d.lower-rises.ensures.laid.1, rises-few counted (far (told d)), far-small (told d))
+    let counted = lowered (wiped d).wipe_if.new.row (past (wiped d)).wipe.new.row in
+    omega (arith, d.lower-rises.ensures.counted, rises-few counted (far (told d)), far-small (told d))
 
 pub returns : goal.returns
 returns c points =
-    let d : After-lower-rises = c.before.before in
+    let d : After-lower-rises = (goal.at.returns c).After-lower-rises in
     let p = told d in
     let s = origin p in
-    let laid = d.lower-rises.ensures.laid.0 in
+    let laid = d.lower-rises.ensures.laid in
     record {
       size = laid.size;
       stays = λ k h. laid.stays k (omega arith);

@@ -21,8 +21,7 @@ returns-then-rival-weight c = first-wins (rule_of c.args.tie) (one (goal.at.retu
 
 pub returns-then-weight-rival : goal.returns-then-weight-rival
 returns-then-weight-rival c =
-    let s = c.before.before in
-    second-wins (rule_of s.args.tie) (one (goal.at.returns-then-weight-rival c).Start) (other (goal.at.returns-then-weight-rival c).Start) c.if-weight-rival.true
+    second-wins (rule_of c.args.tie) (one (goal.at.returns-then-weight-rival c).Start) (other (goal.at.returns-then-weight-rival c).Start) c.if-weight-rival.true
 
 -- What the tie says.
 said : (c : After-to_first) → let s : Start = (goal.at.After-to_first c).Start in
@@ -33,14 +32,8 @@ said c =
 
 pub returns-then-to_first : goal.returns-then-to_first
 returns-then-to_first c =
-    let f = c.before in
-    let e = f.before in
-    let s = e.before.before in
-    even-first (rule_of s.args.tie) (one (goal.at.returns-then-to_first c).Start) (other (goal.at.returns-then-to_first c).Start) e.if-rival-weight.false e.if-weight-rival.false (sym (said (goal.at.returns-then-to_first c).After-to_first) ∙ c.if-to_first.true)
+    even-first (rule_of c.args.tie) (one (goal.at.returns-then-to_first c).Start) (other (goal.at.returns-then-to_first c).Start) c.if-rival-weight.false c.if-weight-rival.false (sym (said (goal.at.returns-then-to_first c).After-to_first) ∙ c.if-to_first.true)
 
 pub returns : goal.returns
 returns c =
-    let f = c.before in
-    let e = f.before in
-    let s = e.before.before in
-    even-second (rule_of s.args.tie) (one (goal.at.returns c).Start) (other (goal.at.returns c).Start) e.if-rival-weight.false e.if-weight-rival.false (sym (said (goal.at.returns c).After-to_first) ∙ c.if-to_first.false)
+    even-second (rule_of c.args.tie) (one (goal.at.returns c).Start) (other (goal.at.returns c).Start) c.if-rival-weight.false c.if-weight-rival.false (sym (said (goal.at.returns c).After-to_first) ∙ c.if-to_first.false)

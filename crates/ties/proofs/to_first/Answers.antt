@@ -14,8 +14,7 @@ said s t = rule_of t s.args.one s.args.other
 
 pub returns-in-Sooner : goal.returns-in-Sooner
 returns-in-Sooner c =
-    let s = c.before.before in
-    rw (to_z-of_z s.ranges.one, to_z-of_z s.ranges.other) (sym (ap (said (goal.at.returns-in-Sooner c).Start) c.in-Sooner.is))
+    rw (to_z-of_z c.ranges.one, to_z-of_z c.ranges.other) (sym (ap (said (goal.at.returns-in-Sooner c).Start) c.in-Sooner.is))
 
 pub returns-in-First : goal.returns-in-First
 returns-in-First c = sym (ap (said (goal.at.returns-in-First c).Start) c.in-First.is)

@@ -17,5 +17,4 @@ returns-in-Refused c = sym (ap verdict_numbers c.in-Refused.is)
 
 pub returns-in-Answered : goal.returns-in-Answered
 returns-in-Answered c =
-    let told = c.checked-in-Answered-1.given in
-    ap (λ (y : ℕ). record { refusal = 0; place = 0; field = 0; yes = y }) (byte-is told.0.0) ∙ sym (ap verdict_numbers told.1)
+    ap (λ (y : ℕ). record { refusal = 0; place = 0; field = 0; yes = y }) (byte-is c.in-Answered.holds) ∙ sym (ap verdict_numbers c.in-Answered.is)

@@ -46,9 +46,8 @@ module _ (c : After-last_by) where
 
 pub returns-in-Nothing : goal.returns-in-Nothing
 returns-in-Nothing c =
-    let d = c.before.before in
     let a = (s (goal.at.returns-in-Nothing c).After-last_by).args in
-    sym (left-nothing a.critical (list (goal.at.returns-in-Nothing c).After-last_by) a.weight a.by d.if-critical.false (sym (finds (goal.at.returns-in-Nothing c).After-last_by) ∙ c.in-Nothing.is))
+    sym (left-nothing a.critical (list (goal.at.returns-in-Nothing c).After-last_by) a.weight a.by c.if-critical.false (sym (finds (goal.at.returns-in-Nothing c).After-last_by) ∙ c.in-Nothing.is))
 
 pub returns-in-At : goal.returns-in-At
 returns-in-At c =

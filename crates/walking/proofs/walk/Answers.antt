@@ -105,8 +105,7 @@ step_back-trail-requires c = rw c.bit_at.ensures (step (read-in c)).asks
 
 pub loop-k-preserved : goal.loop-k-preserved
 loop-k-preserved c =
-    let bit = c.before in
-    (step (read-in (goal.at.loop-k-preserved c).After-bit_at)).keeps c.step_back-trail.result (rw bit.bit_at.ensures at c.step_back-trail.ensures)
+    (step (read-in (goal.at.loop-k-preserved c).After-bit_at)).keeps c.step_back-trail.result (rw c.bit_at.ensures at c.step_back-trail.ensures)
 
 pub returns : goal.returns
 returns c =

@@ -22,8 +22,7 @@ read c = header_read c.args.bytes.now c.header_at-header.result c.header_at-head
 
 pub start_at-requires : goal.start_at-requires
 start_at-requires c =
-    let h = c.before.before in
-    rw (t0-kept h.requires (read (goal.at.start_at-requires c).After-header_at-header)) (can-start h.requires (read (goal.at.start_at-requires c).After-header_at-header))
+    rw (t0-kept c.requires (read (goal.at.start_at-requires c).After-header_at-header)) (can-start c.requires (read (goal.at.start_at-requires c).After-header_at-header))
 
 -- The first list that was started.
 started : (c : After-start_at) → let h : After-header_at-header = (goal.at.After-start_at c).After-header_at-header in
