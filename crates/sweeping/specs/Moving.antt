@@ -30,11 +30,15 @@ all_moved ready rate [] = []
 all_moved ready rate (p ∷ ps) = moved_by ready rate p ∷ all_moved ready rate ps
 
 pub moved_in : (ready : ℤ) (rate : Rate) {ps : List Point} (p : Point) → In p ps → In (moved_by ready rate p) (all_moved ready rate ps)
-moved_in ready rate p (head e) = head (ap (moved_by ready rate) e)
-moved_in ready rate p (tail n) = tail (moved_in ready rate p n)
+moved_in ready rate p n = go n
+  where
+    go : {ps : List Point} → In p ps → In (moved_by ready rate p) (all_moved ready rate ps)
+    go (head e) = head (ap (moved_by ready rate) e)
+    go (tail n) = tail (go n)
 
 pub moved-from : (ready : ℤ) (rate : Rate) (ps : List Point) (q : Point) → In q (all_moved ready rate ps)
     → (p : Point) × In p ps × (q ≡ moved_by ready rate p)
+moved-from ready rate [] q x' = elim x' [ ]
 moved-from ready rate (p ∷ ps) q (head e) = (p, head refl, e)
 moved-from ready rate (p ∷ ps) q (tail n) = let k = moved-from ready rate ps q n in (k.0, tail k.1, k.2)
 

@@ -1,7 +1,6 @@
 -- `adding::add` meets its contract: 10, 18, or the order is counted. Assumes nothing.
 use mathlib.Core.Path.{sym, ◌∙◌}
 use Rattle.adding.specs.AddingLaws.{figures-short, work-short, takes-says, add-refused, add_done}
-use borrow.Author.Rules.{rules}
 use Rattle.adding.proofs.add.Goals as goal
 use Rattle.adding.proofs.add.Goals.{After-add_cleared, Else-work-lt-AREA, Start, Then-takes_one}
 

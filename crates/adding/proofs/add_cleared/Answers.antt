@@ -1,7 +1,6 @@
 -- `adding::add_cleared` meets its contract: where the area is not cleared yet, it is. Assumes nothing.
 use mathlib.Core.Path.{◌∙◌}
 use Rattle.area.specs.Clearing.{cleared-same}
-use borrow.Author.Rules.{rules}
 use Rattle.adding.proofs.add_cleared.Goals as goal
 use Rattle.adding.proofs.add_cleared.Goals.{After-add_into-clean, Start}
 

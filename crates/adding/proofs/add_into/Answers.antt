@@ -10,7 +10,6 @@ use Rattle.sheet.specs.Sheet.{one_order, numbers_of}
 use Rattle.sheet.specs.Answered.{answered}
 use Rattle.sheet.specs.AnsweredLaws.{answered-is}
 use Rattle.adding.specs.AddingLaws.{answer-countable, plan-behind, one-joins, one-clears, one-counted}
-use borrow.Author.Rules.{rules}
 use Rattle.adding.proofs.add_into.Goals as goal
 use Rattle.adding.proofs.add_into.Goals.{After-join_into, After-one_order-one, After-plan, Start}
 

@@ -4,7 +4,6 @@ use mathlib.Core.List.{List}
 use Prim.Native.Nat.{ℕ, ◌+◌}
 use lib.ListN.{set}
 use Rattle.sheet.specs.Sheet.{no_sheet, one_order}
-use borrow.Author.Rules.{rules}
 use Rattle.adding.proofs.one_made.Goals as goal
 
 pub returns : goal.returns

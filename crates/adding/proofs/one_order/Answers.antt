@@ -2,7 +2,6 @@
 use mathlib.Core.Path.{◌≡◌, sym, ap, ◌∙◌}
 use Rattle.planner.specs.declared.Planned.TheVariants.{Refused, Made}
 use Rattle.sheet.specs.Sheet.{one_order, numbers_of}
-use borrow.Author.Rules.{rules}
 use Rattle.adding.proofs.one_order.Goals as goal
 use Rattle.adding.proofs.one_order.Goals.{Start}
 

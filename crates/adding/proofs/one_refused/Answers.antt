@@ -5,7 +5,6 @@ use Prim.Native.Nat.{ℕ}
 use lib.ListN.{set}
 use Rattle.sheet.specs.Sheet.{no_sheet}
 use Rattle.adding.specs.AddingLaws.{refused-numbers}
-use borrow.Author.Rules.{rules}
 use Rattle.adding.proofs.one_refused.Goals as goal
 
 pub returns : goal.returns

@@ -1,6 +1,5 @@
 -- `adding::takes_one` meets its contract. Assumes nothing.
 use Rattle.adding.specs.AddingLaws.{takes-by}
-use borrow.Author.Rules.{rules}
 use Rattle.adding.proofs.takes_one.Goals as goal
 
 pub returns : goal.returns

@@ -1,12 +1,8 @@
 -- `area::clear` meets its contract: the first k numbers are cleared. Assumes nothing.
 use Prim.Native.Nat.{◌-◌, ◌≤◌}
-use mathlib.Core.Path.{◌≡◌, refl, ap, ◌∙◌}
-use native.Mathlib.Omega.{arith}
-use lib.IntN.{ℤ, pos}
-use mathlib.Core.List.{List}
-use lib.ListN.{length, set, length-set}
+use mathlib.Core.Path.{◌≡◌}
+use lib.ListN.{length}
 use Rattle.area.specs.Area.{area, cleared_to}
-use Rattle.area.specs.Clearing.{cleared-none, cleared-next, cleared-all}
 use Rattle.area.proofs.clear.Given as goal
 
 abbrev pub invariant-loop-k : goal.invariant-loop-k

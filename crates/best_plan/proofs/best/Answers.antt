@@ -1,7 +1,6 @@
 -- `best_plan::best` meets its contract: an order or a plan that its checks refuse is answered so, any other is weighed.
 -- Assumes nothing.
 use mathlib.Core.Path.{sym, ◌∙◌}
-use borrow.Author.Rules.{rules}
 use Rattle.judge.specs.Told.{told-fine}
 use Rattle.checking.specs.Calls.{legal_checks}
 use Rattle.best_plan.specs.CallLaws.{best-stopped}

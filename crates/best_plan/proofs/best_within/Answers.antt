@@ -6,7 +6,6 @@ use mathlib.Core.List.{◌++◌}
 use native.Mathlib.Omega.{arith}
 use lib.ListN.{length, take, drop}
 use lib.Seq.{length-take-le, drop_at}
-use borrow.Author.Rules.{rules}
 use Rattle.area.specs.Area.{area}
 use Rattle.best_plan.specs.CallLaws.{no_room, best-told}
 use Rattle.best_plan.proofs.best_within.Goals as goal

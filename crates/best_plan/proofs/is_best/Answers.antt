@@ -1,5 +1,4 @@
 -- `best_plan::is_best` meets its contract: a plan that is legal is best by its weight, and no other is. Assumes nothing.
-use borrow.Author.Rules.{rules}
 use Rattle.best_plan.specs.CallLaws.{legal-then, not-legal}
 use Rattle.best_plan.proofs.is_best.Goals as goal
 use Rattle.best_plan.proofs.is_best.Goals.{Then-is_legal}

@@ -1,7 +1,6 @@
 -- `best_plan::keeps_most` meets its contract: the greatest weight of the order's profile decides.
 -- Assumes nothing.
 use mathlib.Core.Path.{◌≡◌}
-use borrow.Author.Rules.{rules}
 use Rattle.seconds.specs.Limits.{rest, latest_free}
 use Rattle.profile.specs.Profile.{worth, order_profile}
 use Rattle.packed.specs.Packed.{order_of}

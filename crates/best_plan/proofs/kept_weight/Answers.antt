@@ -5,7 +5,7 @@ use Prim.Native.Nat.{◌-◌, ◌≤◌, ◌<◌}
 use native.Mathlib.Omega.{arith}
 use Rattle.fields.specs.Asked.{RecordIn}
 use Rattle.fields.specs.Facts.{record-in}
-use Rattle.best_plan.specs.WeightLaws.{Summing, sum-starts, job-weighs, gain-small, sum-on, sum-ends}
+use Rattle.best_plan.specs.WeightLaws.{sum-starts, job-weighs, gain-small, sum-on, sum-ends}
 use Rattle.best_plan.proofs.kept_weight.Goals as goal
 use Rattle.best_plan.proofs.kept_weight.Goals.{After-weight_of-weight, In-loop-place, Start}
 

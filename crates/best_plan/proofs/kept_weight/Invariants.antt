@@ -1,11 +1,8 @@
 -- `best_plan::kept_weight` meets its contract. The loop's invariant: the weight so far and that of the jobs from here on are the
 -- whole weight.
 -- Assumes nothing.
-use Prim.Native.Nat.{◌-◌, ◌≤◌, ◌<◌}
-use native.Mathlib.Omega.{arith}
-use Rattle.fields.specs.Asked.{RecordIn}
-use Rattle.fields.specs.Facts.{record-in}
-use Rattle.best_plan.specs.WeightLaws.{Summing, sum-starts, job-weighs, gain-small, sum-on, sum-ends}
+use Prim.Native.Nat.{◌-◌}
+use Rattle.best_plan.specs.WeightLaws.{Summing}
 use Rattle.best_plan.proofs.kept_weight.Given as goal
 
 abbrev pub invariant-loop-place : goal.invariant-loop-place

@@ -2,7 +2,6 @@
 use Prim.Native.Nat.{ℕ}
 use mathlib.Core.Path.{◌≡◌, sym, ap}
 use mathlib.Core.Option.{Option, some}
-use borrow.Author.Rules.{rules}
 use Rattle.weighing.specs.Weighing.{weight_in}
 use Rattle.best_plan.specs.Weights.{not_above}
 use Rattle.best_plan.proofs.not_above.Goals as goal

@@ -1,6 +1,5 @@
 -- `best_plan::weight_of` meets its contract: a job that is kept counts its weight. Assumes nothing.
 use mir.Facts.{to_z-of_z}
-use borrow.Author.Rules.{rules}
 use Rattle.seconds.specs.Signed.{signed, abs_is}
 use Rattle.fields.specs.Facts.{job-facts, facts-fit}
 use Rattle.best_plan.specs.WeightLaws.{weight-kept}

@@ -1,6 +1,6 @@
 -- `better::better_of` meets its contract: the tests judge the profiles and then the room, and `merge` writes the rest.
 -- Assumes nothing.
-use Rattle.std.proofs.Common.{◌≡◌, sym, ◌∙◌}
+use Rattle.std.proofs.Common.{sym, ◌∙◌}
 use Rattle.better.specs.AnswerLaws.{joins-first-not, joins-second-not, joins-no-room, joins-written}
 use Rattle.better.proofs.better_of.Goals as goal
 

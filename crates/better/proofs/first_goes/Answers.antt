@@ -1,6 +1,6 @@
 -- `better::first_goes` meets its contract: where both profiles have a point left, their numbers say which one is next.
 -- Assumes nothing.
-use Rattle.std.proofs.Common.{ℕ, ◌≡◌, true, false, sym, ◌∙◌, arith, rules, List, length, ℤ, to_z, of_z, to_z-of_z, w32}
+use Rattle.std.proofs.Common.{ℕ, ◌≡◌, true, false, sym, ◌∙◌, arith, rules, List, length, ℤ, to_z-of_z, w32}
 use Rattle.std.specs.Prelude.{◌||◌, ◌&&◌}
 use Rattle.std.specs.Int.Signed.{le_z, lt_z}
 use mir.Val.{SFits}

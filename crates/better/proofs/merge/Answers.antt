@@ -5,7 +5,7 @@ use Rattle.std.specs.Prelude.{◌⊎◌}
 use mir.Val.{SFits}
 use Rattle.seconds.specs.Signed.{signed}
 use Rattle.profiles.specs.PlacesLaws.{next-point}
-use Rattle.better.specs.Merging.{Taken, Merging}
+use Rattle.better.specs.Merging.{Taken}
 use Rattle.better.specs.MergingLaws.{second-left, taken-first, taken-second, merging_start, merging-past, merging-room, merging-kept, merging-end}
 use Rattle.better.proofs.merge.Goals as goal
 use Rattle.better.proofs.merge.Goals.{After-first_goes, Joined-first_goes, then-i-p, else-i-p+then-j-q, then-first_goes, else-first_goes}

@@ -1,9 +1,7 @@
 -- `careful::all_are` is safe and ends: each turn leaves fewer numbers.
 -- Assumes nothing.
 use Prim.Native.Nat.{◌-◌}
-use native.Mathlib.Omega.{arith}
 use lib.ListN.{length}
-use borrow.Author.Rules.{rules}
 use Rattle.careful.proofs.all_are.Given as goal
 
 abbrev pub invariant-loop-i : goal.invariant-loop-i

@@ -1,7 +1,6 @@
 -- `careful::count_of` meets its contract: a number from 0 to a million is a count.
 -- Assumes nothing.
 use mir.Facts.{to_z-of_z}
-use borrow.Author.Rules.{rules}
 use Rattle.seconds.specs.Signed.{signed, abs_is}
 use Rattle.careful.proofs.count_of.Goals as goal
 

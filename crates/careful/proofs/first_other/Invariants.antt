@@ -1,7 +1,6 @@
 -- `careful::first_other` meets its contract. The measure is what is left of the numbers. Assumes nothing.
 use Prim.Native.Nat.{◌-◌, ◌≤◌}
 use lib.ListN.{length}
-use borrow.Author.Rules.{rules}
 use Rattle.careful.proofs.first_other.Given as goal
 
 abbrev pub invariant-loop-i : goal.invariant-loop-i

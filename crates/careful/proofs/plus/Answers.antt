@@ -1,6 +1,5 @@
 -- `careful::plus` is safe: a sum of two numbers no further than a million from 0 fits.
 -- Assumes nothing.
-use borrow.Author.Rules.{rules}
 use Rattle.seconds.specs.Signed.{signed}
 use Rattle.careful.proofs.plus.Goals as goal
 

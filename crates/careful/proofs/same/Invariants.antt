@@ -1,7 +1,6 @@
 -- `careful::same` is safe and ends: each turn leaves fewer numbers to compare.
 -- Assumes nothing.
 use Prim.Native.Nat.{◌-◌}
-use native.Mathlib.Omega.{arith}
 use lib.ListN.{length}
 use Rattle.careful.proofs.same.Given as goal
 

@@ -10,7 +10,6 @@ use lib.ListN.{get_elem?}
 use mir.Syntax.{w32}
 use mir.Val.{to_z, of_z}
 use mir.Facts.{to_z-of_z}
-use borrow.Author.Tests.{not-true, not-false}
 use Rattle.seconds.specs.Signed.{read_back_lem}
 use Rattle.packed.specs.Packed.{jobs_in}
 use Rattle.fields.specs.Fields.{as_job}

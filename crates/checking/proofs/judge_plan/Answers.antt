@@ -8,8 +8,7 @@ use lib.Count.{ones}
 use lib.Dec.{eqb}
 use lib.ListN.{length, get_or}
 use lib.Pow.{pow_pos}
-use borrow.Author.Rules.{rules}
-use borrow.Author.Tests.{eqb-true, eqb-false, not-true, not-false}
+use borrow.Author.Tests.{eqb-true, eqb-false}
 use Rattle.packed.proofs.LayoutLaws.{AreBytes}
 use Rattle.judge.specs.Verdicts.{verdict_of}
 use Rattle.packed_plan.specs.Plan.{plan_bytes, pad_bits, mask_in, count_in, pad_in}

@@ -1,7 +1,6 @@
 -- `checking::legal` meets its contract: what the checks refuse is answered so, any other plan is judged.
 -- Assumes nothing.
 use mathlib.Core.Path.{◌≡◌, sym, ◌∙◌}
-use borrow.Author.Rules.{rules}
 use Rattle.packed.specs.Judge.{fine, judge}
 use Rattle.judge.specs.Told.{told-fine}
 use Rattle.checking.specs.Calls.{legal_checks}

@@ -1,6 +1,5 @@
 -- `checking::mask_of` meets its contract: the mask is the number of the first six bytes.
 -- Assumes nothing.
-use borrow.Author.Rules.{rules}
 use Rattle.packed_plan.specs.Plan.{mask_in}
 use Rattle.checking.proofs.mask_of.Goals as goal
 

@@ -9,7 +9,6 @@ use mir.Syntax.{w32}
 use mir.Val.{SFits, to_z, of_z}
 use mir.Facts.{to_z-of_z}
 use borrow.Author.Rules.{rules}
-use borrow.Author.Tests.{not-true, not-false}
 use Rattle.seconds.specs.Limits.{rest}
 use Rattle.seconds.specs.Ranges.{InTime}
 use Rattle.fields.specs.Fields.{as_job}

@@ -6,7 +6,6 @@ use native.Mathlib.Omega.{arith}
 use lib.ListN.{length, take, drop}
 use lib.Seq.{length-take-le, drop_at}
 use mir.Facts.{to_z-of_z}
-use borrow.Author.Rules.{rules}
 use Rattle.area.specs.Area.{area}
 use Rattle.ties.specs.Winning.{rule_of}
 use Rattle.choosing.proofs.ChoosingLaws.{no_room, compared}

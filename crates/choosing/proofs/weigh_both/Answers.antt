@@ -1,7 +1,6 @@
 -- `choosing::weigh_both` meets its contract: the winner is told by the point of each opening. Assumes nothing.
 use mathlib.Core.Path.{ap₂, ◌∙◌}
 use mir.Facts.{to_z-of_z}
-use borrow.Author.Rules.{rules}
 use Rattle.ties.specs.Winning.{by_points, rule_of}
 use Rattle.choosing.proofs.weigh_both.Goals as goal
 use Rattle.choosing.proofs.weigh_both.Goals.{After-weigh-one, After-weigh-other, Start}

@@ -9,7 +9,7 @@ use mir.Val.{to_z, of_z}
 use mir.Facts.{to_z-of_z}
 use Rattle.seconds.specs.Signed.{signed, read_back_lem}
 use Rattle.codes.specs.Code.{at0}
-use Rattle.codes.specs.Cuts.{Searching, searching-start, searching-down, searching-found}
+use Rattle.codes.specs.Cuts.{searching-start, searching-down, searching-found}
 use Rattle.codes.proofs.after.Goals as goal
 
 pub loop-e-init : goal.loop-e-init

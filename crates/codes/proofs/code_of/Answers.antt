@@ -5,7 +5,6 @@ use native.Mathlib.Omega.{arith}
 use lib.IntN.{pos}
 use mir.Syntax.{w32}
 use mir.Facts.{to_z-of_z, to_z_pos}
-use borrow.Author.Rules.{rules}
 use Rattle.seconds.specs.Signed.{signed}
 use Rattle.codes.specs.Code.{since, per_second, most_light}
 use Rattle.codes.specs.CodeLaws.{since-few}

@@ -1,6 +1,5 @@
 -- `easier_pairs::play_rounds` ends: each turn leaves fewer pairs.
 -- Assumes nothing.
-use native.Mathlib.Omega.{arith}
 use Rattle.easier_pairs.proofs.play_rounds.Given as goal
 
 abbrev pub invariant-loop-left : goal.invariant-loop-left

@@ -1,6 +1,5 @@
 -- `exhaustive::play_rounds` ends: each turn leaves fewer rounds.
 -- Assumes nothing.
-use native.Mathlib.Omega.{arith}
 use Rattle.exhaustive.proofs.play_rounds.Given as goal
 
 abbrev pub invariant-loop-left : goal.invariant-loop-left

@@ -1,7 +1,6 @@
 -- `extending::extend` meets its contract: bytes that 1 to 7 refuse are answered so, any others are gone on with.
 -- Assumes nothing.
 use mathlib.Core.Path.{sym, ◌∙◌}
-use borrow.Author.Rules.{rules}
 use Rattle.judge.specs.Told.{told-fine}
 use Rattle.extending.proofs.CallLaws.{seven, extend-stopped}
 use Rattle.extending.proofs.extend.Goals as goal

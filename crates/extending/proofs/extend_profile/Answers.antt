@@ -3,8 +3,6 @@
 use mathlib.Core.Path.{◌≡◌, sym, ◌∙◌}
 use mathlib.Core.Bool.{true}
 use native.Mathlib.Omega.{arith}
-use borrow.Author.Rules.{rules}
-use borrow.Author.Tests.{not-true, not-false}
 use Rattle.profiles.specs.Numbers.{holds_profile}
 use Rattle.filling.specs.BeginLaws.{last-light}
 use Rattle.extending.proofs.CallLaws.{extend-passed, extend-not-valid, extend-too-heavy}

@@ -1,10 +1,8 @@
 -- `feeding::copy` meets its contract: so many bytes of the piece are kept. Assumes nothing.
 use Prim.Native.Nat.{◌-◌, ◌≤◌}
-use mathlib.Core.Path.{◌≡◌, refl, ap, ◌∙◌}
-use native.Mathlib.Omega.{arith}
-use lib.ListN.{length, take, drop}
-use Rattle.streams.proofs.Kept.{kept_in, kept-length}
-use Rattle.feeding.specs.FeedingLaws.{copy_step}
+use mathlib.Core.Path.{◌≡◌}
+use lib.ListN.{take, drop}
+use Rattle.streams.proofs.Kept.{kept_in}
 use Rattle.feeding.proofs.copy.Given as goal
 
 abbrev pub invariant-loop-i : goal.invariant-loop-i

@@ -1,7 +1,6 @@
 -- `feeding::feed` meets its contract, by its checks. Assumes nothing.
 use mathlib.Core.Path.{sym, ◌∙◌}
 use native.Mathlib.Omega.{arith}
-use borrow.Author.Rules.{rules}
 use Rattle.feeding.specs.TakingLaws.{numbers-short, front-short, area-short, no-state, piece-taken}
 use Rattle.feeding.proofs.feed.Goals as goal
 

@@ -1,15 +1,11 @@
 -- `feeding::feed_piece` meets its contract: what is still to come of the piece, fed to the state so far, is the whole. Assumes nothing.
 use Prim.Native.Nat.{◌+◌, ◌-◌, ◌≤◌, min}
-use mathlib.Core.Path.{◌≡◌, refl, sym, ap, ◌∙◌}
-use mathlib.Core.List.{[]}
-use native.Mathlib.Omega.{arith}
-use lib.ListN.{length, drop, drop_of_length-le}
+use mathlib.Core.Path.{◌≡◌}
+use lib.ListN.{length, drop}
 use Rattle.area.specs.Area.{area}
 use Rattle.sheet.specs.Sheet.{figure_count}
 use Rattle.streams.specs.Stream.{run}
-use Rattle.streams.proofs.StreamLaws.{run-over}
 use Rattle.feeding.specs.Feeding.{seen, Sound, left}
-use Rattle.feeding.specs.FeedingLaws.{left_over, left-some, less-again}
 use Rattle.feeding.proofs.feed_piece.Given as goal
 
 abbrev pub invariant-loop-at : goal.invariant-loop-at

@@ -1,6 +1,5 @@
 -- `feeding::is_state` meets its contract: a sheet's figures, and what has come of an entry. Assumes nothing.
 use mathlib.Core.Bool.{◌&&◌}
-use borrow.Author.Rules.{rules}
 use Rattle.streams.specs.Stream.{is_state}
 use Rattle.feeding.proofs.is_state.Goals as goal
 

@@ -1,6 +1,5 @@
 -- `feeding::one_turn` meets its contract, by what has come of the length. Assumes nothing.
 use native.Mathlib.Omega.{arith}
-use borrow.Author.Rules.{rules}
 use Rattle.feeding.specs.FeedingLaws.{few-enough, turn-high, turn_low, turn_more, known_two}
 use Rattle.feeding.proofs.one_turn.Goals as goal
 

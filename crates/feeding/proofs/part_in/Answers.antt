@@ -1,6 +1,5 @@
 -- `feeding::part_in` meets its contract: the three numbers behind the figures. Assumes nothing.
 use native.Mathlib.Omega.{arith}
-use borrow.Author.Rules.{rules}
 use Rattle.feeding.proofs.part_in.Goals as goal
 
 pub overflow_cast-result : goal.overflow_cast-result

@@ -1,6 +1,5 @@
 -- `feeding::put_part` meets its contract: three numbers are put behind the figures. Assumes nothing.
 use native.Mathlib.Omega.{arith}
-use borrow.Author.Rules.{rules}
 use lib.ListN.{length-set}
 use Rattle.feeding.proofs.put_part.Goals as goal
 

@@ -1,7 +1,6 @@
 -- `feeding::settle` meets its contract: a whole entry is counted by its front, and another goes on. Assumes nothing.
 use Prim.Native.Nat.{◌-◌}
 use native.Mathlib.Omega.{arith}
-use borrow.Author.Rules.{rules}
 use Rattle.feeding.specs.FeedingLaws.{settle-whole, settle-part}
 use Rattle.feeding.proofs.settle.Goals as goal
 

@@ -1,7 +1,6 @@
 -- `feeding::take_piece` meets its contract: the piece is fed, and the numbers put back are the new state's. Assumes nothing.
 use mathlib.Core.Path.{ap, ◌∙◌}
 use native.Mathlib.Omega.{arith}
-use borrow.Author.Rules.{rules}
 use Rattle.streams.specs.Stream.{is_state}
 use Rattle.feeding.specs.declared.Part.{Part}
 use Rattle.feeding.specs.Feeding.{seen}

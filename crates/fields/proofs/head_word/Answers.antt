@@ -1,6 +1,5 @@
 -- `fields::head_word` meets its contract: the number alone in kind 0, else the pack behind it.
 -- Assumes nothing.
-use borrow.Author.Rules.{rules}
 use native.Mathlib.Omega.{arith}
 use Rattle.fields.specs.Bits.{head-old, head-new}
 use Rattle.fields.proofs.head_word.Goals as goal

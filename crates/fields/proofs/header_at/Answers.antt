@@ -4,7 +4,6 @@ use mathlib.Core.Path.{◌∙◌, ap, sym}
 use mir.Syntax.{w32}
 use mir.Val.{SFits}
 use mir.Facts.{to_z-of_z}
-use borrow.Author.Rules.{rules}
 use Rattle.packed.specs.Layout.{decode, header_layout}
 use Rattle.packed.proofs.LayoutLaws.{header-decode}
 use Rattle.packed.specs.Packed.{header_of, header_word}

@@ -1,5 +1,4 @@
 -- `fields::job_in` meets its contract: the kind is the header's. Assumes nothing.
-use borrow.Author.Rules.{rules}
 use Rattle.fields.proofs.job_in.Goals as goal
 
 pub job_by_kind-requires : goal.job_by_kind-requires

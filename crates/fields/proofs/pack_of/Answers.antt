@@ -3,7 +3,6 @@
 use mathlib.Core.Path.{◌≡◌}
 use Prim.Native.Nat.{ℕ, zero, suc, ◌+◌, ◌*◌, ◌%◌, ◌^◌, ◌<◌}
 use native.Mathlib.Omega.{arith}
-use borrow.Author.Rules.{rules}
 use Rattle.packed.specs.Layout.{pack_bits}
 use Rattle.fields.specs.Asked.{HeadBits}
 use Rattle.fields.proofs.pack_of.Goals as goal

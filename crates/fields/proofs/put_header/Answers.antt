@@ -6,7 +6,6 @@ use Prim.Native.Nat.{ℕ, ◌+◌, ◌*◌, ◌^◌, ◌<◌}
 use native.Mathlib.Omega.{arith}
 use lib.ListN.{drop}
 use mir.Facts.{to_z-of_z}
-use borrow.Author.Rules.{rules}
 use Rattle.seconds.specs.Twos.{to_bits}
 use Rattle.seconds.proofs.TwosLaws.{to_bits-below, time-in}
 use Rattle.packed.specs.Layout.{bytes_of}

@@ -3,7 +3,6 @@
 use mathlib.Core.Path.{◌∙◌, sym, ap}
 use Prim.Native.Nat.{◌+◌}
 use native.Mathlib.Omega.{arith}
-use borrow.Author.Rules.{rules}
 use Rattle.packed.proofs.LayoutLaws.{record-front}
 use Rattle.fields.specs.Bits.{front-least}
 use Rattle.fields.proofs.record_bytes.Goals as goal

@@ -1,9 +1,6 @@
 -- `fields::word_at` meets its contract. The loop's invariant: the word is the number of the bytes passed.
 -- Assumes nothing.
-use mathlib.Core.Path.{◌≡◌}
-use Prim.Native.Nat.{◌+◌, ◌*◌, ◌<◌, ◌^◌}
 use native.Mathlib.Omega.{arith}
-use lib.ListN.{get_or}
 use Rattle.fields.specs.Words.{word_none, word_on, word_fits}
 use Rattle.fields.proofs.word_at.Goals as goal
 

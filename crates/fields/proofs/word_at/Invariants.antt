@@ -1,11 +1,7 @@
 -- `fields::word_at` meets its contract. The loop's invariant: the word is the number of the bytes passed.
 -- Assumes nothing.
-use mathlib.Core.Path.{◌≡◌}
-use Prim.Native.Nat.{◌+◌, ◌*◌, ◌-◌, ◌≤◌, ◌<◌, ◌^◌}
-use native.Mathlib.Omega.{arith}
-use lib.ListN.{get_or}
+use Prim.Native.Nat.{◌-◌, ◌≤◌}
 use Rattle.fields.specs.Asked.{WordIs}
-use Rattle.fields.specs.Words.{word_none, word_on, word_fits}
 use Rattle.fields.proofs.word_at.Given as goal
 
 abbrev pub invariant-loop-i : goal.invariant-loop-i

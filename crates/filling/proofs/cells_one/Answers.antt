@@ -1,5 +1,4 @@
 -- `filling::cells_one` meets its contract: the job steps the list by its cells. Assumes nothing.
-use borrow.Author.Rules.{rules}
 use Rattle.filling.specs.JobLaws.{read-task, cells-can, cells-filled}
 use Rattle.filling.proofs.cells_one.Goals as goal
 use Rattle.filling.proofs.cells_one.Goals.{After-sweep-next, After-task_in-task}

@@ -8,9 +8,8 @@ use native.Mathlib.Omega.{arith}
 use lib.IntN.{ℤ}
 use lib.ListN.{length, set, length-set}
 use borrow.Author.Rules.{rules}
-use Rattle.stepping.specs.Stepping.{Buffer}
 use Rattle.sweeping.specs.SweepLaws.{by-list, can-spread}
-use Rattle.filling.specs.Lists.{carried_as, CanFill, FilledSofar, Filling}
+use Rattle.filling.specs.Lists.{carried_as, CanFill, Filling}
 use Rattle.filling.specs.ListsLaws.{filling-spread, next-can, filling-more, filling-all, sums-small}
 use Rattle.filling.proofs.fill_by_cells.Goals as goal
 use Rattle.filling.proofs.fill_by_cells.Goals.{After-buffer-pushed, After-cells_one-next, After-spread, In-loop-k, Start}

@@ -1,17 +1,13 @@
 -- `filling::fill_by_cells` meets its contract. The loop's invariant is `Filling`, from every work area from which the lists so far
 -- are filled: the lists of the first k jobs are said, and the row has the cells of the last. Assumes nothing.
-use Prim.Native.Nat.{ℕ, ◌+◌, ◌-◌, ◌*◌, ◌≤◌, ◌<◌}
-use mathlib.Core.Path.{◌≡◌, refl, sym, ◌∙◌}
+use Prim.Native.Nat.{ℕ, ◌-◌, ◌≤◌}
+use mathlib.Core.Path.{◌≡◌}
 use mathlib.Core.Bool.{true}
 use mathlib.Core.List.{List}
-use native.Mathlib.Omega.{arith}
 use lib.IntN.{ℤ}
-use lib.ListN.{length, set, length-set}
-use borrow.Author.Rules.{rules}
+use lib.ListN.{length}
 use Rattle.stepping.specs.Stepping.{Buffer}
-use Rattle.sweeping.specs.SweepLaws.{by-list, can-spread}
-use Rattle.filling.specs.Lists.{carried_as, CanFill, FilledSofar, Filling}
-use Rattle.filling.specs.ListsLaws.{filling-spread, next-can, filling-more, filling-all, sums-small}
+use Rattle.filling.specs.Lists.{CanFill, FilledSofar, Filling}
 use Rattle.filling.proofs.fill_by_cells.Given as goal
 
 abbrev pub invariant-loop-k : goal.invariant-loop-k

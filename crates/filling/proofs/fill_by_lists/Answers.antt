@@ -7,8 +7,7 @@ use mathlib.Core.List.{[]}
 use native.Mathlib.Omega.{arith}
 use lib.ListN.{length, get_or, set, length-set}
 use borrow.Author.Rules.{rules}
-use Rattle.stepping.specs.Stepping.{Buffer}
-use Rattle.filling.specs.Lists.{as_stretch, listed_as, Filling}
+use Rattle.filling.specs.Lists.{listed_as, Filling}
 use Rattle.filling.specs.ListsLaws.{filling-start, next-can, filling-more, sums-small}
 use Rattle.filling.proofs.fill_by_lists.Goals as goal
 use Rattle.filling.proofs.fill_by_lists.Goals.{After-buffer-pushed, After-list_one-next, In-loop-k, Start}

@@ -1,15 +1,12 @@
 -- `filling::fill_by_lists` meets its contract. The loop's invariant is `Filling`: the lists of the first k jobs stand.
 -- Assumes nothing.
-use Prim.Native.Nat.{ℕ, ◌+◌, ◌-◌, ◌*◌, ◌≤◌, ◌<◌}
-use mathlib.Core.Path.{◌≡◌, refl, sym, ◌∙◌}
-use mathlib.Core.Bool.{Bool, true, false, cond}
+use Prim.Native.Nat.{◌-◌, ◌≤◌}
+use mathlib.Core.Path.{◌≡◌}
+use mathlib.Core.Bool.{false}
 use mathlib.Core.List.{[]}
-use native.Mathlib.Omega.{arith}
-use lib.ListN.{length, get_or, set, length-set}
-use borrow.Author.Rules.{rules}
+use lib.ListN.{length, get_or}
 use Rattle.stepping.specs.Stepping.{Buffer}
-use Rattle.filling.specs.Lists.{as_stretch, listed_as, Filling}
-use Rattle.filling.specs.ListsLaws.{filling-start, next-can, filling-more, sums-small}
+use Rattle.filling.specs.Lists.{as_stretch, Filling}
 use Rattle.filling.proofs.fill_by_lists.Given as goal
 
 abbrev pub invariant-loop-k : goal.invariant-loop-k

@@ -1,7 +1,6 @@
 -- `filling::fill_lists` meets its contract: all are filled as lists, or the others by cells. Assumes nothing.
 use native.Mathlib.Omega.{arith}
 use lib.ListN.{get_or}
-use borrow.Author.Rules.{rules}
 use Rattle.filling.specs.ListsLaws.{filling-all}
 use Rattle.filling.proofs.fill_lists.Goals as goal
 use Rattle.filling.proofs.fill_lists.Goals.{After-blank_row-row, After-fill_by_cells, After-fill_by_lists-sofar, Start, Then-sofar-n}

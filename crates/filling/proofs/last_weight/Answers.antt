@@ -7,7 +7,6 @@ use lib.IntN.{pos, nat_abs}
 use lib.ListN.{length, get_or}
 use mir.Syntax.{w32}
 use mir.Val.{to_z, of_z}
-use borrow.Author.Rules.{rules}
 use Rattle.profile.specs.Profile.{last_weight}
 use Rattle.profiles.specs.Places.{points_of}
 use Rattle.profiles.specs.NumbersLaws.{held}

@@ -1,5 +1,4 @@
 -- `filling::list_one` meets its contract: the job steps the list by the three cases. Assumes nothing.
-use borrow.Author.Rules.{rules}
 use Rattle.filling.specs.JobLaws.{read-task, list-can, list-readable, list-filled}
 use Rattle.filling.proofs.list_one.Goals as goal
 use Rattle.filling.proofs.list_one.Goals.{After-step-next, After-task_in-task}

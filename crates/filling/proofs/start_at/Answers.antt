@@ -5,7 +5,6 @@ use lib.IntN.{ℤ}
 use mir.Syntax.{w32}
 use mir.Val.{to_z, of_z}
 use mir.Facts.{to_z-of_z}
-use borrow.Author.Rules.{rules}
 use Rattle.seconds.specs.RangesLaws.{time-free}
 use Rattle.seconds.specs.Signed.{read_back_lem}
 use Rattle.codes.specs.Code.{code_of}

@@ -8,10 +8,9 @@ use mir.Syntax.{w32}
 use mir.Val.{to_z, of_z}
 use Rattle.seconds.specs.Signed.{read_back_lem}
 use Rattle.profile.proofs.Closure.{PointWithin}
-use Rattle.profiles.specs.Places.{time_at, weight_at, point, AtPoint, NextPoint}
+use Rattle.profiles.specs.Places.{time_at, weight_at, point, NextPoint}
 use Rattle.profiles.specs.PlacesLaws.{at-start, next-point}
 use Rattle.codes.specs.Code.{code_of}
-use Rattle.filling.specs.Begin.{Beginning}
 use Rattle.filling.specs.BeginLaws.{begin-none, next-room, next-within, begin-more, begin-all, weight-read}
 use Rattle.filling.proofs.start_profile.Goals as goal
 use Rattle.filling.proofs.start_profile.Goals.{After-code_of, In-loop-i, Start}

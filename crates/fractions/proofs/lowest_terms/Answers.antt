@@ -2,7 +2,6 @@
 -- Assumes nothing.
 use Prim.Native.Nat.{◌/◌}
 use mathlib.Core.Path.{◌≡◌, ap}
-use borrow.Author.Rules.{rules}
 use Rattle.multiples.specs.Multiples.{gcd}
 use Rattle.multiples.specs.MultiplesLaws.{gcd-some}
 use Rattle.fractions.specs.Fractions.{lowest_of}

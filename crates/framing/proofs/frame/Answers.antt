@@ -26,7 +26,7 @@ pub returns-then-frame : goal.returns-then-frame
 returns-then-frame c =
     let f : After-frame_of-frame = (goal.at.returns-then-frame c).After-frame_of-frame in
     let a = f.args in
-    let frames = frames-long a.numbers.now a.order-1.now (passed (goal.at.After-frame_of-frame f).In-Fine)
+    let frames = frames-long a.numbers.now a.order.now (passed (goal.at.After-frame_of-frame f).In-Fine)
     (found-past f.frame_of-frame.ensures c.if-frame.true) in
     (record { answer = ap Refused c.plainly.ensures ∙ frames.0; lent = frames.1 })
 
@@ -40,5 +40,5 @@ pub returns-in-Refused : goal.returns-in-Refused
 returns-in-Refused c =
     let j : After-judge_given = (goal.at.returns-in-Refused c).After-judge_given in
     let a = j.args in
-    let said = c.refusal-1.given in
-    frames-refused a.numbers.now a.order-1.now said.0.0 (sym j.judge_given.ensures ∙ said.1)
+    let frames = frames-refused a.numbers.now a.order.now c.in-Refused.refusal (sym j.judge_given.ensures ∙ c.in-Refused.is) in
+    record { answer = frames.0; lent = frames.1 }

@@ -40,7 +40,8 @@ returns c =
     let f : Else-weight-gt-MOST_WEIGHT = (goal.at.Else-order-written g).Else-weight-gt-MOST_WEIGHT in
     let e : Else-count-gt-MOST_JOBS = (goal.at.Else-weight-gt-MOST_WEIGHT f).Else-count-gt-MOST_JOBS in
     let t : After-totals_of-made = (goal.at.Else-count-gt-MOST_JOBS e).After-totals_of-made in
-    frames-written t.args.numbers.now t.args.order.now t.requires t.totals_of-made.ensures e.if-count-gt-MOST_JOBS.false f.if-weight-gt-MOST_WEIGHT.false
+    let frames = frames-written t.args.numbers.now t.args.order.now t.requires t.totals_of-made.ensures e.if-count-gt-MOST_JOBS.false f.if-weight-gt-MOST_WEIGHT.false
     g.if-order-written.false w.write_repeats.new.order
     (w.write_repeats.ensures
-    ∙ ap (first_records 0 (frame_numbers t.args.numbers.now) t.totals_of-made.result.count) h.put_header.ensures)
+    ∙ ap (first_records 0 (frame_numbers t.args.numbers.now) t.totals_of-made.result.count) h.put_header.ensures) in
+    record { answer = frames.0; lent = frames.1 }

@@ -2,7 +2,6 @@
 -- Assumes nothing.
 use mathlib.Core.Path.{sym, ap}
 use native.Mathlib.Omega.{arith}
-use borrow.Author.Rules.{rules}
 use Rattle.planner.specs.declared.Planned.TheVariants.{Made}
 use Rattle.halves.specs.Awaiting.{Light, seconds_added}
 use Rattle.halves.proofs.add_seconds.Goals as goal

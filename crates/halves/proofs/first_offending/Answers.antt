@@ -6,7 +6,7 @@ use Prim.Native.Nat.{◌-◌, ◌<◌}
 use native.Mathlib.Omega.{arith}
 use Rattle.fields.specs.Asked.{RecordIn}
 use Rattle.fields.specs.Facts.{record-in}
-use Rattle.halves.specs.AwaitingLaws.{Searching, search-room, search-starts, can-take, room-kept, search-ends, search-on, search-none}
+use Rattle.halves.specs.AwaitingLaws.{search-room, search-starts, can-take, room-kept, search-ends, search-on, search-none}
 use Rattle.halves.proofs.first_offending.Goals as goal
 use Rattle.halves.proofs.first_offending.Goals.{After-job_in-job, After-take_half, In-loop-place, Start}
 

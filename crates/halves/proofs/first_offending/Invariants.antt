@@ -1,12 +1,8 @@
 -- `halves::first_offending` meets its contract. The loop's invariant: no place before this one offends, and the numbers awaited
 -- are those of the jobs before it.
 -- Assumes nothing.
-use mathlib.Core.Path.{sym, ◌∙◌}
-use Prim.Native.Nat.{◌-◌, ◌<◌}
-use native.Mathlib.Omega.{arith}
-use Rattle.fields.specs.Asked.{RecordIn}
-use Rattle.fields.specs.Facts.{record-in}
-use Rattle.halves.specs.AwaitingLaws.{Searching, search-room, search-starts, can-take, room-kept, search-ends, search-on, search-none}
+use Prim.Native.Nat.{◌-◌}
+use Rattle.halves.specs.AwaitingLaws.{Searching}
 use Rattle.halves.proofs.first_offending.Given as goal
 
 abbrev pub invariant-loop-place : goal.invariant-loop-place

@@ -1,7 +1,6 @@
 -- `halves::judge_halves` meets its contract: the search from an empty list of awaited numbers gives the place of check 13.
 -- Assumes nothing.
 use mathlib.Core.Path.{◌≡◌, refl, sym, ap, ◌∙◌}
-use borrow.Author.Rules.{rules}
 use Rattle.packed.specs.Packed.{numbers_of, job_count}
 use Rattle.packed.proofs.PackedLaws.{numbers-count}
 use Rattle.packed.proofs.Accepted.{order-fine}

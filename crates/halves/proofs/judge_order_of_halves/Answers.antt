@@ -1,7 +1,6 @@
 -- `halves::judge_order_of_halves` meets its contract: the order's own verdict, or that of check 13 where it is fine.
 -- Assumes nothing.
 use mathlib.Core.Path.{◌≡◌, sym, ap, ◌∙◌}
-use borrow.Author.Rules.{rules}
 use Rattle.packed.specs.Judge.{fine, judge}
 use Rattle.packed.specs.Packed.{numbers_of}
 use Rattle.packed.specs.Refusals.{order_checks, halves_checks}

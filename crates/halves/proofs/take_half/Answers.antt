@@ -2,7 +2,6 @@
 -- Assumes nothing.
 use native.Mathlib.Omega.{arith}
 use mir.Syntax.{w32, w64}
-use borrow.Author.Rules.{rules}
 use Rattle.seconds.specs.Limits.{highest_number, heaviest, longest}
 use Rattle.seconds.specs.Signed.{signed}
 use Rattle.fields.specs.Facts.{JobFacts, job-facts}

@@ -6,7 +6,6 @@ use lib.IntN.{ℤ, pos, ◌-ℤ◌}
 use mir.Syntax.{w32}
 use mir.Val.{SFits, to_z}
 use mir.Facts.{to_z_pos, to_z-of_z}
-use borrow.Author.Rules.{rules}
 use Rattle.seconds.specs.Signed.{signed, sub_is}
 use Rattle.seconds.proofs.TwosLaws.{byte_low, byte_high}
 use Rattle.heat.proofs.degree.Goals as goal

@@ -2,7 +2,6 @@
 -- Assumes nothing.
 use mathlib.Core.Path.{sym}
 use mir.Facts.{to_z-of_z}
-use borrow.Author.Rules.{rules}
 use Rattle.seconds.specs.Signed.{signed}
 use Rattle.heat.specs.Degree.{heat-none, heat-gentle, heat-steep}
 use Rattle.heat.proofs.seconds_at.Goals as goal

@@ -6,7 +6,7 @@ use lib.IntN.{ℤ}
 use mir.Syntax.{w32}
 use mir.Val.{SFits, to_z, of_z}
 use mir.Facts.{to_z-of_z}
-use Rattle.packed.specs.Judge.{fine, judge}
+use Rattle.packed.specs.Judge.{judge}
 use Rattle.packed.specs.Refusals.{list_checks, job_checks, weight_checks}
 use Rattle.judge.specs.declared.Verdict.{Verdict}
 use Rattle.judge.specs.Verdicts.{verdict_of}

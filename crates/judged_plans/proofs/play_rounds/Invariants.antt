@@ -1,6 +1,5 @@
 -- `judged_plans::play_rounds` ends: each turn leaves fewer orders.
 -- Assumes nothing.
-use native.Mathlib.Omega.{arith}
 use Rattle.judged_plans.proofs.play_rounds.Given as goal
 
 abbrev pub invariant-loop-left : goal.invariant-loop-left

@@ -1,7 +1,6 @@
 -- `judged_plans::try_plans` ends: each turn leaves fewer ways.
 -- Assumes nothing.
 use Prim.Native.Nat.{◌-◌}
-use native.Mathlib.Omega.{arith}
 use Rattle.judged_plans.proofs.try_plans.Given as goal
 
 abbrev pub invariant-loop-way : goal.invariant-loop-way

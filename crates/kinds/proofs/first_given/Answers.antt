@@ -1,6 +1,5 @@
 -- `kinds::first_given` meets its contract. The loop's invariant: what is found is what is found from here on.
 -- Assumes nothing.
-use mathlib.Core.Path.{◌≡◌}
 use Prim.Native.Nat.{◌+◌, ◌*◌}
 use native.Mathlib.Omega.{arith}
 use lib.IntN.{pos}

@@ -1,14 +1,9 @@
 -- `kinds::first_given` meets its contract. The loop's invariant: what is found is what is found from here on.
 -- Assumes nothing.
 use mathlib.Core.Path.{◌≡◌}
-use Prim.Native.Nat.{◌+◌, ◌*◌, ◌-◌, ◌≤◌}
-use native.Mathlib.Omega.{arith}
-use lib.IntN.{pos}
-use lib.ListN.{get_or}
-use mir.Syntax.{w32}
-use mir.Val.{SFits}
+use Prim.Native.Nat.{◌-◌, ◌≤◌}
 use Rattle.packed.specs.Packed.{first_packed}
-use Rattle.kinds.specs.KindsLaws.{from, search-starts, search-on, search-finds, search-ends, counted-given, pack-given}
+use Rattle.kinds.specs.KindsLaws.{from}
 use Rattle.kinds.proofs.first_given.Given as goal
 
 abbrev pub invariant-loop-k : goal.invariant-loop-k

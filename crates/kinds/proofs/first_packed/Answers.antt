@@ -1,6 +1,5 @@
 -- `kinds::first_packed` meets its contract. The loop's invariant: what is found is what is found from here on.
 -- Assumes nothing.
-use mathlib.Core.Path.{◌≡◌}
 use native.Mathlib.Omega.{arith}
 use mir.Syntax.{w32}
 use mir.Val.{SFits}

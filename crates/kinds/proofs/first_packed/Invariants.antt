@@ -2,11 +2,8 @@
 -- Assumes nothing.
 use mathlib.Core.Path.{◌≡◌}
 use Prim.Native.Nat.{◌-◌, ◌≤◌}
-use native.Mathlib.Omega.{arith}
-use mir.Syntax.{w32}
-use mir.Val.{SFits}
 use Rattle.packed.specs.Packed.{numbers_of, first_packed}
-use Rattle.kinds.specs.KindsLaws.{from, search-starts, search-on, search-finds, search-ends, counted-in, pack-in}
+use Rattle.kinds.specs.KindsLaws.{from}
 use Rattle.kinds.proofs.first_packed.Given as goal
 
 abbrev pub invariant-loop-k : goal.invariant-loop-k

@@ -1,7 +1,6 @@
 -- `leafanchor::leafanchor_best` meets its contract: the numbers of the answer, and what the call wrote.
 -- Assumes nothing.
 use mathlib.Core.Path.{ap, ◌∙◌}
-use borrow.Author.Rules.{rules}
 use Rattle.verdict_answers.specs.Numbers.{verdict_numbers}
 use Rattle.leafanchor.proofs.leafanchor_best.Goals as goal
 

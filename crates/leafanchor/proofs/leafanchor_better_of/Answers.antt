@@ -1,7 +1,6 @@
 -- `leafanchor::leafanchor_better_of` meets its contract: the numbers of the answer, and what the call wrote.
 -- Assumes nothing.
 use mathlib.Core.Path.{ap, ◌∙◌}
-use borrow.Author.Rules.{rules}
 use Rattle.plan_answers.specs.Numbers.{better_numbers}
 use Rattle.leafanchor.proofs.leafanchor_better_of.Goals as goal
 

@@ -1,7 +1,6 @@
 -- `leafanchor::leafanchor_extend` meets its contract: the numbers of the answer, and what the call wrote.
 -- Assumes nothing.
 use mathlib.Core.Path.{ap, ◌∙◌}
-use borrow.Author.Rules.{rules}
 use Rattle.extending.specs.Calls.{extended_of}
 use Rattle.plan_answers.specs.Numbers.{extend_numbers}
 use Rattle.leafanchor.proofs.leafanchor_extend.Goals as goal

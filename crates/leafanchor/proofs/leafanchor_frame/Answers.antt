@@ -1,7 +1,6 @@
 -- `leafanchor::leafanchor_frame` meets its contract: the numbers of the answer, and what the call wrote.
 -- Assumes nothing.
 use mathlib.Core.Path.{ap, ◌∙◌}
-use borrow.Author.Rules.{rules}
 use Rattle.packed_answers.specs.Numbers.{framed_numbers}
 use Rattle.leafanchor.proofs.leafanchor_frame.Goals as goal
 use Rattle.leafanchor.proofs.leafanchor_frame.Goals.{After-frame}

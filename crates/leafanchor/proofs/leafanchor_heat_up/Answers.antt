@@ -1,7 +1,6 @@
 -- `leafanchor::leafanchor_heat_up` meets its contract: the numbers of the answer.
 -- Assumes nothing.
 use mathlib.Core.Path.{ap, ◌∙◌}
-use borrow.Author.Rules.{rules}
 use Rattle.packed_answers.specs.Numbers.{heat_numbers}
 use Rattle.leafanchor.proofs.leafanchor_heat_up.Goals as goal
 

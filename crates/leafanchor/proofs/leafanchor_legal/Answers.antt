@@ -1,7 +1,6 @@
 -- `leafanchor::leafanchor_legal` meets its contract: the numbers of the answer.
 -- Assumes nothing.
 use mathlib.Core.Path.{ap, ◌∙◌}
-use borrow.Author.Rules.{rules}
 use Rattle.verdict_answers.specs.Numbers.{verdict_numbers}
 use Rattle.leafanchor.proofs.leafanchor_legal.Goals as goal
 

@@ -5,7 +5,6 @@ use lib.IntN.{ℤ}
 use mir.Syntax.{w32}
 use mir.Val.{to_z, of_z}
 use mir.Facts.{to_z-of_z}
-use borrow.Author.Rules.{rules}
 use Rattle.profiles.specs.Answer.{lookup_of}
 use Rattle.profiles.specs.declared.Finding.{Finding}
 use Rattle.plan_answers.specs.Numbers.{lookup_numbers}

@@ -3,7 +3,6 @@
 use mathlib.Core.Path.{ap, ◌∙◌}
 use lib.ListN.{length}
 use mir.Facts.{to_z-of_z}
-use borrow.Author.Rules.{rules}
 use Rattle.pack.specs.Answer.{pack_of}
 use Rattle.packed_answers.specs.Numbers.{pack_numbers}
 use Rattle.leafanchor.proofs.leafanchor_pack.Goals as goal

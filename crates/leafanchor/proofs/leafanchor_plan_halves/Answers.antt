@@ -1,7 +1,6 @@
 -- `leafanchor::leafanchor_plan_halves` meets its contract: the numbers of the answer, and what the call wrote.
 -- Assumes nothing.
 use mathlib.Core.Path.{ap, ◌∙◌}
-use borrow.Author.Rules.{rules}
 use Rattle.plan_answers.specs.Numbers.{halves_figures}
 use Rattle.leafanchor.proofs.leafanchor_plan_halves.Goals as goal
 

@@ -2,7 +2,6 @@
 -- Assumes nothing.
 use mathlib.Core.Path.{ap, ◌∙◌}
 use mir.Facts.{to_z-of_z}
-use borrow.Author.Rules.{rules}
 use Rattle.opening_answers.specs.Numbers.{question_numbers}
 use Rattle.leafanchor.proofs.leafanchor_question_first.Goals as goal
 use Rattle.leafanchor.proofs.leafanchor_question_first.Goals.{After-question_first, Start}

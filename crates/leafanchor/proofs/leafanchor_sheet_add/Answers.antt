@@ -1,7 +1,6 @@
 -- `leafanchor::leafanchor_sheet_add` meets its contract: the refusal, and what the call leaves. Assumes nothing.
 use mathlib.Core.Path.{ap, ◌∙◌}
 use Rattle.sheet_answers.specs.Numbers.{sheet_numbers}
-use borrow.Author.Rules.{rules}
 use Rattle.leafanchor.proofs.leafanchor_sheet_add.Goals as goal
 use Rattle.leafanchor.proofs.leafanchor_sheet_add.Goals.{After-add}
 

@@ -1,7 +1,6 @@
 -- `leafanchor::leafanchor_sheet_join` meets its contract: the refusal, and what the call leaves. Assumes nothing.
 use mathlib.Core.Path.{ap, ◌∙◌}
 use Rattle.sheet_answers.specs.Numbers.{sheet_numbers}
-use borrow.Author.Rules.{rules}
 use Rattle.leafanchor.proofs.leafanchor_sheet_join.Goals as goal
 use Rattle.leafanchor.proofs.leafanchor_sheet_join.Goals.{After-join}
 

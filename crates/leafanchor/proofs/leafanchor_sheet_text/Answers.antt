@@ -1,6 +1,5 @@
 -- `leafanchor::leafanchor_sheet_text` meets its contract: the refusal, the bytes, and what the call wrote. Assumes nothing.
 use mathlib.Core.Path.{◌∙◌}
-use borrow.Author.Rules.{rules}
 use Rattle.leafanchor.proofs.leafanchor_sheet_text.Goals as goal
 use Rattle.leafanchor.proofs.leafanchor_sheet_text.Goals.{After-tell}
 

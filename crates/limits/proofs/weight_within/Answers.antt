@@ -3,7 +3,6 @@
 use mathlib.Core.Path.{◌∙◌, ap}
 use lib.IntN.{pos}
 use mir.Facts.{to_z-of_z}
-use borrow.Author.Rules.{rules}
 use Rattle.seconds.specs.Ranges.{is_between}
 use Rattle.limits.proofs.weight_within.Goals as goal
 

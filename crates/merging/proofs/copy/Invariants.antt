@@ -1,12 +1,6 @@
 -- `merging::copy` meets its contract: the first k numbers are copied, as far as they stand before their copy. Assumes nothing.
-use Prim.Native.Nat.{ℕ, ◌+◌, ◌-◌, ◌≤◌}
-use mathlib.Core.Path.{◌≡◌, refl}
-use mathlib.Core.List.{List}
-use lib.IntN.{ℤ}
-use lib.ListN.{length}
-use native.Mathlib.Omega.{arith}
-use Rattle.merging.specs.Joins.{CanCopyFour, CopiedOver}
-use Rattle.merging.specs.Laying.{over_none, over-more, over-all}
+use Prim.Native.Nat.{◌-◌}
+use Rattle.merging.specs.Joins.{CopiedOver}
 use Rattle.merging.proofs.copy.Given as goal
 
 abbrev pub invariant-loop-k : goal.invariant-loop-k

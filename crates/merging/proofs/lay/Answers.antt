@@ -1,9 +1,7 @@
 -- `merging::lay` meets its contract: the first k numbers are laid. Assumes nothing.
-use Prim.Native.Nat.{◌-◌, ◌≤◌}
 use mathlib.Core.Path.{◌≡◌}
 use native.Mathlib.Omega.{arith}
 use Rattle.seconds.specs.Signed.{read_back_lem}
-use Rattle.merging.specs.Joins.{Laid}
 use Rattle.merging.specs.Laying.{laid_none, laid_more}
 use Rattle.merging.proofs.lay.Goals as goal
 

@@ -1,6 +1,6 @@
 -- `merging::merge` meets its contract: between turns, what is kept of the numbers so far is written, and the next number of each list
 -- is at hand. Assumes nothing.
-use Rattle.std.proofs.Common.{◌≡◌, suc, refl, cond, ltb, ℕ, ◌+◌, ◌-◌, ℤ, ap, ◌∙◌, arith, rules, w32, to_z, of_z, to_z-of_z}
+use Rattle.std.proofs.Common.{◌≡◌, suc, ℕ, ◌+◌, ◌-◌, ap, ◌∙◌, arith, rules, w32, to_z-of_z}
 use mir.Val.{SFits}
 use Rattle.codes.specs.Code.{at0}
 use Rattle.merging.specs.TurnLaws.{merging-turn, next_here, next-there, merging-end}

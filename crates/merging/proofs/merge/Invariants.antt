@@ -1,19 +1,9 @@
 -- `merging::merge` meets its contract: between turns, what is kept of the numbers so far is written, and the next number of each list
 -- is at hand. Assumes nothing.
-use Prim.Native.Nat.{ℕ, suc, ◌+◌, ◌-◌, ◌≤◌, min}
-use mathlib.Core.Path.{◌≡◌, refl, ap, ◌∙◌}
-use mathlib.Core.Bool.{Bool, true, false, cond}
-use native.Mathlib.Omega.{arith}
-use lib.Dec.{ltb}
-use lib.IntN.{ℤ, pos}
-use lib.Signed.{le_z, ◌≤ℤ◌}
-use mir.Syntax.{w32}
-use mir.Val.{to_z, of_z}
-use Rattle.codes.specs.Code.{at0, lightness}
-use Rattle.seconds.specs.Signed.{read_back_lem}
+use mathlib.Core.Path.{◌≡◌}
+use Rattle.codes.specs.Code.{at0}
 use Rattle.merging.specs.Turns.{turns_at, kept_of}
-use Rattle.merging.specs.TurnLaws.{Merging, merging_start, inside-list, inside-pushed, inside-merged, merging-least}
-use Rattle.merging.specs.TurnLaws.{merging-turn, next_here, next-there, merging-end}
+use Rattle.merging.specs.TurnLaws.{Merging}
 use Rattle.merging.proofs.merge.Given as goal
 
 abbrev pub invariant-loop-left : goal.invariant-loop-left

@@ -2,7 +2,6 @@
 -- Assumes nothing.
 use Prim.Native.Nat.{ℕ, ◌-◌}
 use mathlib.Core.Path.{◌≡◌, sym, ap, ◌∙◌}
-use borrow.Author.Rules.{rules}
 use Rattle.packed.specs.Layout.{header_bytes}
 use Rattle.ties.specs.declared.Chosen.{Chosen}
 use Rattle.opening_answers.specs.Numbers.{choose_numbers}

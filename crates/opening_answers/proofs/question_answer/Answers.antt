@@ -1,7 +1,6 @@
 -- `opening_answers::question_answer` meets its contract: each arm is a case of the answer.
 -- Assumes nothing.
 use mathlib.Core.Path.{sym, ap}
-use borrow.Author.Rules.{rules}
 use Rattle.ties.specs.declared.Chosen.{Chosen}
 use Rattle.opening_answers.specs.Numbers.{question_numbers}
 use Rattle.opening_answers.specs.declared.QuestionAnswer.{QuestionAnswer}

@@ -1,6 +1,5 @@
 -- `openings::choose` meets its contract: it is `hand` at its tie. Assumes nothing.
 use mir.Facts.{to_z-of_z}
-use borrow.Author.Rules.{rules}
 use Rattle.openings.proofs.choose.Goals as goal
 use Rattle.openings.proofs.choose.Goals.{Start}
 

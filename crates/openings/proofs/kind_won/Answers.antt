@@ -4,7 +4,6 @@ use Prim.Native.Nat.{ℕ, ◌<◌}
 use mathlib.Core.Path.{◌≡◌, sym, ap, ◌∙◌}
 use native.Mathlib.Omega.{arith}
 use lib.Dec.{lit<}
-use borrow.Author.Rules.{rules}
 use Rattle.packed.specs.Packed.{kind_of}
 use Rattle.packed.proofs.Accepted.{order-fine}
 use Rattle.packed.proofs.RefusalLaws.{HeaderFine}

@@ -1,6 +1,5 @@
 -- `openings::question` meets its contract: it is `tell` at its tie. Assumes nothing.
 use mir.Facts.{to_z-of_z}
-use borrow.Author.Rules.{rules}
 use Rattle.openings.proofs.question.Goals as goal
 use Rattle.openings.proofs.question.Goals.{Start}
 

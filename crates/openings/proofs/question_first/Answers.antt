@@ -1,6 +1,5 @@
 -- `openings::question_first` meets its contract: it is `tell` at its tie. Assumes nothing.
 use mir.Facts.{to_z-of_z}
-use borrow.Author.Rules.{rules}
 use Rattle.openings.proofs.question_first.Goals as goal
 use Rattle.openings.proofs.question_first.Goals.{Start}
 

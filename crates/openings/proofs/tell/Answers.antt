@@ -1,7 +1,6 @@
 -- `openings::tell` meets its contract: the kind is told with the answer of `ask`. Assumes nothing.
 use mathlib.Core.Path.{refl}
 use mir.Facts.{to_z-of_z}
-use borrow.Author.Rules.{rules}
 use Rattle.ties.specs.Winning.{rule_of}
 use Rattle.choosing.specs.Choosing.{Asked}
 use Rattle.choosing.proofs.ChoosingLaws.{both-accepted}

@@ -1,6 +1,5 @@
 -- `packed::without_place` meets its contract: what it does not name is 0.
 -- Assumes nothing.
-use borrow.Author.Rules.{rules}
 use Rattle.packed.proofs.without_place.Goals as goal
 
 pub returns : goal.returns

@@ -1,7 +1,6 @@
 -- `packed_answers::heat_answer` meets its contract: each arm is a case of the answer.
 -- Assumes nothing.
 use mathlib.Core.Path.{sym, ap}
-use borrow.Author.Rules.{rules}
 use Rattle.packed_answers.specs.Numbers.{heat_numbers}
 use Rattle.packed_answers.proofs.heat_answer.Goals as goal
 

@@ -1,7 +1,6 @@
 -- `packed_answers::open_answer` meets its contract: each arm is a case of the answer.
 -- Assumes nothing.
 use mathlib.Core.Path.{sym, ap}
-use borrow.Author.Rules.{rules}
 use Rattle.packed_answers.specs.Numbers.{open_numbers}
 use Rattle.packed_answers.proofs.open_answer.Goals as goal
 

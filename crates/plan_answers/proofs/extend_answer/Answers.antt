@@ -1,7 +1,6 @@
 -- `plan_answers::extend_answer` meets its contract: each arm is a case of the answer.
 -- Assumes nothing.
 use mathlib.Core.Path.{sym, ap}
-use borrow.Author.Rules.{rules}
 use Rattle.plan_answers.specs.Numbers.{extend_numbers}
 use Rattle.plan_answers.proofs.extend_answer.Goals as goal
 

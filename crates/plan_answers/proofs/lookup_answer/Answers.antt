@@ -1,7 +1,6 @@
 -- `plan_answers::lookup_answer` meets its contract: each arm is a case of the answer.
 -- Assumes nothing.
 use mathlib.Core.Path.{sym, ap}
-use borrow.Author.Rules.{rules}
 use Rattle.plan_answers.specs.Numbers.{lookup_numbers}
 use Rattle.plan_answers.proofs.lookup_answer.Goals as goal
 

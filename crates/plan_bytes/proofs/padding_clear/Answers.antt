@@ -7,7 +7,6 @@ use lib.Dec.{eqb}
 use lib.ListN.{length, get_or}
 use lib.Pow.{pow_pos}
 use Rattle.packed_plan.specs.Plan.{pad_bits}
-use borrow.Author.Rules.{rules}
 use Rattle.plan_bytes.proofs.padding_clear.Goals as goal
 use Rattle.plan_bytes.proofs.padding_clear.Goals.{Start}
 

@@ -6,7 +6,6 @@ use native.Mathlib.Numerals.{add-one}
 use native.Mathlib.Omega.{arith}
 use lib.Signed.{lt_z}
 use mir.Facts.{to_z-of_z}
-use borrow.Author.Rules.{rules}
 use Rattle.seconds.specs.Limits.{left_out}
 use Rattle.seconds.specs.Signed.{signed}
 use Rattle.plan_bytes.specs.Asks.{start_put}

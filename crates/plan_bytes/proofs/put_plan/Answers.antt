@@ -12,7 +12,7 @@ use borrow.Author.Rules.{rules}
 use Rattle.packed_plan.specs.Plan.{plan_bytes, pack_plan, starts_kept}
 use Rattle.plan_bytes.specs.Asks.{PlanRoom}
 use Rattle.plan_bytes.specs.Plans.{mask-put, mask-room, mask-behind}
-use Rattle.plan_bytes.specs.Plans.{Writing, writing-starts, writing-long, writing-all, kept-room, writing-on}
+use Rattle.plan_bytes.specs.Plans.{writing-starts, writing-long, writing-all, kept-room, writing-on}
 use Rattle.plan_bytes.proofs.put_plan.Goals as goal
 use Rattle.plan_bytes.proofs.put_plan.Goals.{After-loop-place, After-put_kept-kept, After-put_word, At-loop-place, In-loop-place, Start}
 

@@ -4,7 +4,6 @@ use mathlib.Core.Path.{◌∙◌, ap}
 use Prim.Native.Nat.{◌+◌, ◌*◌, ◌-◌}
 use native.Mathlib.Omega.{arith}
 use mir.Facts.{to_z-of_z}
-use borrow.Author.Rules.{rules}
 use Rattle.seconds.specs.Twos.{to_bits}
 use Rattle.plan_bytes.specs.Steps.{Made, made, begun-small, put_is}
 use Rattle.plan_bytes.proofs.put_start.Goals as goal

@@ -3,7 +3,6 @@ use mathlib.Core.Path.{◌≡◌}
 use native.Mathlib.Omega.{arith}
 use lib.ListN.{length, take}
 use lib.Seq.{length-take-le}
-use borrow.Author.Rules.{rules}
 use Rattle.report.specs.Report.{report_of, printed}
 use Rattle.planner.specs.Longer.{longest-is}
 use Rattle.report.specs.Telling.{front-told}

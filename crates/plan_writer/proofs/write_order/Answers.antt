@@ -1,7 +1,6 @@
 -- `plan_writer::write_order` meets its contract: the test judges the room.
 -- Assumes nothing.
 use native.Mathlib.Omega.{arith}
-use borrow.Author.Rules.{rules}
 use Rattle.plan_writer.specs.CallLaws.{write-no-room}
 use Rattle.plan_writer.proofs.write_order.Goals as goal
 use Rattle.plan_writer.proofs.write_order.Goals.{Start}

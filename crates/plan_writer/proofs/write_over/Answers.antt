@@ -1,6 +1,5 @@
 -- `plan_writer::write_over` meets its contract: planning's refusal is handed on, and its plan is put in bytes.
 -- Assumes nothing.
-use borrow.Author.Rules.{rules}
 use Rattle.plan_writer.specs.CallLaws.{write-handed-on, write-room, write_done}
 use Rattle.plan_writer.proofs.write_over.Goals as goal
 use Rattle.plan_writer.proofs.write_over.Goals.{After-plan_order, After-put_plan, Start}

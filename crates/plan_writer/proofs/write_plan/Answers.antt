@@ -1,7 +1,6 @@
 -- `plan_writer::write_plan` meets its contract: an order that its checks refuse is answered so, any other is planned and written.
 -- Assumes nothing.
 use mathlib.Core.Path.{sym, ◌∙◌}
-use borrow.Author.Rules.{rules}
 use Rattle.packed.specs.Refusals.{order_checks}
 use Rattle.judge.specs.Told.{told-fine}
 use Rattle.plan_writer.specs.CallLaws.{write-stopped}

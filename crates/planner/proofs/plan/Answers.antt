@@ -1,7 +1,6 @@
 -- `planner::plan` meets its contract: an order that its checks refuse is answered so, any other is planned.
 -- Assumes nothing.
 use mathlib.Core.Path.{sym, ◌∙◌}
-use borrow.Author.Rules.{rules}
 use Rattle.packed.specs.Refusals.{order_checks}
 use Rattle.judge.specs.Told.{told-fine}
 use Rattle.planner.specs.CallLaws.{plan-stopped}

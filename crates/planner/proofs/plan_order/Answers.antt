@@ -6,7 +6,6 @@ use mathlib.Core.List.{◌++◌}
 use native.Mathlib.Omega.{arith}
 use lib.ListN.{length, take, drop}
 use lib.Seq.{length-take-le, drop_at}
-use borrow.Author.Rules.{rules}
 use Rattle.packed.proofs.Accepted.{order-fine}
 use Rattle.fields.specs.Facts.{HeaderRead, header_read}
 use Rattle.area.specs.Area.{area}

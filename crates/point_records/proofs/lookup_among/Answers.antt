@@ -1,6 +1,6 @@
 -- `point_records::lookup_among` meets its contract: no more records are taken than there are.
 -- Assumes nothing.
-use Rattle.std.proofs.Common.{ℕ, ◌≡◌, min, refl, ◌∙◌, arith, rules, List, length, take, to_z-of_z}
+use Rattle.std.proofs.Common.{◌≡◌, min, refl, ◌∙◌, rules, List, length, to_z-of_z}
 use Rattle.point_records.specs.Records.{most_passed}
 use Rattle.point_records.specs.RecordLaws.{few-taken}
 use Rattle.point_records.specs.declared.Point.{Point}

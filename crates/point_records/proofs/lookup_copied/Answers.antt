@@ -1,11 +1,11 @@
 -- `point_records::lookup_copied` meets its contract: turn by turn one record more is laid out, and the lookup goes over the
 -- numbers of all that count.
 -- Assumes nothing.
-use Rattle.std.proofs.Common.{ℕ, ◌≡◌, ◌*◌, ◌≤◌, ◌<◌, refl, sym, ◌∙◌, arith, rules, List, length, take, ℤ, to_z, of_z, to_z-of_z, w32}
+use Rattle.std.proofs.Common.{ℕ, ◌≡◌, ◌*◌, refl, ◌∙◌, arith, rules, List, length, to_z-of_z, w32}
 use Rattle.std.specs.Prelude.{get_or}
 use mir.Val.{SFits}
-use Rattle.point_records.specs.Records.{flattened, most_read, blank}
-use Rattle.point_records.specs.RecordLaws.{Laid, lay-more, laid-all}
+use Rattle.point_records.specs.Records.{most_read, blank}
+use Rattle.point_records.specs.RecordLaws.{lay-more, laid-all}
 use Rattle.point_records.specs.declared.Point.{Point}
 use Rattle.point_records.proofs.lookup_copied.Goals as goal
 

@@ -1,6 +1,6 @@
 -- `point_records::lookup_records` meets its contract: the copy is looked up, and as many records as are copied decide the answer.
 -- Assumes nothing.
-use Rattle.std.proofs.Common.{ℕ, ◌≡◌, min, refl, ◌∙◌, arith, List, length, take, to_z-of_z}
+use Rattle.std.proofs.Common.{ℕ, ◌≡◌, min, ◌∙◌, arith, List, length, take, to_z-of_z}
 use Rattle.point_records.specs.Records.{most_read}
 use Rattle.point_records.specs.RecordLaws.{read-decides}
 use Rattle.point_records.specs.declared.Point.{Point}

@@ -1,6 +1,6 @@
 -- `profiles::lookup` meets its contract: after `valid`, the numbers before the first later point say what is found.
 -- Assumes nothing.
-use Rattle.std.proofs.Common.{ℕ, ◌-◌, ◌<◌, ◌≡◌, true, sym, ap, ◌∙◌, arith, rules, List, length, ℤ, pos, to_z, of_z, to_z-of_z, w32}
+use Rattle.std.proofs.Common.{ℕ, ◌-◌, ◌≡◌, true, sym, ◌∙◌, arith, rules, List, ℤ, pos, to_z, of_z, to_z-of_z, w32}
 use Rattle.std.specs.Prelude.{get_or}
 use mir.Val.{SFits}
 use Rattle.seconds.specs.Signed.{signed}

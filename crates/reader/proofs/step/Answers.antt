@@ -2,13 +2,13 @@
 -- Assumes nothing.
 use mathlib.Core.Path.{◌≡◌, sym, ap, ◌∙◌}
 use mathlib.Core.List.{List}
-use Prim.Native.Nat.{ℕ, ◌+◌, ◌<◌}
+use Prim.Native.Nat.{ℕ, ◌+◌}
 use native.Mathlib.Omega.{arith}
 use lib.Dec.{eqb}
 use borrow.Author.Tests.{eq-eqb, ne_eqb}
 use Rattle.packed.specs.declared.Refusal.{Refusal}
 use Rattle.packed.specs.Judge.{in_field, plainly}
-use Rattle.packed.specs.Packed.{count_of, job_fields}
+use Rattle.packed.specs.Packed.{job_fields}
 use Rattle.packed.specs.Refusals.{fields_within, bad_field}
 use Rattle.packed.proofs.FieldLaws.{no-field-within}
 use Rattle.fields.specs.Fields.{fields_of}

@@ -12,7 +12,7 @@ use mir.Facts.{to_z-of_z, to_z_pos}
 use Rattle.seconds.specs.Signed.{signed}
 use Rattle.codes.specs.Code.{point_of, at0}
 use Rattle.reading.specs.ReadingLaws.{number-there}
-use Rattle.reading.specs.Listing.{Listing, listing_none, listing-more, listing-all}
+use Rattle.reading.specs.Listing.{listing_none, listing-more, listing-all}
 use Rattle.reading.proofs.write_list.Goals as goal
 use Rattle.reading.proofs.write_list.Goals.{In-loop-k, Start}
 

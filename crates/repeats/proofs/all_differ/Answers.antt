@@ -2,13 +2,12 @@
 -- Assumes nothing.
 use mathlib.Core.Path.{◌≡◌, refl, sym, ◌∙◌}
 use mathlib.Core.Bool.{true≢false}
-use Prim.Native.Nat.{◌-◌, ◌≤◌, ◌<◌}
+use Prim.Native.Nat.{◌-◌, ◌<◌}
 use native.Mathlib.Omega.{arith}
 use lib.ListN.{length, get_or, length-set}
-use Rattle.packed.specs.Places.{first}
 use Rattle.packed.specs.PlacesLaws.{first-end}
-use Rattle.repeats.specs.Repeats.{stood_earlier, first_again}
-use Rattle.repeats.specs.RepeatLaws.{again-from-0, Marked, marked_more, unmarked-on}
+use Rattle.repeats.specs.Repeats.{stood_earlier}
+use Rattle.repeats.specs.RepeatLaws.{again-from-0, marked_more, unmarked-on}
 use Rattle.repeats.proofs.all_differ.Goals as goal
 use Rattle.repeats.proofs.all_differ.Goals.{At-loop-k}
 

@@ -1,14 +1,11 @@
 -- `repeats::all_differ` meets its contract. The invariant: what was met has a mark, and the search is the search from here on.
 -- Assumes nothing.
-use mathlib.Core.Path.{◌≡◌, refl, sym, ◌∙◌}
-use mathlib.Core.Bool.{true≢false}
-use Prim.Native.Nat.{◌-◌, ◌≤◌, ◌<◌}
-use native.Mathlib.Omega.{arith}
-use lib.ListN.{length, get_or, length-set}
+use mathlib.Core.Path.{◌≡◌}
+use Prim.Native.Nat.{◌-◌, ◌≤◌}
+use lib.ListN.{length}
 use Rattle.packed.specs.Places.{first}
-use Rattle.packed.specs.PlacesLaws.{first-end}
 use Rattle.repeats.specs.Repeats.{stood_earlier, first_again}
-use Rattle.repeats.specs.RepeatLaws.{again-from-0, Marked, marked_more, unmarked-on}
+use Rattle.repeats.specs.RepeatLaws.{Marked}
 use Rattle.repeats.proofs.all_differ.Given as goal
 
 abbrev pub invariant-loop-k : goal.invariant-loop-k

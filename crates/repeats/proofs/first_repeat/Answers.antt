@@ -2,12 +2,12 @@
 -- here on; the inner loop's says the same of the search among the earlier places.
 -- Assumes nothing.
 use mathlib.Core.Path.{◌≡◌, refl, sym, ◌∙◌}
-use Prim.Native.Nat.{◌-◌, ◌≤◌}
+use Prim.Native.Nat.{◌-◌}
 use native.Mathlib.Omega.{arith}
 use lib.ListN.{length}
 use Rattle.packed.specs.Places.{first}
 use Rattle.packed.specs.PlacesLaws.{first-end}
-use Rattle.repeats.specs.Repeats.{alike, stood_earlier, first_again}
+use Rattle.repeats.specs.Repeats.{alike, stood_earlier}
 use Rattle.repeats.specs.RepeatLaws.{again-from-0, alike-on, again-here, again-on}
 use Rattle.repeats.proofs.first_repeat.Goals as goal
 use Rattle.repeats.proofs.first_repeat.Goals.{At-loop-earlier, At-pairs}

@@ -1,14 +1,11 @@
 -- `repeats::first_repeat` meets its contract. The outer loop's invariant: nothing is found yet, and the search is the search from
 -- here on; the inner loop's says the same of the search among the earlier places.
 -- Assumes nothing.
-use mathlib.Core.Path.{◌≡◌, refl, sym, ◌∙◌}
+use mathlib.Core.Path.{◌≡◌}
 use Prim.Native.Nat.{◌-◌, ◌≤◌}
-use native.Mathlib.Omega.{arith}
 use lib.ListN.{length}
 use Rattle.packed.specs.Places.{first}
-use Rattle.packed.specs.PlacesLaws.{first-end}
 use Rattle.repeats.specs.Repeats.{alike, stood_earlier, first_again}
-use Rattle.repeats.specs.RepeatLaws.{again-from-0, alike-on, again-here, again-on}
 use Rattle.repeats.proofs.first_repeat.Given as goal
 
 abbrev pub invariant-loop-earlier : goal.invariant-loop-earlier

@@ -3,7 +3,6 @@
 use Prim.Native.Nat.{◌≤◌}
 use mathlib.Core.Path.{◌≡◌, sym, ◌∙◌}
 use native.Mathlib.Omega.{arith}
-use borrow.Author.Rules.{rules}
 use Rattle.seconds.specs.Limits.{most_jobs}
 use Rattle.report.specs.Report.{refusal_line, report_of}
 use Rattle.report.specs.Telling.{refusal-told, plan-tellable}

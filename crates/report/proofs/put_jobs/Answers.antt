@@ -1,6 +1,6 @@
 -- `report::put_jobs` meets its contract. The loop's invariant: the lines of the jobs passed are written, and each has at most
 -- 23 bytes. Assumes nothing.
-use Prim.Native.Nat.{ℕ, ◌+◌, ◌*◌, ◌-◌, ◌≤◌, ◌<◌}
+use Prim.Native.Nat.{ℕ, ◌-◌, ◌≤◌, ◌<◌}
 use mathlib.Core.Path.{◌≡◌}
 use mathlib.Core.List.{List}
 use native.Mathlib.Omega.{arith}
@@ -16,7 +16,6 @@ use Rattle.text.specs.Buffer.{Wrote}
 use Rattle.text.specs.BufferLaws.{wrote_none, wrote-more}
 use Rattle.fields.specs.Facts.{record-in}
 use Rattle.report.specs.Report.{job_line}
-use Rattle.report.specs.Writing.{listed}
 use Rattle.report.specs.WritingLaws.{number-casts, number_is, listed-none, listed_more}
 use Rattle.report.proofs.put_jobs.Goals as goal
 use Rattle.report.proofs.put_jobs.Goals.{After-job_in-job, After-put_job-next, At-loop-i, In-loop-i, Start}

@@ -1,6 +1,5 @@
 -- `report::put_refusal` meets its contract: the front of the line, and the field behind it.
 -- Assumes nothing.
-use borrow.Author.Rules.{rules}
 use Rattle.text.specs.BufferLaws.{wrote-more}
 use Rattle.report.specs.WritingLaws.{refusal-line}
 use Rattle.report.proofs.put_refusal.Goals as goal

@@ -1,6 +1,5 @@
 -- `report::report` meets its contract: nothing where there is too little room, else the text.
 -- Assumes nothing.
-use borrow.Author.Rules.{rules}
 use Rattle.report.specs.Telling.{nothing-reported, text-reported}
 use Rattle.report.proofs.report.Goals as goal
 use Rattle.report.proofs.report.Goals.{After-plan_and_tell, Else-out-lt-ROOM, Start}

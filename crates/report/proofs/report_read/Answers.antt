@@ -3,7 +3,6 @@
 use mathlib.Core.Path.{sym}
 use native.Mathlib.Omega.{arith}
 use lib.Seq.{take_all, length-take-le}
-use borrow.Author.Rules.{rules}
 use Rattle.report.proofs.report_read.Goals as goal
 
 pub slice_bounds-report-end : goal.slice_bounds-report-end

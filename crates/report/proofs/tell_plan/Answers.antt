@@ -2,7 +2,6 @@
 -- Assumes nothing.
 use mathlib.Core.Path.{◌≡◌}
 use native.Mathlib.Omega.{arith}
-use borrow.Author.Rules.{rules}
 use Rattle.packed.specs.Packed.{count_of}
 use Rattle.fields.specs.Facts.{header_read}
 use Rattle.text.specs.BufferLaws.{wrote-more}

@@ -1,8 +1,8 @@
 -- `sheet::add_sums` meets its contract: the first i places are added. Assumes nothing.
-use Prim.Native.Nat.{◌+◌, ◌-◌, ◌≤◌}
+use Prim.Native.Nat.{◌+◌, ◌-◌}
 use mathlib.Core.Path.{◌≡◌, refl, ap, ◌∙◌}
 use native.Mathlib.Omega.{arith}
-use lib.ListN.{length, get_or, length-set}
+use lib.ListN.{get_or, length-set}
 use Rattle.sheet.specs.Joining.{partly}
 use Rattle.sheet.specs.NumbersLaws.{partly_here, add_step}
 use Rattle.sheet.proofs.add_sums.Goals as goal

@@ -1,10 +1,8 @@
 -- `sheet::add_sums` meets its contract: the first i places are added. Assumes nothing.
-use Prim.Native.Nat.{◌+◌, ◌-◌, ◌≤◌}
-use mathlib.Core.Path.{◌≡◌, refl, ap, ◌∙◌}
-use native.Mathlib.Omega.{arith}
-use lib.ListN.{length, get_or, length-set}
+use Prim.Native.Nat.{◌-◌, ◌≤◌}
+use mathlib.Core.Path.{◌≡◌}
+use lib.ListN.{length}
 use Rattle.sheet.specs.Joining.{partly}
-use Rattle.sheet.specs.NumbersLaws.{partly_here, add_step}
 use Rattle.sheet.proofs.add_sums.Given as goal
 
 abbrev pub invariant-loop-i : goal.invariant-loop-i

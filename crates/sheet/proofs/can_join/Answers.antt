@@ -1,6 +1,5 @@
 -- `sheet::can_join` meets its contract: the orders of both are added in 64 bits. Assumes nothing.
 use native.Mathlib.Omega.{arith}
-use borrow.Author.Rules.{rules}
 use Rattle.sheet.specs.NumbersLaws.{joins-by}
 use Rattle.sheet.proofs.can_join.Goals as goal
 use Rattle.sheet.proofs.can_join.Goals.{After-is_sheet-second, Start}

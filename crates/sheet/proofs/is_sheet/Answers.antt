@@ -1,6 +1,5 @@
 -- `sheet::is_sheet` meets its contract: each part is a test of the definition. Assumes nothing.
 use native.Mathlib.Omega.{arith}
-use borrow.Author.Rules.{rules}
 use Rattle.sheet.specs.NumbersLaws.{is-sheet-by}
 use Rattle.sheet.proofs.is_sheet.Goals as goal
 use Rattle.sheet.proofs.is_sheet.Goals.{Start}

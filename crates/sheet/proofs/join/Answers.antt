@@ -1,6 +1,5 @@
 -- `sheet::join` meets its contract: 10, 18, or the two joined. Assumes nothing.
 use mathlib.Core.Path.{sym, ◌∙◌}
-use borrow.Author.Rules.{rules}
 use Rattle.sheet.specs.FitsLaws.{first_short, second_short, join-refused, joins-can, join-done}
 use Rattle.sheet.proofs.join.Goals as goal
 use Rattle.sheet.proofs.join.Goals.{After-join_into, Else-more-lt-FIGURES, Start, Then-can_join}

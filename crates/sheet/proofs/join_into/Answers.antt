@@ -1,7 +1,6 @@
 -- `sheet::join_into` meets its contract: the sums are added, and where the second one's total is greater it comes, its place moved on.
 -- Assumes nothing.
 use native.Mathlib.Omega.{arith}
-use borrow.Author.Rules.{rules}
 use borrow.Author.Tests.{lt-ltb, le-ltb}
 use Rattle.sheet.specs.NumbersLaws.{joined-stays, joined-moves}
 use Rattle.sheet.proofs.join_into.Goals as goal

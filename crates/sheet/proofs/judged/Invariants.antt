@@ -1,10 +1,8 @@
 -- `sheet::judged` meets its contract: the places before i are summed. Assumes nothing.
-use Prim.Native.Nat.{◌+◌, ◌-◌, ◌*◌, ◌≤◌}
-use mathlib.Core.Path.{◌≡◌, refl, sym, ap, ◌∙◌}
-use native.Mathlib.Omega.{arith}
-use lib.ListN.{get_or, take, drop}
+use Prim.Native.Nat.{◌-◌, ◌*◌, ◌≤◌}
+use mathlib.Core.Path.{◌≡◌}
+use lib.ListN.{take, drop}
 use Rattle.sheet.specs.Sheet.{sum_all}
-use Rattle.sheet.specs.NumbersLaws.{sum_step}
 use Rattle.sheet.proofs.judged.Given as goal
 
 abbrev pub invariant-loop-i : goal.invariant-loop-i

@@ -1,7 +1,6 @@
 -- `sheet_edges::answers` is safe and ends: each line begins past the one before it. Assumes nothing.
 use Prim.Native.Nat.{◌-◌}
 use lib.ListN.{length}
-use borrow.Author.Rules.{rules}
 use Rattle.sheet_edges.proofs.answers.Given as goal
 
 abbrev pub invariant-loop-start : goal.invariant-loop-start

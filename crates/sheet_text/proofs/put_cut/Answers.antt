@@ -2,7 +2,6 @@
 -- Assumes nothing.
 use native.Mathlib.Omega.{arith}
 use lib.ListN.{length-set}
-use borrow.Author.Rules.{rules}
 use Rattle.text.specs.BufferLaws.{wrote-byte, wrote-next}
 use Rattle.sheet_text.specs.SheetText.{last_line}
 use Rattle.sheet_text.proofs.put_cut.Goals as goal

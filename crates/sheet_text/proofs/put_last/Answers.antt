@@ -1,6 +1,5 @@
 -- `sheet_text::put_last` meets its contract: the one word or the other.
 -- Assumes nothing.
-use borrow.Author.Rules.{rules}
 use Rattle.sheet_text.proofs.put_last.Goals as goal
 use Rattle.sheet_text.proofs.put_last.Goals.{After-put_cut, After-put_whole, Else-cut, Then-cut}
 

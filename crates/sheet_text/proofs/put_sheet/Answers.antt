@@ -3,7 +3,6 @@
 use Prim.Native.Nat.{ℕ, ◌+◌, ◌-◌}
 use native.Mathlib.Omega.{arith}
 use lib.ListN.{get_or}
-use borrow.Author.Rules.{rules}
 use Rattle.text.specs.Buffer.{Wrote}
 use Rattle.text.specs.BufferLaws.{wrote-more}
 use Rattle.sheet_text.specs.SheetText.{top_line, fraction_line, last_line}

@@ -1,14 +1,10 @@
 -- `sheet_text::put_sums` meets its contract. The loop's invariant: the lines of the numbers passed are written, and each has at most
 -- eleven bytes. Assumes nothing.
 use Prim.Native.Nat.{◌*◌, ◌-◌, ◌≤◌}
-use mathlib.Core.Path.{◌≡◌}
-use native.Mathlib.Omega.{arith}
 use lib.ListN.{take}
 use Rattle.text.specs.Buffer.{Wrote}
-use Rattle.text.specs.BufferLaws.{wrote_none, wrote-more}
 use Rattle.sheet.specs.Sheet.{sum_count}
 use Rattle.sheet_text.specs.SheetText.{lines}
-use Rattle.sheet_text.specs.WritingLaws.{sums-more}
 use Rattle.sheet_text.proofs.put_sums.Given as goal
 
 abbrev pub invariant-loop-i : goal.invariant-loop-i

@@ -2,7 +2,6 @@
 -- Assumes nothing.
 use mathlib.Core.Path.{sym, ◌∙◌}
 use native.Mathlib.Omega.{arith}
-use borrow.Author.Rules.{rules}
 use Rattle.sheet_text.specs.Writing.{CanPut}
 use Rattle.sheet_text.specs.TellLaws.{few-numbers, little-room, no-sheet, text-told}
 use Rattle.sheet_text.proofs.tell.Goals as goal

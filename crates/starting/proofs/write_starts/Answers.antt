@@ -13,7 +13,7 @@ use Rattle.fields.specs.Places.{jobs-count}
 use Rattle.seconds.specs.Signed.{read_back_lem}
 use Rattle.fields.specs.Facts.{record-in}
 use Rattle.starting.specs.PicksLaws.{left-fits}
-use Rattle.starting.specs.StartsLaws.{Writing, writing-none, writing-all, CanTurn, can-turn}
+use Rattle.starting.specs.StartsLaws.{writing-none, writing-all, CanTurn, can-turn}
 use Rattle.starting.proofs.write_starts.Goals as goal
 use Rattle.starting.proofs.write_starts.Goals.{After-job_in-job, In-loop-i, Start}
 

@@ -1,10 +1,8 @@
 -- `text::figure_count` meets its contract: the figures of what is left and those counted are one more than all.
 -- Assumes nothing.
-use Prim.Native.Nat.{◌+◌}
-use mathlib.Core.Path.{◌≡◌, ap}
+use mathlib.Core.Path.{ap}
 use native.Mathlib.Omega.{arith}
 use lib.ListN.{length}
-use Rattle.text.specs.Decimal.{digits}
 use Rattle.text.specs.Figures.{digits-one, digits-word, length_more}
 use Rattle.text.proofs.figure_count.Goals as goal
 

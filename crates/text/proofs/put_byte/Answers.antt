@@ -1,6 +1,5 @@
 -- `text::put_byte` meets its contract.
 -- Assumes nothing.
-use borrow.Author.Rules.{rules}
 use Rattle.text.specs.BufferLaws.{wrote-byte}
 use Rattle.text.proofs.put_byte.Goals as goal
 

@@ -3,11 +3,9 @@
 use Prim.Native.Nat.{ℕ, ◌+◌, ◌/◌, ◌<◌, ◌≤◌}
 use mathlib.Core.Path.{ap}
 use native.Mathlib.Omega.{arith}
-use borrow.Author.Rules.{rules}
 use lib.ListN.{length-set}
 use Rattle.text.specs.Figures.{digits-some, digits-word, length_more}
 use Rattle.text.specs.BufferLaws.{wrote}
-use Rattle.text.specs.Buffer.{Filling}
 use Rattle.text.specs.Filling.{filling-none, filling-more, filling-all}
 use Rattle.text.proofs.put_count.Goals as goal
 use Rattle.text.proofs.put_count.Goals.{After-figure_count}

@@ -1,14 +1,6 @@
 -- `text::put_count` meets its contract: the figures still to be put are those of what is left.
 -- Assumes nothing.
-use Prim.Native.Nat.{ℕ, ◌+◌, ◌/◌, ◌<◌, ◌≤◌}
-use mathlib.Core.Path.{ap}
-use native.Mathlib.Omega.{arith}
-use borrow.Author.Rules.{rules}
-use lib.ListN.{length-set}
-use Rattle.text.specs.Figures.{digits-some, digits-word, length_more}
-use Rattle.text.specs.BufferLaws.{wrote}
 use Rattle.text.specs.Buffer.{Filling}
-use Rattle.text.specs.Filling.{filling-none, filling-more, filling-all}
 use Rattle.text.proofs.put_count.Given as goal
 
 abbrev pub invariant-loop-left : goal.invariant-loop-left

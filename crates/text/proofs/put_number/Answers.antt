@@ -8,7 +8,6 @@ use lib.IntN.{nat_abs}
 use mir.Syntax.{w32}
 use mir.Val.{to_z, of_z}
 use mir.Facts.{to_z-of_z}
-use borrow.Author.Rules.{rules}
 use Rattle.seconds.specs.Signed.{signed}
 use Rattle.text.specs.Decimal.{minus, digits, figure}
 use Rattle.text.specs.Figures.{figure-below, figure-above}

@@ -7,7 +7,6 @@ use lib.IntN.{ℤ, negsuc, ◌-ℤ◌, nat_abs}
 use mir.Syntax.{w32}
 use mir.Val.{SFits, to_z, of_z}
 use mir.Facts.{to_z-of_z}
-use borrow.Author.Rules.{rules}
 use Rattle.seconds.specs.Signed.{signed, sub_is, abs_is, mag_is, one-zero}
 use Rattle.text.proofs.without_sign.Goals as goal
 use Rattle.text.proofs.without_sign.Goals.{Start, Then-value-lt0}

@@ -2,7 +2,6 @@
 -- Assumes nothing.
 use mathlib.Core.Path.{◌≡◌, sym, ◌∙◌}
 use mir.Facts.{to_z-of_z}
-use borrow.Author.Rules.{rules}
 use Rattle.order.specs.Job.{Point}
 use Rattle.ties.specs.Winning.{rule_of}
 use Rattle.ties.proofs.WinningLaws.{first-wins, second-wins, even-first, even-second}

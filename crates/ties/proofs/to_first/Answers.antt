@@ -2,7 +2,6 @@
 use mathlib.Core.Path.{sym, ap}
 use mathlib.Core.Bool.{Bool}
 use mir.Facts.{to_z-of_z}
-use borrow.Author.Rules.{rules}
 use Rattle.ties.specs.Winning.{rule_of}
 use Rattle.ties.specs.declared.Tie.{Tie}
 use Rattle.ties.proofs.to_first.Goals as goal

@@ -1,6 +1,6 @@
 -- `unpack::unpack` meets its contract: the verdict on the order, then the room, and `write_numbers` writes the rest.
 -- Assumes nothing.
-use mathlib.Core.Path.{◌≡◌, sym, ap, ◌∙◌}
+use mathlib.Core.Path.{sym, ap, ◌∙◌}
 use native.Mathlib.Omega.{arith}
 use mir.Syntax.{w32}
 use mir.Val.{SFits}

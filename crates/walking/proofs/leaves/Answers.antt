@@ -8,7 +8,6 @@ use mathlib.Core.Option.{none, some}
 use lib.Dec.{eqb}
 use lib.IntN.{ℤ}
 use mir.Facts.{to_z-of_z}
-use borrow.Author.Rules.{rules}
 use Rattle.order.specs.Job.{Point}
 use Rattle.profile.specs.Profile.{lookup}
 use Rattle.codes.specs.Code.{list_at}

@@ -10,7 +10,6 @@ use lib.IntN.{ℤ, nat_abs}
 use mir.Syntax.{w32}
 use mir.Val.{to_z, of_z}
 use mir.Facts.{to_z-of_z}
-use borrow.Author.Rules.{rules}
 use Rattle.seconds.specs.RangesLaws.{free-fits}
 use Rattle.seconds.specs.Signed.{signed, abs_is, read_back_lem}
 use Rattle.order.specs.Job.{Point}

@@ -1,6 +1,5 @@
 -- `week_report::tell_held` meets its contract: too many, or the text of the sheet. Assumes nothing.
 use mathlib.Core.Path.{sym, ◌∙◌}
-use borrow.Author.Rules.{rules}
 use Rattle.sheet_text.specs.TellLaws.{told_wrote}
 use Rattle.week_report.specs.TellingLaws.{can-refuse, many-told-by, few-sheet, sheet-wrote}
 use Rattle.week_report.proofs.tell_held.Goals as goal

@@ -1,13 +1,9 @@
 -- `week_sheet::read_all` meets its contract: what is held is what the bytes read so far leave, and with every byte fewer can come.
 -- Assumes nothing.
-use Prim.Native.Nat.{ℕ, zero, suc, ◌≤◌}
-use mathlib.Core.Path.{◌≡◌, refl, sym, ◌∙◌}
-use native.Mathlib.Omega.{arith}
-use lib.ListN.{length, take}
-use lib.Seq.{length-take-le}
+use mathlib.Core.Path.{◌≡◌}
+use lib.ListN.{length}
 use Rattle.feeding.specs.Feeding.{left}
 use Rattle.week_report.specs.Telling.{Reached}
-use Rattle.week_report.specs.TellingLaws.{reached-none, reached-more}
 use Rattle.week_sheet.proofs.read_all.Given as goal
 
 abbrev pub invariant-loop-part : goal.invariant-loop-part

@@ -3,7 +3,6 @@
 use mathlib.Core.List.{List}
 use Prim.Native.Nat.{ℕ}
 use lib.ListN.{take}
-use borrow.Author.Rules.{rules}
 use Rattle.feeding.specs.Feeding.{Fed}
 use Rattle.week_sheet.proofs.read_some.Goals as goal
 use Rattle.week_sheet.proofs.read_some.Goals.{After-count-n, After-feed_piece-part, After-read-got, Start}

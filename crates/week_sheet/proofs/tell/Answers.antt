@@ -3,7 +3,6 @@ use mathlib.Core.Path.{◌∙◌}
 use native.Mathlib.Omega.{arith}
 use lib.Seq.{length-take-le}
 use Rattle.week_report.specs.TellingLaws.{reached-says, wrote-front}
-use borrow.Author.Rules.{rules}
 use Rattle.week_sheet.proofs.tell.Goals as goal
 use Rattle.week_sheet.proofs.tell.Goals.{After-tell_held-end, Start}
 

@@ -1,7 +1,6 @@
 -- `by_hand::choices::best_choice` is safe and ends: each turn leaves fewer choices.
 -- Assumes nothing.
 use Prim.Native.Nat.{◌-◌}
-use native.Mathlib.Omega.{arith}
 use Rattle.by_hand.proofs.choices.best_choice.Given as goal
 
 abbrev pub invariant-loop-choice : goal.invariant-loop-choice

@@ -1,7 +1,6 @@
 -- `by_hand::choices::run` is safe and ends: each turn leaves fewer jobs.
 -- Assumes nothing.
 use Prim.Native.Nat.{◌-◌}
-use native.Mathlib.Omega.{arith}
 use Rattle.by_hand.proofs.choices.run.Given as goal
 
 abbrev pub invariant-loop-place : goal.invariant-loop-place

@@ -1,7 +1,6 @@
 -- `by_hand::partners::first_offending` is safe and ends: each turn leaves fewer jobs.
 -- Assumes nothing.
 use Prim.Native.Nat.{◌-◌}
-use native.Mathlib.Omega.{arith}
 use Rattle.by_hand.proofs.partners.first_offending.Given as goal
 
 abbrev pub invariant-loop-place : goal.invariant-loop-place

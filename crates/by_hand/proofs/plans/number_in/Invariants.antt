@@ -1,8 +1,6 @@
 -- `by_hand::plans::number_in` is safe and ends: each turn leaves fewer bits.
 -- Assumes nothing.
 use Prim.Native.Nat.{◌-◌}
-use native.Mathlib.Omega.{arith}
-use borrow.Author.Rules.{rules}
 use Rattle.by_hand.proofs.plans.number_in.Given as goal
 
 abbrev pub invariant-loop-place : goal.invariant-loop-place

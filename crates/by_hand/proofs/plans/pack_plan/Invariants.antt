@@ -2,7 +2,6 @@
 -- stays as long. Assumes nothing.
 use Prim.Native.Nat.{◌-◌, ◌≤◌}
 use mathlib.Core.Path.{◌≡◌}
-use native.Mathlib.Omega.{arith}
 use lib.ListN.{length}
 use Rattle.by_hand.proofs.plans.pack_plan.Given as goal
 

@@ -1,7 +1,6 @@
 -- `by_hand::plans::put_number` is safe and ends: each turn leaves fewer bits. The plan stays as long.
 -- Assumes nothing.
 use mathlib.Core.Path.{◌≡◌}
-use native.Mathlib.Omega.{arith}
 use lib.ListN.{length}
 use Rattle.by_hand.proofs.plans.put_number.Given as goal
 

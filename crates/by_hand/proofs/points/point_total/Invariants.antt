@@ -1,7 +1,6 @@
 -- `by_hand::points::point_total` is safe and ends: each turn leaves fewer jobs.
 -- Assumes nothing.
 use Prim.Native.Nat.{◌-◌}
-use native.Mathlib.Omega.{arith}
 use Rattle.by_hand.proofs.points.point_total.Given as goal
 
 abbrev pub invariant-loop-k : goal.invariant-loop-k

@@ -1,7 +1,6 @@
 -- `by_hand::points::reached_by` is safe and ends: each turn leaves fewer pairs.
 -- Assumes nothing.
 use Prim.Native.Nat.{◌-◌}
-use native.Mathlib.Omega.{arith}
 use Rattle.by_hand.proofs.points.reached_by.Given as goal
 
 abbrev pub invariant-loop-i : goal.invariant-loop-i

@@ -1,7 +1,6 @@
 -- `by_hand::points::rises` is safe and ends: each turn leaves fewer points.
 -- Assumes nothing.
 use Prim.Native.Nat.{◌-◌}
-use native.Mathlib.Omega.{arith}
 use Rattle.by_hand.proofs.points.rises.Given as goal
 
 abbrev pub invariant-loop-i : goal.invariant-loop-i

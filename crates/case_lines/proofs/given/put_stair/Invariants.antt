@@ -2,7 +2,6 @@
 use mathlib.Core.Path.{◌≡◌}
 use Prim.Native.Nat.{◌-◌, ◌≤◌}
 use lib.ListN.{length}
-use borrow.Author.Rules.{rules}
 use Rattle.case_lines.proofs.given.put_stair.Given as goal
 
 abbrev pub invariant-loop-i : goal.invariant-loop-i

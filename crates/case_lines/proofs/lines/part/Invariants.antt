@@ -1,5 +1,4 @@
 -- `case_lines::lines::part` is safe and ends: each turn passes one bar. Assumes nothing.
-use borrow.Author.Rules.{rules}
 use Rattle.case_lines.proofs.lines.part.Given as goal
 
 abbrev pub invariant-loop-left : goal.invariant-loop-left

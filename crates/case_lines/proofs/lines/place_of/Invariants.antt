@@ -1,7 +1,6 @@
 -- `case_lines::lines::place_of` meets its contract. The measure is what is left of the text. Assumes nothing.
 use Prim.Native.Nat.{◌-◌, ◌≤◌}
 use lib.ListN.{length}
-use borrow.Author.Rules.{rules}
 use Rattle.case_lines.proofs.lines.place_of.Given as goal
 
 abbrev pub invariant-loop-i : goal.invariant-loop-i

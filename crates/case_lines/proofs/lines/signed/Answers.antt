@@ -6,7 +6,6 @@ use mir.Syntax.{w32}
 use mir.Val.{to_z}
 use mir.Facts.{to_z_pos}
 use Rattle.seconds.specs.Signed.{signed}
-use borrow.Author.Rules.{rules}
 use Rattle.case_lines.proofs.lines.signed.Goals as goal
 
 pub overflow_sub-result : goal.overflow_sub-result

@@ -1,7 +1,6 @@
 -- `case_lines::told::put_each` is safe and ends. The measure is what is left of the bytes. Assumes nothing.
 use Prim.Native.Nat.{◌-◌}
 use lib.ListN.{length}
-use borrow.Author.Rules.{rules}
 use Rattle.case_lines.proofs.told.put_each.Given as goal
 
 abbrev pub invariant-loop-i : goal.invariant-loop-i

@@ -1,7 +1,6 @@
 -- `case_lines::told::put_runs` is safe and ends: each run ends past its beginning. Assumes nothing.
 use Prim.Native.Nat.{◌-◌}
 use lib.ListN.{length}
-use borrow.Author.Rules.{rules}
 use Rattle.case_lines.proofs.told.put_runs.Given as goal
 
 abbrev pub invariant-loop-i : goal.invariant-loop-i

@@ -1,7 +1,6 @@
 -- `easier_pairs::extended::look_at_points` is safe and ends: each turn leaves fewer numbers.
 -- Assumes nothing.
 use Prim.Native.Nat.{◌-◌}
-use native.Mathlib.Omega.{arith}
 use lib.ListN.{length}
 use Rattle.easier_pairs.proofs.extended.look_at_points.Given as goal
 

@@ -1,6 +1,5 @@
 -- `easier_pairs::shorter::shorten` ends: each turn makes the length less.
 -- Assumes nothing.
-use native.Mathlib.Omega.{arith}
 use Rattle.easier_pairs.proofs.shorter.shorten.Given as goal
 
 abbrev pub invariant-loop-length : goal.invariant-loop-length

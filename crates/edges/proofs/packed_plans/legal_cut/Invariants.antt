@@ -1,7 +1,6 @@
 -- `edges::packed_plans::legal_cut` is safe and ends. The measure is how many fronts are left. Assumes nothing.
 use Prim.Native.Nat.{◌+◌, ◌-◌}
 use lib.ListN.{length}
-use borrow.Author.Rules.{rules}
 use Rattle.edges.proofs.packed_plans.legal_cut.Given as goal
 
 abbrev pub invariant-loop-many : goal.invariant-loop-many

@@ -1,7 +1,6 @@
 -- `exhaustive::extended::check_lookups` is safe and ends: each turn leaves fewer numbers.
 -- Assumes nothing.
 use Prim.Native.Nat.{◌-◌}
-use native.Mathlib.Omega.{arith}
 use lib.ListN.{length}
 use Rattle.exhaustive.proofs.extended.check_lookups.Given as goal
 

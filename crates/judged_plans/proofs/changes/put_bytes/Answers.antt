@@ -1,9 +1,8 @@
 -- `judged_plans::changes::put_bytes` is safe and ends: each turn leaves fewer bytes. The plan stays as long.
 -- Assumes nothing.
 use Prim.Native.Nat.{◌-◌}
-use mathlib.Core.Path.{◌≡◌}
 use native.Mathlib.Omega.{arith}
-use lib.ListN.{length, length-set}
+use lib.ListN.{length-set}
 use Rattle.judged_plans.proofs.changes.put_bytes.Goals as goal
 
 pub loop-place-smaller : goal.loop-place-smaller

@@ -2,8 +2,7 @@
 -- Assumes nothing.
 use Prim.Native.Nat.{◌-◌}
 use mathlib.Core.Path.{◌≡◌}
-use native.Mathlib.Omega.{arith}
-use lib.ListN.{length, length-set}
+use lib.ListN.{length}
 use Rattle.judged_plans.proofs.changes.put_bytes.Given as goal
 
 abbrev pub invariant-loop-place : goal.invariant-loop-place

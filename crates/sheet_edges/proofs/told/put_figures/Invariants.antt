@@ -1,7 +1,6 @@
 -- `sheet_edges::told::put_figures` is safe and ends. The measure is what is left of the figures. Assumes nothing.
 use Prim.Native.Nat.{◌-◌}
 use lib.ListN.{length}
-use borrow.Author.Rules.{rules}
 use Rattle.sheet_edges.proofs.told.put_figures.Given as goal
 
 abbrev pub invariant-loop-i : goal.invariant-loop-i

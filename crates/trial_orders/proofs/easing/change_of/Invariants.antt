@@ -1,7 +1,6 @@
 -- `trial_orders::easing::change_of` is safe and ends: each turn leaves fewer numbers.
 -- Assumes nothing.
 use Prim.Native.Nat.{◌-◌}
-use native.Mathlib.Omega.{arith}
 use lib.ListN.{length}
 use Rattle.trial_orders.proofs.easing.change_of.Given as goal
 
