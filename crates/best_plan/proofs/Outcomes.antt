@@ -15,7 +15,7 @@ use Rattle.order.specs.Choice.{Choice, feasible}
 use Rattle.packed.specs.Judge.{in_field, plainly, no_refusal, fine, judge}
 use Rattle.packed.specs.Packed.{count_of, numbers_of, order_of}
 use Rattle.packed.specs.Refusals.{header_checks, order_checks}
-use Rattle.packed.specs.RefusalPlaces.{BadField, RefusalIs}
+use Rattle.packed.proofs.RefusalPlaces.{BadField, RefusalIs}
 use Rattle.area.specs.Area.{area, cleared}
 use Rattle.checking.specs.Calls.{legal_checks, checked_numbers}
 use Rattle.checking.specs.Judged.{NotWhole, SetBits}

@@ -12,13 +12,13 @@ use Rattle.packed.specs.Judge.{in_field, plainly, no_refusal, Check, fine, refus
 use Rattle.packed.specs.JudgeLaws.{refused-fine, without, given-before, given-behind}
 use Rattle.packed.specs.Packed.{count_of, numbers_of, order_of}
 use Rattle.packed.specs.Refusals.{header_checks, job_checks, weight_checks, room_checks, order_checks}
-use Rattle.packed.specs.RefusalPlaces.{BadField, RefusalIs, SixIs, six-behind}
+use Rattle.packed.proofs.RefusalPlaces.{BadField, RefusalIs, SixIs, six-behind}
 use Rattle.fields.specs.Places.{jobs-one-rate}
 use Rattle.judge.specs.Told.{Named, holds-behind, named-check}
 use Rattle.packed_plan.specs.Plan.{kept_in, starts_in, sent_checks}
 use Rattle.legal.specs.Legal.{Best, choice_of}
-use Rattle.legal.specs.LegalLaws.{Rated}
-use Rattle.legal.specs.BestLaws.{one-rated, legal-choice, best-is}
+use Rattle.legal.proofs.LegalLaws.{Rated}
+use Rattle.legal.proofs.BestLaws.{one-rated, legal-choice, best-is}
 use Rattle.area.specs.Area.{area}
 use Rattle.checking.specs.Calls.{legal_checks, CheckedNumbers, checked_numbers}
 use Rattle.checking.specs.Judged.{NotWhole, SetBits}

@@ -9,7 +9,7 @@ use Rattle.packed.specs.declared.Refusal.{Refusal}
 use Rattle.packed.specs.Judge.{plainly, fine, refused, judge}
 use Rattle.packed.specs.Packed.{count_of, order_of}
 use Rattle.packed.specs.Refusals.{room_checks}
-use Rattle.packed.specs.Accepted.{order-within}
+use Rattle.packed.proofs.Accepted.{order-within}
 use Rattle.packed_plan.specs.Plan.{mask_bytes, mask_in, kept_in}
 use Rattle.fields.specs.Facts.{HeaderRead}
 use Rattle.fields.specs.declared.Header.{Header}

@@ -9,14 +9,14 @@ use Rattle.seconds.specs.Limits.{latest_free}
 use Rattle.seconds.specs.RangesLaws.{time-free}
 use Rattle.order.specs.Job.{Job, Order, Point, order_within}
 use Rattle.order.specs.Choice.{Choice, feasible, finish, kept_weight, choices}
-use Rattle.order.specs.Runs.{runs, run-in-range}
-use Rattle.order.specs.Within.{order-within}
+use Rattle.order.proofs.Runs.{runs, run-in-range}
+use Rattle.order.proofs.Within.{order-within}
 use Rattle.profile.specs.Profile.{worth, start_point, order_profile}
-use Rattle.profile.specs.Greatest.{Greatest, nothing, greatest}
-use Rattle.profile.specs.Worth.{lookup-worth}
-use Rattle.profile.specs.Extending.{SumBy, extend-is}
+use Rattle.profile.proofs.Greatest.{Greatest, nothing, greatest}
+use Rattle.profile.proofs.Worth.{lookup-worth}
+use Rattle.profile.proofs.Extending.{SumBy, extend-is}
 use Rattle.legal.specs.Legal.{none_more}
-use Rattle.legal.specs.BestLaws.{none_more_lem}
+use Rattle.legal.proofs.BestLaws.{none_more_lem}
 use Rattle.best_plan.specs.Weights.{not_above}
 
 module _ (o : Order) (within : T (order_within o)) where

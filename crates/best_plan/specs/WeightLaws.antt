@@ -10,7 +10,7 @@ use Rattle.packed.specs.Packed.{job_fields, count_of, job_of, jobs_in}
 use Rattle.packed.specs.Places.{each}
 use Rattle.packed.specs.PlacesLaws.{each_on, each-end}
 use Rattle.packed.specs.Refusals.{fields_within}
-use Rattle.packed.specs.Accepted.{OrderFine}
+use Rattle.packed.proofs.Accepted.{OrderFine}
 use Rattle.fields.specs.declared.Job.{Job as Numbers}
 use Rattle.fields.specs.Fields.{fields_of, as_job}
 use Rattle.fields.specs.Facts.{job-facts, facts-fit}

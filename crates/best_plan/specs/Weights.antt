@@ -4,7 +4,7 @@ use Rattle.std.proofs.Math.Option.{Option, none, some}
 use Rattle.order.specs.Choice.{kept_weight, choices}
 use Rattle.packed.specs.Judge.{fine, judge}
 use Rattle.packed.specs.Packed.{count_of, jobs_in, order_of}
-use Rattle.packed.specs.Accepted.{OrderFine}
+use Rattle.packed.proofs.Accepted.{OrderFine}
 use Rattle.packed.specs.Places.{each}
 use Rattle.packed_plan.specs.Plan.{kept_at, kept_in}
 use Rattle.legal.specs.Legal.{choice_of, weight_kept, none_more}

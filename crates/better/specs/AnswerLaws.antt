@@ -5,7 +5,7 @@ use Rattle.std.proofs.Math.Option.{Option, none, some}
 use Rattle.seconds.specs.Signed.{signed}
 use Rattle.order.specs.Job.{Point}
 use Rattle.profile.specs.Profile.{better_of}
-use Rattle.profile.specs.Closure.{valid-better_of}
+use Rattle.profile.proofs.Closure.{valid-better_of}
 use Rattle.profiles.specs.Numbers.{most_numbers, alternating, profile_in, holds_profile, written_over}
 use Rattle.profiles.specs.Places.{points_of}
 use Rattle.profiles.specs.NumbersLaws.{alternating-length, profile-back, profile-holds, profile-there, profile-not}

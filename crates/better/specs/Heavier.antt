@@ -6,10 +6,10 @@ use Rattle.std.specs.Int.Signed.{lt_z}
 use Rattle.seconds.specs.Signed.{signed}
 use Rattle.order.specs.Job.{Point}
 use Rattle.order.specs.Given.{Covers, Given, here, there, Same}
-use Rattle.order.specs.GivenLaws.{covers-trans, same_refl, same-trans, same-append}
+use Rattle.order.proofs.GivenLaws.{covers-trans, same_refl, same-trans, same-append}
 use Rattle.profile.specs.Profile.{better_of}
-use Rattle.profile.specs.Rising.{Below, below_more, Rising, rising_none, rising-more, below-further, rising-one}
-use Rattle.profile.specs.Points.{profile_of-only}
+use Rattle.profile.proofs.Rising.{Below, below_more, Rising, rising_none, rising-more, below-further, rising-one}
+use Rattle.profile.proofs.Points.{profile_of-only}
 use Rattle.profiles.specs.OnePass.{below_all}
 use Rattle.better.specs.InTurn.{in_turn, AheadAll, ahead_none, ahead_more, Ordered, ordered-none, ordered-more}
 use Rattle.better.specs.InTurn.{turns, turns-ordered, turns_same}

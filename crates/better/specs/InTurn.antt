@@ -6,9 +6,9 @@ use Rattle.std.specs.Int.Signed.{le_z, lt_z}
 use Rattle.seconds.specs.Signed.{signed}
 use Rattle.order.specs.Job.{Point}
 use Rattle.order.specs.Given.{Covers, Given, here, there, Same}
-use Rattle.order.specs.GivenLaws.{given-either, given-left, given-right}
+use Rattle.order.proofs.GivenLaws.{given-either, given-left, given-right}
 use Rattle.profile.specs.Profile.{covers}
-use Rattle.profile.specs.Rising.{BelowAll, below_none, below_more, Rising, rising_none, rising-more}
+use Rattle.profile.proofs.Rising.{BelowAll, below_none, below_more, Rising, rising_none, rising-more}
 
 -- ---- the definitions
 

@@ -7,7 +7,7 @@ use Rattle.std.specs.Int.Signed.{le_z, lt_z}
 use Rattle.seconds.specs.Signed.{one-zero, signed}
 use Rattle.order.specs.Job.{Point}
 use Rattle.profile.specs.Profile.{better_of}
-use Rattle.profile.specs.Closure.{valid-holds}
+use Rattle.profile.proofs.Closure.{valid-holds}
 use Rattle.profiles.specs.Numbers.{most_numbers, alternating, holds_profile}
 use Rattle.profiles.specs.Places.{time_at, weight_at, points_of, AtPoint, NextPoint}
 use Rattle.profiles.specs.NumbersLaws.{alternating-length, held}

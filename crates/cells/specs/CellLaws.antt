@@ -8,8 +8,8 @@ use Rattle.seconds.specs.Ranges.{Between}
 use Rattle.seconds.specs.Signed.{signed, min_z, min-is}
 use Rattle.order.specs.Job.{Point}
 use Rattle.order.specs.Given.{Covers, Given, here, there, Same}
-use Rattle.order.specs.GivenLaws.{given-own, giver}
-use Rattle.profile.specs.Closure.{PointWithin}
+use Rattle.order.proofs.GivenLaws.{given-own, giver}
+use Rattle.profile.proofs.Closure.{PointWithin}
 use Rattle.codes.specs.Code.{code_of, past_all}
 use Rattle.codes.specs.CodeLaws.{since-is, since-few}
 use Rattle.cells.specs.Cells.{cell_by, cell_of, reach}

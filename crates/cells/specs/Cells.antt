@@ -2,7 +2,7 @@
 use Rattle.std.specs.Prelude.{ℕ, suc, ◌+◌, ◌≤◌, ◌<◌, max, ◌≡◌, cond, List, [], ◌∷◌, leb, ℤ, pos, ◌+ℤ◌, ◌-ℤ◌, length, ◌≤ℤ◌}
 use Rattle.seconds.specs.Ranges.{Between, min_z, max_z}
 use Rattle.order.specs.Job.{Point}
-use Rattle.profile.specs.Rising.{Rising}
+use Rattle.profile.proofs.Rising.{Rising}
 use Rattle.codes.specs.declared.Prefix.{Prefix}
 use Rattle.codes.specs.Code.{at0, points_at, end_of, code_of, past_all}
 use Rattle.codes.specs.Held.{Held}

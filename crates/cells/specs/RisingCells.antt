@@ -8,8 +8,8 @@ use mathlib.Core.List.Memᴰ.{tail}
 use borrow.Table.Steps.{cases}
 use Rattle.seconds.specs.Signed.{signed, min_z, min-is}
 use Rattle.order.specs.Job.{Point}
-use Rattle.profile.specs.Rising.{BelowAll, below_none, below_more, Rising, rising-more, rising-front}
-use Rattle.profile.specs.Closure.{PointWithin}
+use Rattle.profile.proofs.Rising.{BelowAll, below_none, below_more, Rising, rising-more, rising-front}
+use Rattle.profile.proofs.Closure.{PointWithin}
 use Rattle.codes.specs.Code.{code_of, past_all}
 use Rattle.codes.specs.CodeLaws.{since-is, since-few}
 use Rattle.cells.specs.Cells.{cell_of, reach}

@@ -9,8 +9,8 @@ use mathlib.Core.List.Memᴰ.{not-nil}
 use borrow.Table.Steps.{cases}
 use Rattle.seconds.specs.Signed.{signed, min_z, min-is, add_is, sub_is}
 use Rattle.order.specs.Job.{Point}
-use Rattle.profile.specs.Rising.{Below, below-member, Rising, rising-more, rising-front}
-use Rattle.profile.specs.Closure.{PointWithin}
+use Rattle.profile.proofs.Rising.{Below, below-member, Rising, rising-more, rising-front}
+use Rattle.profile.proofs.Closure.{PointWithin}
 use Rattle.codes.specs.Code.{at0, code, code_of, point_of, lightness, list_at, past_all}
 use Rattle.codes.specs.CodeLaws.{since-few, light-is, point-back}
 use Rattle.codes.specs.HeldLaws.{held-point, held-within, list_length}

@@ -8,11 +8,11 @@ use Rattle.packed.specs.Judge.{in_field, plainly, no_refusal, Check, Verdict, fi
 use Rattle.packed.specs.JudgeLaws.{refused-fine, refused-same, without, never, given-behind, every_number, number-passes}
 use Rattle.packed.specs.Packed.{count_of, numbers_of, order_of}
 use Rattle.packed.specs.Refusals.{header_checks, job_checks, weight_checks, order_checks}
-use Rattle.packed.specs.RefusalPlaces.{BadField, RefusalIs, nowhere, SixIs, six-behind, six-order, answer-refusal, answer-says}
+use Rattle.packed.proofs.RefusalPlaces.{BadField, RefusalIs, nowhere, SixIs, six-behind, six-order, answer-refusal, answer-says}
 use Rattle.judge.specs.Told.{Named, holds-behind, named-order}
 use Rattle.packed_plan.specs.Plan.{kept_in, starts_in, sent_checks}
 use Rattle.legal.specs.Legal.{Legal}
-use Rattle.legal.specs.LegalIs.{legal-is}
+use Rattle.legal.proofs.LegalIs.{legal-is}
 use Rattle.checking.specs.Calls.{legal_checks, legal_in, checked_by, legal_of, CheckedNumbers, checked_numbers}
 use Rattle.checking.specs.Judged.{NotWhole, SetBits, SentIs, not-whole, set-bits, passed, sent_is, fine-whole, fine-clear}
 

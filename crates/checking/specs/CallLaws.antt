@@ -4,13 +4,13 @@ use Rattle.std.proofs.Math.Path.{sym, ap}
 use Rattle.std.proofs.Common.{◌∙◌, arith}
 use Rattle.std.specs.Int.Count.{ones}
 use Rattle.packed.specs.declared.Refusal.{Refusal}
-use Rattle.packed.specs.LayoutLaws.{AreBytes}
+use Rattle.packed.proofs.LayoutLaws.{AreBytes}
 use Rattle.packed.specs.Judge.{fine, judge}
 use Rattle.packed.specs.JudgeLaws.{stages-fine}
 use Rattle.packed.specs.Packed.{count_of, t0_of, jobs_in, order_of}
 use Rattle.packed.specs.Places.{each_of}
 use Rattle.packed.specs.Refusals.{order_checks}
-use Rattle.packed.specs.Accepted.{OrderFine, order-fine}
+use Rattle.packed.proofs.Accepted.{OrderFine, order-fine}
 use Rattle.judge.specs.Verdicts.{verdict_of}
 use Rattle.judge.specs.Told.{refusal-told, told-refused, told-next}
 use Rattle.judge.specs.declared.Verdict.{Verdict}

@@ -9,14 +9,14 @@ use Rattle.std.proofs.Math.Seq.{get_or-drop}
 use borrow.Author.Tests.{lt-ltb, le-ltb, ltb-true, ltb-false, ne_eqb, eq-eqb, eqb-true, eqb-false}
 use borrow.Table.Steps.{cases}
 use Rattle.packed.specs.Layout.{number_of}
-use Rattle.packed.specs.LayoutLaws.{AreBytes, length-decode}
+use Rattle.packed.proofs.LayoutLaws.{AreBytes, length-decode}
 use Rattle.packed.specs.Judge.{plainly, Verdict, fine, refused, judge}
 use Rattle.packed.specs.JudgeLaws.{refused-fine}
 use Rattle.packed.specs.Places.{each_of}
 use Rattle.packed_plan.specs.Plan.{mask_bytes, plan_bytes, pad_bits, plan_layout, plan_fields, pack_plan, mask_in, count_in, starts_in, pad_in, sent_checks}
-use Rattle.packed_plan.specs.PlanLaws.{start-there, plan-length}
-use Rattle.packed_plan.specs.BothWays.{reads-packed}
-use Rattle.packed_plan.specs.Padding.{pad-there, each-is}
+use Rattle.packed_plan.proofs.PlanLaws.{start-there, plan-length}
+use Rattle.packed_plan.proofs.BothWays.{reads-packed}
+use Rattle.packed_plan.proofs.Padding.{pad-there, each-is}
 use Rattle.plan_bytes.specs.Asks.{start_from}
 
 -- ---- the checks, by the tests of the code

@@ -11,13 +11,13 @@ use Rattle.std.proofs.lemmas.Nat.{ones_cat}
 use Rattle.std.proofs.Math.Pow.{split, mod-mod-pow}
 use Rattle.std.proofs.Math.Seq.{ext_get_or}
 use Rattle.order.specs.Choice.{Choice}
-use Rattle.packed.specs.LayoutLaws.{AreBytes, part-lt}
+use Rattle.packed.proofs.LayoutLaws.{AreBytes, part-lt}
 use Rattle.packed.specs.Places.{each}
 use Rattle.packed.specs.PlacesLaws.{length-each, get_d-each}
 use Rattle.starting.specs.Picks.{picks_of}
 use Rattle.starting.specs.PicksLaws.{picks-none, picks_more, length-picks, pick-is-bit}
 use Rattle.packed_plan.specs.Plan.{mask_in, count_in, kept_at, kept_in}
-use Rattle.packed_plan.specs.PlanLaws.{ones-raised}
+use Rattle.packed_plan.proofs.PlanLaws.{ones-raised}
 use Rattle.legal.specs.Legal.{kept_of}
 use Rattle.checking.specs.Turns.{kept_by}
 

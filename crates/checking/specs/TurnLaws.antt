@@ -15,7 +15,7 @@ use borrow.Table.Steps.{cases}
 use Rattle.seconds.specs.Limits.{rest}
 use Rattle.seconds.specs.Ranges.{InTime}
 use Rattle.seconds.specs.Signed.{signed, abs_is, one-zero, add_is}
-use Rattle.seconds.specs.TwosLaws.{InBits, bits_to-in}
+use Rattle.seconds.proofs.TwosLaws.{InBits, bits_to-in}
 use Rattle.order.specs.Job.{Job}
 use Rattle.packed.specs.Layout.{number_of}
 use Rattle.packed.specs.Packed.{job_of}
@@ -25,11 +25,11 @@ use Rattle.fields.specs.Fields.{as_job}
 use Rattle.fields.specs.Facts.{JobFacts, mark-bits}
 use Rattle.fields.specs.Places.{drop_more}
 use Rattle.packed_plan.specs.Plan.{plan_bytes, pad_bits}
-use Rattle.packed_plan.specs.PlanLaws.{ones-0}
-use Rattle.packed_plan.specs.Writing.{place_of}
+use Rattle.packed_plan.proofs.PlanLaws.{ones-0}
+use Rattle.packed_plan.proofs.Writing.{place_of}
 use Rattle.plan_bytes.specs.Asks.{StartThere, start_from}
 use Rattle.legal.specs.Legal.{end_of, start_legal, legal_from}
-use Rattle.legal.specs.LegalLaws.{start-legal}
+use Rattle.legal.proofs.LegalLaws.{start-legal}
 use Rattle.checking.specs.Turns.{kept_by, turn_of}
 use Rattle.checking.specs.Marks.{kept-none, kept_more, zeros-up, ones-left}
 use Rattle.checking.specs.declared.Turn.{Turn}

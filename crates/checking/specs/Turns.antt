@@ -5,7 +5,7 @@ use Rattle.seconds.specs.Limits.{rest, most_jobs}
 use Rattle.order.specs.Job.{Job}
 use Rattle.packed.specs.Packed.{count_of}
 use Rattle.packed.specs.Refusals.{fields_within}
-use Rattle.packed.specs.Accepted.{OrderFine}
+use Rattle.packed.proofs.Accepted.{OrderFine}
 use Rattle.fields.specs.declared.Job.{Job as Numbers}
 use Rattle.fields.specs.Fields.{fields_of}
 use Rattle.starting.specs.Picks.{picks_of}

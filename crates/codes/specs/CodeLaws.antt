@@ -7,9 +7,9 @@ use Rattle.seconds.specs.Ranges.{InFree}
 use Rattle.seconds.specs.RangesLaws.{rest-small}
 use Rattle.seconds.specs.Signed.{signed, up, dn, add_is, sub_is, abs_is, one-zero}
 use Rattle.order.specs.Job.{Point}
-use Rattle.order.specs.Moves.{point-path}
-use Rattle.profile.specs.Rising.{Below}
-use Rattle.profile.specs.Closure.{PointWithin}
+use Rattle.order.proofs.Moves.{point-path}
+use Rattle.profile.proofs.Rising.{Below}
+use Rattle.profile.proofs.Closure.{PointWithin}
 use Rattle.better.specs.InTurn.{goes_first}
 use Rattle.codes.specs.Code.{since, per_second, most_light, code, lightness, point_of, limit_of, past_all}
 

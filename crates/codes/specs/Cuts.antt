@@ -11,7 +11,7 @@ use Rattle.seconds.specs.Ranges.{InFree}
 use Rattle.seconds.specs.Signed.{signed}
 use Rattle.order.specs.Job.{Point}
 use Rattle.profile.specs.Profile.{lookup, last_point}
-use Rattle.profile.specs.Rising.{below-member, Rising, rising-more}
+use Rattle.profile.proofs.Rising.{below-member, Rising, rising-more}
 use Rattle.codes.specs.Code.{code, limit_of, at0}
 use Rattle.codes.specs.CodeLaws.{code_below, limit-early, limit-late}
 use Rattle.codes.specs.Held.{Held, held_none, held_more, After}
@@ -55,6 +55,7 @@ pub record Cut (limit : ℤ) (work : List ℤ) (i e : ℕ) (ps : List Point) : T
 -- Where every number is past the limit, all points are behind.
 all-late : {limit : ℤ} {work : List ℤ} {i : ℕ} {ps : List Point} → Held work i ps
     → ((k : ℕ) → i ≤ k → k < i + length ps → limit <ℤ at0 work k) → (p : Point) → In p ps → limit <ℤ code p
+all-late {limit = limit} {work = work} (held_none {i = i}) over p x7 = elim x7 [ ]
 all-late (held_more {i = i} s f h) over p (head d) = let l = over i (omega arith) (omega arith) in rw d (rw f at l)
 all-late (held_more s f h) over p (tail m) = all-late h (λ k a b. over k (omega arith) (omega arith)) p m
 

@@ -2,7 +2,7 @@
 -- Definitions only.
 use Rattle.std.specs.Prelude.{ℕ, suc, ◌-◌, ◌≤◌, ◌<◌, ◌≡◌, List, [], ◌∷◌, ℤ, length, ◌≤ℤ◌, ◌<ℤ◌}
 use Rattle.order.specs.Job.{Point}
-use Rattle.profile.specs.Closure.{PointWithin}
+use Rattle.profile.proofs.Closure.{PointWithin}
 use Rattle.codes.specs.Code.{code, at0}
 
 -- Points within the limits stand as their numbers from a place on.

@@ -5,7 +5,7 @@ use mathlib.Core.List.Memᴰ.{head}
 use mathlib.Core.List.Memᴰ.{tail}
 use mathlib.Core.List.{List, ◌∷◌, ◌++◌, Memᴰ as In}
 use Rattle.order.specs.Job.{Point}
-use Rattle.profile.specs.Closure.{PointWithin}
+use Rattle.profile.proofs.Closure.{PointWithin}
 use Rattle.codes.specs.Code.{code, point_of, at0, list_at}
 use Rattle.codes.specs.CodeLaws.{point-back}
 use Rattle.codes.specs.Held.{Held, held_none, held_more}
@@ -22,6 +22,7 @@ held-read held_none = refl
 held-read {l} (held_more {i = i} s e h) = ap₂ ◌∷◌ (ap point_of e ∙ point-back s) (held-read h)
 
 pub held-within : {l : List ℤ} {i : ℕ} {ps : List Point} → Held l i ps → (p : Point) → In p ps → PointWithin p
+held-within {l = l} (held_none {i = i}) p x4 = elim x4 [ ]
 held-within (held_more s e h) p (head d) = rw d s
 held-within (held_more s e h) p (tail m) = held-within h p m
 

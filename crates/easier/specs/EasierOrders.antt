@@ -5,21 +5,21 @@ use mathlib.Core.List.{List, Forall₂}
 use Rattle.std.proofs.Math.Option.{some}
 use Rattle.seconds.specs.Signed.{signed, abs_is}
 use Rattle.order.specs.Easier.{Unchanged, EasierJob, EasierOrder}
-use Rattle.order.specs.EasierLaws.{no_lower}
-use Rattle.order.specs.OneRate.{easier-one-rate}
+use Rattle.order.proofs.EasierLaws.{no_lower}
+use Rattle.order.proofs.OneRate.{easier-one-rate}
 use Rattle.profile.specs.Profile.{order_profile}
 use Rattle.profile.specs.NoWorse.{NoWorse}
-use Rattle.profile.specs.NoWorseLaws.{order-no-worse}
+use Rattle.profile.proofs.NoWorseLaws.{order-no-worse}
 use Rattle.plan.specs.Plan.{Answer, plan_answer}
 use Rattle.plan.specs.NoWorse.{PlanNoWorse}
-use Rattle.plan.specs.NoWorseLaws.{easier-plan}
+use Rattle.plan.proofs.NoWorseLaws.{easier-plan}
 use Rattle.packed.specs.Places.{each_of, each}
 use Rattle.packed.specs.Judge.{fine, judge}
 use Rattle.packed.specs.Refusals.{order_checks}
 use Rattle.packed.specs.Packed.{the_number, the_length, is_critical, count_of, numbers_of, job_count, fields_at, job_of, job_at, jobs_of, order_of}
-use Rattle.packed.specs.PackedLaws.{numbers-count}
-use Rattle.packed.specs.RefusalLaws.{Within}
-use Rattle.packed.specs.Accepted.{order-fine, order-within}
+use Rattle.packed.proofs.PackedLaws.{numbers-count}
+use Rattle.packed.proofs.RefusalLaws.{Within}
+use Rattle.packed.proofs.Accepted.{order-fine, order-within}
 use Rattle.easier.specs.EasierBytes.{EasierFields, EasierBytes}
 
 -- One job, within its limits: numbers that are easier say an easier job.

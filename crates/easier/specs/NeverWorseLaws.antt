@@ -4,27 +4,27 @@ use Rattle.std.proofs.Common.{ap, ap₂, ◌∙◌, arith}
 use Rattle.std.proofs.Math.Option.{Option, none, some, map, get_or}
 use Rattle.seconds.specs.RangesLaws.{time-free}
 use Rattle.order.specs.Job.{Point}
-use Rattle.order.specs.EasierLaws.{no_lower}
+use Rattle.order.proofs.EasierLaws.{no_lower}
 use Rattle.profile.specs.Profile.{lookup, valid_profile, last_weight, start_point}
 use Rattle.profile.specs.NoWorse.{lookup_weight, NoWorse}
-use Rattle.profile.specs.NoWorseLaws.{extend-no-worse, start-no-worse}
-use Rattle.profile.specs.Rising.{Rising}
-use Rattle.profile.specs.Closure.{valid-holds, valid-start}
+use Rattle.profile.proofs.NoWorseLaws.{extend-no-worse, start-no-worse}
+use Rattle.profile.proofs.Rising.{Rising}
+use Rattle.profile.proofs.Closure.{valid-holds, valid-start}
 use Rattle.plan.specs.Plan.{Answer, plan_answer}
 use Rattle.packed.specs.declared.Refusal.{Refusal}
 use Rattle.packed.specs.Judge.{fine, judge, no_refusal}
 use Rattle.packed.specs.Packed.{t0_of, order_of}
 use Rattle.packed.specs.Refusals.{order_checks}
-use Rattle.packed.specs.Accepted.{order-fine}
+use Rattle.packed.proofs.Accepted.{order-fine}
 use Rattle.profiles.specs.Numbers.{profile_in}
 use Rattle.profiles.specs.Answer.{finding_of, finding_in, lookup_of}
 use Rattle.planner.specs.Calls.{planned_by, plan_numbers}
 use Rattle.planner.proofs.Planning.{Planning}
 use Rattle.planner.proofs.Outcomes.{planning-says}
 use Rattle.extending.specs.Calls.{profile_given, extension}
-use Rattle.extending.specs.ExtendingLaws.{accepted}
+use Rattle.extending.proofs.ExtendingLaws.{accepted}
 use Rattle.joining.specs.Calls.{Extending, Accepted, extended}
-use Rattle.joining.specs.Joining.{given_back, holds-back, given-valid, AcceptedAfter, valid-extension, writes, takes, accepted-after}
+use Rattle.joining.proofs.Joining.{given_back, holds-back, given-valid, AcceptedAfter, valid-extension, writes, takes, accepted-after}
 use Rattle.easier.specs.EasierBytes.{EasierBytes}
 use Rattle.easier.specs.EasierOrders.{easier-order, easier-answer}
 use Rattle.easier.specs.NeverWorse.{weight_told, NumbersNoWorse, LookingUp, LookupsNoWorse, AnswerNoWorse, start_of}

@@ -1,6 +1,3 @@
 -- Extending as a call: what it answers, the laws behind the code, and what is proved of the answers.
 pub mod Calls
 pub mod Extending
-pub mod CallLaws
-pub mod ExtendingLaws
-pub mod Answers

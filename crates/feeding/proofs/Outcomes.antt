@@ -9,7 +9,7 @@ use denote.Triple.Entry.{Args}
 use lib.Dec.{ltb}
 use lib.ListN.{length, get_or}
 use Rattle.area.specs.Area.{area}
-use Rattle.packed.specs.LayoutLaws.{AreBytes}
+use Rattle.packed.proofs.LayoutLaws.{AreBytes}
 use Rattle.sheet.specs.Sheet.{most_orders, sheet_in}
 use Rattle.streams.specs.Entries.{entries_of, is_cut, too_many, stream_sheet}
 use Rattle.streams.specs.Stream.{front_room}

@@ -5,7 +5,7 @@ use Rattle.area.specs.Area.{area, cleared}
 use Rattle.sheet.specs.Sheet.{figure_count, most_orders, orders, sheet_in, fits}
 use Rattle.adding.specs.Adding.{CanAdd}
 use Rattle.streams.specs.Stream.{front_room, feed_count, State, over, within, run, state_in, feed_over, is_state}
-use Rattle.streams.specs.Kept.{kept_in}
+use Rattle.streams.proofs.Kept.{kept_in}
 use Rattle.feeding.specs.Calls.{many_refusal}
 use Rattle.feeding.specs.declared.Part.{Part}
 use Rattle.feeding.specs.declared.Turn.{Turn}

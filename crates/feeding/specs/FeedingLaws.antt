@@ -10,9 +10,9 @@ use Rattle.sheet.specs.NumbersLaws.{sheet-in-over, over-behind, sheet-long}
 use Rattle.sheet.specs.Answered.{with_order}
 use Rattle.adding.specs.Adding.{CanAdd, Added}
 use Rattle.streams.specs.Stream.{front_room, State, over, edge, within, byte, run}
-use Rattle.streams.specs.StreamLaws.{run-append, run_inside}
+use Rattle.streams.proofs.StreamLaws.{run-append, run_inside}
 use Rattle.streams.specs.Counting.{with-long}
-use Rattle.streams.specs.Kept.{kept_in, kept_append, kept_full, byte-kept}
+use Rattle.streams.proofs.Kept.{kept_in, kept_append, kept_full, byte-kept}
 use Rattle.feeding.specs.declared.Part.{Part}
 use Rattle.feeding.specs.Feeding.{seen, Sound, left_by, left, CanSettle, Settles, Kept, CanTurn, Turned}
 

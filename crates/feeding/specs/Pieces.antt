@@ -6,13 +6,13 @@ use Rattle.std.proofs.Common.{sym, ap, ◌∙◌, arith, length-take-le, ltb-tru
 use borrow.Table.Steps.{cases}
 use Rattle.area.specs.Area.{area, cleared}
 use Rattle.area.specs.Clearing.{cleared-long, cleared-twice}
-use Rattle.packed.specs.LayoutLaws.{AreBytes}
+use Rattle.packed.proofs.LayoutLaws.{AreBytes}
 use Rattle.sheet.specs.Sheet.{most_orders, sheet_in, no_sheet}
 use Rattle.sheet.specs.SheetLaws.{none-tidy}
 use Rattle.streams.specs.Entries.{entries_of, is_cut, too_many, stream_sheet}
 use Rattle.streams.specs.Stream.{front_room, feed_count, State, over, edge, run, state_in, feed_over, is_state}
-use Rattle.streams.specs.StreamLaws.{run-append, run-over}
-use Rattle.streams.specs.Told.{sheet-told, many-told}
+use Rattle.streams.proofs.StreamLaws.{run-append, run-over}
+use Rattle.streams.proofs.Told.{sheet-told, many-told}
 use Rattle.feeding.specs.Calls.{many_refusal}
 use Rattle.feeding.specs.Calls.{FeedCall}
 use Rattle.feeding.specs.TakingLaws.{numbers-short, front-short, area-short, no-state, piece-taken}

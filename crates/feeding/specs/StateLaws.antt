@@ -9,7 +9,7 @@ use Rattle.std.proofs.Math.Seq.{drop_at}
 use Rattle.std.proofs.lemmas.List.{get_or_at}
 use Rattle.std.proofs.lemmas.Bool.{eqb-false, lt-leb}
 use borrow.Table.Steps.{cases}
-use Rattle.packed.specs.LayoutLaws.{AreBytes}
+use Rattle.packed.proofs.LayoutLaws.{AreBytes}
 use Rattle.sheet.specs.Sheet.{Sheet, sum_count, most_orders, orders, numbers_of, sheet_in, no_sheet, one_order, fits, is_sheet}
 use Rattle.sheet.specs.SheetLaws.{one-tidy}
 use Rattle.sheet.specs.NumbersLaws.{sheet-in-front}
@@ -18,9 +18,9 @@ use Rattle.sheet.specs.Answered.{answered, with_order}
 use Rattle.sheet.specs.AnsweredLaws.{answer-fits}
 use Rattle.streams.specs.Entries.{said}
 use Rattle.streams.specs.Stream.{front_room, feed_count, State, over, edge, within, kept_byte, byte, run, state_in, feed_over, part_fits, is_state}
-use Rattle.streams.specs.StreamLaws.{run-over}
+use Rattle.streams.proofs.StreamLaws.{run-over}
 use Rattle.streams.specs.Counting.{with-long}
-use Rattle.streams.specs.Kept.{kept-length}
+use Rattle.streams.proofs.Kept.{kept-length}
 use Rattle.feeding.specs.TakingLaws.{PartFitting, nothing, halfway, inner, state-says}
 
 -- ---- lengths

@@ -7,10 +7,10 @@ use Rattle.seconds.specs.Signed.{signed, add_is, abs_is, one-zero}
 use Rattle.seconds.specs.RangesLaws.{same-yes}
 use Rattle.seconds.specs.Twos.{to_bits}
 use Rattle.packed.specs.Layout.{encode, bytes_of, job_layout, pack_bits, front_layout, back_layout, front_bytes, record_bytes}
-use Rattle.packed.specs.LayoutLaws.{Held, no_field, held, encode-lt, front-bits, record-front}
-use Rattle.packed.specs.Appended.{encode-split}
+use Rattle.packed.proofs.LayoutLaws.{Held, no_field, held, encode-lt, front-bits, record-front}
+use Rattle.packed.proofs.Appended.{encode-split}
 use Rattle.packed.specs.Refusals.{fields_within}
-use Rattle.packed.specs.RefusalLaws.{within-is, job-held}
+use Rattle.packed.proofs.RefusalLaws.{within-is, job-held}
 use Rattle.fields.specs.Fields.{fields_of}
 use Rattle.fields.specs.Asked.{front_of, back_of, HeadFits, JobFor}
 use Rattle.fields.specs.Facts.{job-facts, facts-fit}

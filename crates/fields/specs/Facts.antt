@@ -11,10 +11,10 @@ use Rattle.seconds.specs.Ranges.{same, Between, InTime}
 use Rattle.seconds.specs.RangesLaws.{between-true, same-yes, same-no, same-is, time-fits}
 use Rattle.packed.specs.Layout.{decode, number_of, job_layout, record_bytes}
 use Rattle.packed.specs.Packed.{header_of, count_of, t0_of, kind_of, job_fields, fields_at}
-use Rattle.packed.specs.PackedLaws.{fields-is, word-is}
+use Rattle.packed.proofs.PackedLaws.{fields-is, word-is}
 use Rattle.packed.specs.Places.{part}
 use Rattle.packed.specs.Refusals.{weight_test, fields_within}
-use Rattle.packed.specs.RefusalLaws.{within-is, HeaderFine}
+use Rattle.packed.proofs.RefusalLaws.{within-is, HeaderFine}
 use Rattle.packed.specs.PlacesLaws.{part-below}
 use Rattle.fields.specs.Fields.{fields_of, header_fields}
 use Rattle.fields.specs.Asked.{RecordIn}

@@ -6,17 +6,17 @@ use Rattle.std.proofs.Math.Option.{some, none-ne-some, some-injective}
 use Rattle.std.proofs.Math.ListN.{get_elem?}
 use Rattle.seconds.specs.Signed.{true-T}
 use Rattle.order.specs.Job.{Rate, Job, rate_of, weight_of}
-use Rattle.order.specs.Within.{JobWithin, job-within}
-use Rattle.order.specs.Moves.{one-rate-whole}
-use Rattle.order.specs.OneRate.{OneRate}
+use Rattle.order.proofs.Within.{JobWithin, job-within}
+use Rattle.order.proofs.Moves.{one-rate-whole}
+use Rattle.order.proofs.OneRate.{OneRate}
 use Rattle.packed.specs.Places.{each_of, each}
 use Rattle.packed.specs.PlacesLaws.{length-each}
 use Rattle.packed.specs.Packed.{count_of, numbers_of, job_count, fields_at, job_fields, job_of, job_in, order_of, jobs_in}
 use Rattle.packed.specs.Packed.{the_number, the_weight, the_ready, the_length, the_deadline, is_critical}
-use Rattle.packed.specs.PackedLaws.{numbers-count, fields-of-numbers, order-jobs}
+use Rattle.packed.proofs.PackedLaws.{numbers-count, fields-of-numbers, order-jobs}
 use Rattle.packed.specs.Refusals.{fields_within}
-use Rattle.packed.specs.RefusalLaws.{within-is, fields_within_lem}
-use Rattle.packed.specs.Accepted.{OrderFine}
+use Rattle.packed.proofs.RefusalLaws.{within-is, fields_within_lem}
+use Rattle.packed.proofs.Accepted.{OrderFine}
 use Rattle.fields.specs.declared.Job.{Job as Numbers}
 use Rattle.fields.specs.Fields.{fields_of, as_job}
 

@@ -7,8 +7,8 @@ use Rattle.std.specs.Int.{w32}
 use Rattle.std.proofs.Math.Facts.{to_z_pos}
 use Rattle.seconds.specs.Twos.{bits_to}
 use Rattle.packed.specs.Layout.{number_of, bytes_of, decode, job_layout, pack_bits, record_bytes}
-use Rattle.packed.specs.LayoutLaws.{AreBytes, part-lt, part-on, number_of-cons, bytes_of-snoc, length-bytes_of, job-decode}
-use Rattle.packed.specs.Appended.{number_of-append}
+use Rattle.packed.proofs.LayoutLaws.{AreBytes, part-lt, part-on, number_of-cons, bytes_of-snoc, length-bytes_of, job-decode}
+use Rattle.packed.proofs.Appended.{number_of-append}
 use Rattle.fields.specs.Asked.{WordIn, WordIs}
 
 -- ---- reading bytes

@@ -10,11 +10,11 @@ use Rattle.seconds.specs.Limits.{most_weight}
 use Rattle.seconds.specs.RangesLaws.{time-fits}
 use Rattle.seconds.specs.Signed.{signed, abs_is}
 use Rattle.order.specs.Job.{Job, one_rate, Point}
-use Rattle.order.specs.Within.{JobWithin}
+use Rattle.order.proofs.Within.{JobWithin}
 use Rattle.packed.specs.Packed.{count_of, job_fields, job_of, job_in}
-use Rattle.packed.specs.PackedLaws.{fields-of-numbers, numbers-count}
-use Rattle.packed.specs.RefusalLaws.{Within, within-is}
-use Rattle.packed.specs.Accepted.{OrderFine}
+use Rattle.packed.proofs.PackedLaws.{fields-of-numbers, numbers-count}
+use Rattle.packed.proofs.RefusalLaws.{Within, within-is}
+use Rattle.packed.proofs.Accepted.{OrderFine}
 use Rattle.fields.specs.Fields.{fields_of}
 use Rattle.fields.specs.Facts.{JobFacts, JobFits, job-facts, facts-fit, mark-bits}
 use Rattle.fields.specs.declared.Job.{Job as Numbers}

@@ -4,12 +4,12 @@ use mathlib.Core.List.{List, [], Memᴰ as In}
 use Rattle.seconds.specs.Limits.{most_weight, most_jobs}
 use Rattle.seconds.specs.Ranges.{InTime}
 use Rattle.order.specs.Job.{Job, one_rate, Point, weight_of}
-use Rattle.order.specs.Within.{JobWithin}
+use Rattle.order.proofs.Within.{JobWithin}
 use Rattle.profile.specs.Profile.{extend, last_weight}
-use Rattle.profile.specs.Closure.{ValidProfile}
+use Rattle.profile.proofs.Closure.{ValidProfile}
 use Rattle.points.specs.Steps.{list_step}
 use Rattle.packed.specs.Packed.{count_of, job_in, jobs_in}
-use Rattle.packed.specs.Accepted.{OrderFine}
+use Rattle.packed.proofs.Accepted.{OrderFine}
 use Rattle.area.specs.Area.{area}
 use Rattle.codes.specs.Code.{at0, list_at}
 use Rattle.codes.specs.Held.{Held}

@@ -9,21 +9,21 @@ use mathlib.Core.List.Memᴰ.{not-nil}
 use Rattle.seconds.specs.Limits.{most_weight, most_jobs}
 use Rattle.order.specs.Job.{Job, Point, weight_of, jobs_within}
 use Rattle.order.specs.Choice.{outcomes}
-use Rattle.order.specs.Outcomes.{outcomes-none}
-use Rattle.order.specs.Within.{JobWithin, jobs-within, weight_of-append}
+use Rattle.order.proofs.Outcomes.{outcomes-none}
+use Rattle.order.proofs.Within.{JobWithin, jobs-within, weight_of-append}
 use Rattle.profile.specs.Profile.{profile_of, extend, last_weight}
-use Rattle.profile.specs.Rising.{Rising}
-use Rattle.profile.specs.Points.{profile_of-rises, profile_of-rising}
-use Rattle.profile.specs.Last.{last-heaviest}
-use Rattle.profile.specs.Joining.{extend-extend}
-use Rattle.profile.specs.Closure.{rising-short, extend-light, extend-short, jobs-take}
+use Rattle.profile.proofs.Rising.{Rising}
+use Rattle.profile.proofs.Points.{profile_of-rises, profile_of-rising}
+use Rattle.profile.proofs.Last.{last-heaviest}
+use Rattle.profile.proofs.Joining.{extend-extend}
+use Rattle.profile.proofs.Closure.{rising-short, extend-light, extend-short, jobs-take}
 use Rattle.points.specs.Steps.{list_step}
-use Rattle.points.specs.PrefixLaws.{Single, Singles, step_is}
+use Rattle.points.proofs.PrefixLaws.{Single, Singles, step_is}
 use Rattle.packed.specs.Places.{each_of, each}
 use Rattle.packed.specs.PlacesLaws.{get_d-each}
 use Rattle.packed.specs.Packed.{the_weight, the_length, job_fields, job_of, count_of, job_in, order_of, jobs_in}
-use Rattle.packed.specs.PackedLaws.{order-jobs}
-use Rattle.packed.specs.Accepted.{OrderFine, jobs-fit}
+use Rattle.packed.proofs.PackedLaws.{order-jobs}
+use Rattle.packed.proofs.Accepted.{OrderFine, jobs-fit}
 use Rattle.fields.specs.Places.{jobs-count, weight-up-to}
 use Rattle.area.specs.Area.{area}
 use Rattle.codes.specs.Code.{list_at, points_at, end_of}

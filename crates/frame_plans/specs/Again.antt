@@ -1,7 +1,7 @@
 -- Tomorrow's frame is today's again, over the definitions and over the calls: whatever an outcome of framing that its contract allows
 -- has written, planning accepts it, and every outcome of planning on the order of two frames, or of more, keeps as many times the
 -- weight as there are frames, and is refused with 11 exactly where planning one frame is.
-use Rattle.std.specs.Prelude.{ℕ, suc, ◌*◌, ◌≡◌, refl, false, ◌↔◌, List, ℤ, pos, take}
+use Rattle.std.specs.Prelude.{ℕ, suc, ◌*◌, ◌≤◌, ◌≡◌, refl, false, ◌↔◌, List, ℤ, pos, length, take}
 use Rattle.std.proofs.Common.{sym, ap, ◌∙◌}
 use Rattle.std.proofs.Math.Option.{none, map, map-eq-none_iff}
 use contract.Lifetimes.{Lfts}
@@ -10,15 +10,18 @@ use denote.Triple.Entry.{Args}
 use Rattle.order.specs.Job.{Job, Order}
 use Rattle.order.specs.Choice.{Choice, feasible}
 use Rattle.plan.specs.Frames.{best_kept, two_frames, frames}
-use Rattle.plan.specs.FramesLaws.{frames-best, two-frames-best, two-frames-none}
+use Rattle.plan.proofs.FramesLaws.{frames-best, two-frames-best, two-frames-none}
 use Rattle.packed.specs.Judge.{fine, judge}
-use Rattle.packed.specs.Packed.{jobs_of, order_of}
+use Rattle.packed.specs.Packed.{count_of, jobs_of, order_of}
 use Rattle.packed.specs.Refusals.{order_checks}
+use Rattle.area.specs.Area.{area}
 use Rattle.frames.specs.Frames.{frame_of, frame_numbers, making_checks}
-use Rattle.frames.specs.FrameLaws.{making-fine, inside-frame}
-use Rattle.planner.specs.Calls.{plan_numbers}
-use Rattle.planner.proofs.Planning.{Planning}
-use Rattle.planner.proofs.Outcomes.{planning-says}
+use Rattle.frames.proofs.FrameLaws.{making-fine, inside-frame}
+use Rattle.planner.specs.Calls.{plan_verdict, planned_of, plan_numbers}
+use Rattle.planner.specs.Answers.{plan-passed}
+use Rattle.planner.specs.declared.Planned.{Planned}
+use Rattle.planner.specs.contracts.plan as plan
+use Rattle.planner.proofs.plan.Reads as plan-reads
 use Rattle.framing.specs.AnswerSays.{FrameWritten, frame_order}
 use Rattle.framing.specs.declared.FrameOrder.{FrameOrder}
 use Rattle.framing.specs.declared.Framed.TheVariants.{Made}
@@ -47,13 +50,31 @@ module _ (zs : List ℤ) (made : judge (making_checks zs) ≡ fine) where
 abbrev pub again : ℕ → ℕ → Order → Order
 again k F o = record { t0 = o.t0; jobs = frames k F o.jobs }
 
+-- An outcome of planning some bytes that passes the checks: the order fits the limits, and there is room.
+pub record Planning (bytes : List ℕ) : Type 1 where
+  pub lifetimes : Lfts 3
+  pub args : Args plan.signature lifetimes
+  pub answer : Planned
+  pub exit : AtExit plan.ended lifetimes
+  pub allowed : plan-reads.Post lifetimes args answer exit
+  pub given : args.0.now ≡ bytes
+  pub fits : judge (order_checks bytes) ≡ fine
+  pub places : count_of bytes ≤ length args.1.0.now
+  pub room : area ≤ length args.1.1.0.now
+
 -- What it keeps is the best there is.
 module _ {bytes : List ℕ} (p : Planning bytes) where
+  passed : plan_verdict bytes p.args.1.0.now p.args.1.1.0.now ≡ fine
+  passed = (plan-passed bytes p.args.1.0.now p.args.1.1.0.now).1 (p.fits, p.places, p.room)
+
+  says : p.answer ≡ planned_of bytes p.args.1.0.now p.args.1.1.0.now
+  says = p.allowed.answer ∙ ap (λ (b : List ℕ). planned_of b p.args.1.0.now p.args.1.1.0.now) p.given
+
   pub planning-best : plan_kept p.answer ≡ best_kept (order_of bytes).t0 (order_of bytes).jobs
-  planning-best = ap plan_kept (planning-says p) ∙ kept-best (order_of bytes)
+  planning-best = ap plan_kept says ∙ kept-best bytes p.args.1.0.now p.args.1.1.0.now passed
 
   pub planning-none : (plan_numbers p.answer).refusal.number ≡ 11 ↔ (plan_kept p.answer ≡ none)
-  planning-none = rw (planning-says p) (none-eleven (order_of bytes))
+  planning-none = rw says (none-eleven bytes p.args.1.0.now p.args.1.1.0.now passed)
 
 -- A call of framing that answers with bytes.
 module _ (κs : Lfts 2) (a : Args frame.signature κs) (made : FrameOrder) (x : AtExit frame.ended κs)

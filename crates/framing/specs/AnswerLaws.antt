@@ -10,7 +10,7 @@ use Rattle.packed.specs.Judge.{plainly, Verdict as Judged, fine, refused, judge}
 use Rattle.packed.specs.Layout.{record_bytes}
 use Rattle.packed.specs.Packed.{job_count, jobs_of, packed_header}
 use Rattle.packed.specs.Refusals.{weight_checks, room_checks}
-use Rattle.packed.specs.RefusalLaws.{weight-fine, room-fine}
+use Rattle.packed.proofs.RefusalLaws.{weight-fine, room-fine}
 use Rattle.fields.specs.Asked.{HeaderRoom}
 use Rattle.judge.specs.Verdicts.{verdict_of}
 use Rattle.judge.specs.Told.{refusal-told, told-next, stays}
@@ -19,8 +19,8 @@ use Rattle.pack.specs.Writing.{first_records}
 use Rattle.pack.specs.WritingLaws.{all-written}
 use Rattle.frames.specs.Frames.{frame_of, repeat_count, frame_numbers, frame_bytes, given_checks, made_checks, making_checks, frame_checks}
 use Rattle.frames.specs.Facts.{GivenFine, MakingFine}
-use Rattle.frames.specs.GivenLaws.{given-fine}
-use Rattle.frames.specs.FrameLaws.{frame-count, frame-packed, frame-bytes}
+use Rattle.frames.proofs.GivenLaws.{given-fine}
+use Rattle.frames.proofs.FrameLaws.{frame-count, frame-packed, frame-bytes}
 use Rattle.repeating.specs.Repeating.{CanCount, Counts}
 use Rattle.repeating.specs.declared.Totals.{Totals}
 use Rattle.framing.specs.Answer.{framed_by, order_by, framed_of, order_after}

@@ -13,13 +13,13 @@ use Rattle.packed.specs.Layout.{record_bytes}
 use Rattle.packed.specs.Packed.{kind_of, order_from, order_of}
 use Rattle.packed.specs.PlacesLaws.{IsFirst, first-unique}
 use Rattle.packed.specs.Refusals.{weight_checks, room_checks, order_checks}
-use Rattle.packed.specs.RefusalPlaces.{nowhere, answer-says}
-use Rattle.packed.specs.RoundTrip.{unpack-pack, pack-kind}
+use Rattle.packed.proofs.RefusalPlaces.{nowhere, answer-says}
+use Rattle.packed.proofs.RoundTrip.{unpack-pack, pack-kind}
 use Rattle.frames.specs.Frames.{jobs_given, unfit_at, first_unfit, frame_of, repeat_count, frame_numbers, frame_bytes}
 use Rattle.frames.specs.Frames.{given_checks, made_checks, making_checks, frame_checks}
-use Rattle.frames.specs.GivenLaws.{unfit-is-first}
+use Rattle.frames.proofs.GivenLaws.{unfit-is-first}
 use Rattle.frames.specs.Facts.{MakingFine}
-use Rattle.frames.specs.FrameLaws.{frame-kind, making-fine, made-fine, inside-frame}
+use Rattle.frames.proofs.FrameLaws.{frame-kind, making-fine, made-fine, inside-frame}
 use Rattle.framing.specs.Answer.{framed_by, order_by, framed_of, order_after, refusal_of, bytes_written, frame_told}
 use Rattle.framing.specs.declared.Framed.{Framed}
 use Rattle.framing.specs.declared.FrameOrder.{FrameOrder}

@@ -5,8 +5,8 @@ use mathlib.Core.List.Memᴰ.{head}
 use mathlib.Core.List.Memᴰ.{tail}
 use Rattle.seconds.specs.Signed.{signed, min_z, min-is}
 use Rattle.order.specs.Job.{Point}
-use Rattle.profile.specs.Rising.{BelowAll, below_none, below_more, Rising, rising_none, rising-more}
-use Rattle.profile.specs.Closure.{PointWithin}
+use Rattle.profile.proofs.Rising.{BelowAll, below_none, below_more, Rising, rising_none, rising-more}
+use Rattle.profile.proofs.Closure.{PointWithin}
 use Rattle.codes.specs.Code.{at0, code, code_of, point_of, past_all}
 use Rattle.codes.specs.CodeLaws.{since-few, point-back}
 use Rattle.cells.specs.Cells.{cell_of, reach, Cells}

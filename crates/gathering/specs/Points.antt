@@ -1,7 +1,7 @@
 -- The points of the cells of a row, and what writing them asks and gives. Definitions only.
 use Rattle.std.specs.Prelude.{ℕ, zero, suc, ◌+◌, ◌≤◌, ◌<◌, ◌≡◌, true, cond, List, [], ◌∷◌, ◌++◌, ℤ, length}
 use Rattle.order.specs.Job.{Point}
-use Rattle.profile.specs.Closure.{PointWithin}
+use Rattle.profile.proofs.Closure.{PointWithin}
 use Rattle.codes.specs.Code.{at0, code, point_of}
 use Rattle.codes.specs.Held.{Held}
 use Rattle.cells.specs.Laying.{is_point}

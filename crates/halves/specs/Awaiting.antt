@@ -6,7 +6,7 @@ use Rattle.order.specs.Job.{Job, length_of}
 use Rattle.order.specs.Halves.{is_half}
 use Rattle.packed.specs.Packed.{count_of}
 use Rattle.packed.specs.Refusals.{fields_within}
-use Rattle.packed.specs.Accepted.{OrderFine}
+use Rattle.packed.proofs.Accepted.{OrderFine}
 use Rattle.fields.specs.Fields.{fields_of}
 use Rattle.fields.specs.declared.Job.{Job as Fields}
 use Rattle.planner.specs.declared.Planned.{Planned}

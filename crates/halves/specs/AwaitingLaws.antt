@@ -17,13 +17,13 @@ use Rattle.seconds.specs.Signed.{signed, abs_is}
 use Rattle.seconds.specs.Ranges.{same}
 use Rattle.order.specs.Job.{Job, length_of}
 use Rattle.order.specs.Halves.{is_half, has_partner, offends, offends_at}
-use Rattle.order.specs.HalvesLaws.{has_more}
+use Rattle.order.proofs.HalvesLaws.{has_more}
 use Rattle.packed.specs.Places.{first}
 use Rattle.packed.specs.PlacesLaws.{first_on, first-here, first-end}
 use Rattle.packed.specs.Packed.{job_fields, count_of, numbers_of, job_of, jobs_in}
-use Rattle.packed.specs.PackedLaws.{numbers-count}
+use Rattle.packed.proofs.PackedLaws.{numbers-count}
 use Rattle.packed.specs.Refusals.{first_offending}
-use Rattle.packed.specs.Accepted.{OrderFine}
+use Rattle.packed.proofs.Accepted.{OrderFine}
 use Rattle.fields.specs.declared.Job.{Job as Fields}
 use Rattle.fields.specs.Fields.{fields_of, as_job}
 use Rattle.fields.specs.Facts.{JobFacts, JobFits, facts-fit, mark-bits}

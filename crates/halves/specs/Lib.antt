@@ -1,7 +1,4 @@
 -- Planning an order of halves: what it answers, the laws behind the code, and what is proved of the answers.
 pub mod Calls
-pub mod AsWritten
 pub mod Awaiting
 pub mod AwaitingLaws
-pub mod CallLaws
-pub mod Answers

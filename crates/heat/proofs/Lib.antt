@@ -1,3 +1,4 @@
 -- What is proved of the call's contract.
 pub mod Determined
 pub mod Outcomes
+pub mod TableLaws

@@ -5,7 +5,7 @@ use contract.Lifetimes.{Lfts}
 use denote.Triple.Clauses.{AtExit}
 use denote.Triple.Entry.{Args}
 use Rattle.heat.specs.Table.{tabled}
-use Rattle.heat.specs.TableLaws.{unchanged}
+use Rattle.heat.proofs.TableLaws.{unchanged}
 use Rattle.heat.specs.declared.Heating.{Heating}
 use Rattle.heat.specs.contracts.heat_up as heat-up
 use Rattle.heat.proofs.heat_up.Reads as reads

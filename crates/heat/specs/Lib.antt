@@ -4,4 +4,3 @@ pub mod Answer
 pub mod Degree
 pub mod AnswerSays
 pub mod Table
-pub mod TableLaws

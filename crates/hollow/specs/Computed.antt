@@ -32,7 +32,7 @@ use Rattle.report.specs.Report.{text_room, printed}
 use Rattle.report.specs.AsPrinted.{morning_bytes, morning_text, morning-printed}
 use Rattle.worked.specs.Examples.{morning}
 use Rattle.worked.specs.Halves.{two_checks}
-use Rattle.packed_plan.specs.PlanLaws.{ones-raised}
+use Rattle.packed_plan.proofs.PlanLaws.{ones-raised}
 use Rattle.worked.specs.Plans.{own_plan, lighter_plan}
 use Rattle.hollow.specs.Named.{ones, front, room, work_area, refused_bytes, one_job_bytes, one_pack_bytes, start, page}
 use Rattle.hollow.specs.Named.{one_job_plan, plan_page}

@@ -6,7 +6,7 @@ use Rattle.std.proofs.Common.{ap, arith}
 use Rattle.seconds.specs.Limits.{rest}
 use Rattle.order.specs.Job.{Point}
 use Rattle.profile.specs.Profile.{extend, start_point}
-use Rattle.profile.specs.Joining.{extend-extend, extend-better_of}
+use Rattle.profile.proofs.Joining.{extend-extend, extend-better_of}
 use Rattle.extending.specs.Calls.{points_written}
 use Rattle.worked.specs.Examples.{morning}
 use Rattle.hollow.specs.Contract.{Allowed, ShutOut}

@@ -6,7 +6,7 @@ use Rattle.std.proofs.Math.Path.{ap}
 use Rattle.std.proofs.Math.ListN.{get_or}
 use Rattle.std.specs.Int.Signed.{non_neg}
 use Rattle.std.specs.Int.{Width, w32}
-use mir.Val.{Fits, bits, to_z, of_z}
+use mir.Val.{Fits, SFits, bits, to_z, of_z}
 use borrow.Table.Steps.{cases}
 use Rattle.seconds.specs.Signed.{signed, abs_is}
 use Rattle.seconds.specs.Ranges.{Between}
@@ -15,10 +15,10 @@ use Rattle.packed.specs.Places.{each, first}
 use Rattle.packed.specs.PlacesLaws.{each-end, first_on, first-here, first-end}
 use Rattle.packed.specs.Judge.{fine, judge}
 use Rattle.packed.specs.Packed.{job_fields, header_of, count_of, numbers_of, job_count, fields_at, the_weight, job_at, jobs_of}
-use Rattle.packed.specs.PackedLaws.{numbers-count, fields-of-numbers, whole-count}
+use Rattle.packed.proofs.PackedLaws.{numbers-count, fields-of-numbers, whole-count}
 use Rattle.packed.specs.Refusals.{header_checks, fields_within, bad_field, bad_at, first_bad, number_at}
-use Rattle.packed.specs.RefusalLaws.{header-fine}
-use Rattle.packed.specs.Steps.{bad-from-0, weights-on}
+use Rattle.packed.proofs.RefusalLaws.{header-fine}
+use Rattle.packed.proofs.Steps.{bad-from-0, weights-on}
 use Rattle.fields.specs.Fields.{fields_of, header_fields}
 use Rattle.fields.specs.Asked.{RecordIn}
 use Rattle.fields.specs.Facts.{job-facts, record-in, read-from, header_read}
@@ -31,7 +31,7 @@ use Rattle.judge.specs.declared.Gathered.{Gathered}
 
 -- It is what its bits say.
 pub kept : (greatest : ℕ) (z : ℤ) → Between (pos 0) (pos greatest) z → greatest < 1048576 → to_z w32 (of_z w32 z) ≡ z
-kept greatest z b l = to_z-of_z (omega signed)
+kept greatest z b l = let f : SFits w32 z = omega signed in to_z-of_z f
 
 -- It has room in any unsigned number that has room for the greatest.
 pub casts : (w : Width) (greatest : ℕ) (z : ℤ) → Between (pos 0) (pos greatest) z → greatest < 1048576 → greatest < 2 ^ bits w

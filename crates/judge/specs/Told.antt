@@ -12,9 +12,9 @@ use Rattle.order.specs.Job.{weight_of}
 use Rattle.packed.specs.Layout.{record_bytes}
 use Rattle.packed.specs.Packed.{count_of, numbers_of, job_count, jobs_of}
 use Rattle.packed.specs.Refusals.{header_checks, list_checks, job_checks, weight_checks, room_checks, order_checks, first_repeat}
-use Rattle.packed.specs.RefusalLaws.{list-fine}
-use Rattle.packed.specs.RefusalPlaces.{has_place, RefusalIs, nowhere, unpack-refusal, SixIs, six-behind}
-use Rattle.packed.specs.Steps.{header-judge, jobs-judge}
+use Rattle.packed.proofs.RefusalLaws.{list-fine}
+use Rattle.packed.proofs.RefusalPlaces.{has_place, RefusalIs, nowhere, unpack-refusal, SixIs, six-behind}
+use Rattle.packed.proofs.Steps.{header-judge, jobs-judge}
 use Rattle.fields.specs.Facts.{HeaderRead}
 use Rattle.fields.specs.declared.Header.{Header}
 use Rattle.judge.specs.Verdicts.{kind_judged, verdict_of, AllGiven, Found, found_in, sum_judged}

@@ -10,7 +10,7 @@ use Rattle.seconds.specs.RangesLaws.{same-yes, same-no}
 use Rattle.packed.specs.Places.{part, first}
 use Rattle.packed.specs.PlacesLaws.{first_on, first-here, first-end}
 use Rattle.packed.specs.Packed.{numbers_of, job_count, fields_at, job_fields, has_pack, the_pack, first_packed, kind_for}
-use Rattle.packed.specs.PackedLaws.{numbers-count, fields-of-numbers, whole-count}
+use Rattle.packed.proofs.PackedLaws.{numbers-count, fields-of-numbers, whole-count}
 use Rattle.fields.specs.Fields.{fields_of}
 use Rattle.fields.specs.declared.Job.{Job}
 use Rattle.kinds.specs.Kinds.{Records, Whole}

@@ -12,20 +12,20 @@ use Rattle.packed.specs.declared.Refusal.{Refusal}
 use Rattle.packed.specs.Judge.{in_field, fine, judge}
 use Rattle.packed.specs.Packed.{numbers_of}
 use Rattle.packed.specs.Refusals.{header_checks, list_checks, order_checks}
-use Rattle.packed.specs.RefusalPlaces.{BadField, no_field}
+use Rattle.packed.proofs.RefusalPlaces.{BadField, no_field}
 use Rattle.unpack.specs.AnswerSays as unpacking
 use Rattle.pack.specs.AnswerSays as packing
-use Rattle.reader.specs.ReadingLaws.{BadHere, step-six, step-field-0}
-use Rattle.extending.specs.Answers.{extend-refusal, extend-six}
+use Rattle.reader.proofs.ReadingLaws.{BadHere, step-six, step-field-0}
+use Rattle.extending.proofs.Answers.{extend-refusal, extend-six}
 use Rattle.planner.specs.Answers.{plan-refusal, plan-six}
 use Rattle.halves.specs.Calls.{HalvesCall}
-use Rattle.halves.specs.Answers.{halves-refusal, halves-six}
+use Rattle.halves.proofs.Answers.{halves-refusal, halves-six}
 use Rattle.plan_writer.specs.Answers.{write-refusal, write-six}
 use Rattle.checking.specs.Answers.{legal-refusal, legal-six}
 use Rattle.best_plan.specs.Answers.{best-refusal, best-six}
 use Rattle.ties.specs.Winning.{TieRule, sooner, to_first}
 use Rattle.choosing.specs.Choosing.{chosen_of, work_after, Asked, refusal_of as choice_refusal}
-use Rattle.choosing.specs.WinnerLaws.{BadIn, asked-six, asked-names}
+use Rattle.choosing.proofs.WinnerLaws.{BadIn, asked-six, asked-names}
 use Rattle.packed_answers.specs.declared.UnpackAnswer.{UnpackAnswer}
 use Rattle.packed_answers.specs.declared.PackAnswer.{PackAnswer}
 use Rattle.packed_answers.specs.declared.StepAnswer.{StepAnswer}

@@ -14,7 +14,7 @@ use borrow.Table.Steps.{cases}
 use Rattle.packed.specs.Judge.{Check, fine, judge}
 use Rattle.packed.specs.Packed.{count_of, numbers_of, order_of}
 use Rattle.packed.specs.Refusals.{job_checks, weight_checks, halves_checks, room_checks, order_checks}
-use Rattle.packed.specs.Packless.{Packless, NineteenIs, nineteen-behind, nineteen-told, nineteen-either, nineteen-header, nineteen-order}
+use Rattle.packed.proofs.Packless.{Packless, NineteenIs, nineteen-behind, nineteen-told, nineteen-either, nineteen-header, nineteen-order}
 use Rattle.plan.specs.Plan.{Answer, plan_answer}
 use Rattle.unpack.specs.Answer.{unpacked_by, refusal_of as unpack_refusal}
 use Rattle.pack.specs.Answer.{refusal_of as pack_refusal}
@@ -30,7 +30,7 @@ use Rattle.checking.specs.Calls.{legal_checks, legal_in, checked_by, checked_num
 use Rattle.best_plan.specs.Calls.{best_checks, best_in}
 use Rattle.ties.specs.Winning.{opening_point, TieRule, sooner, to_first, winner_by}
 use Rattle.choosing.specs.Choosing.{choosing_checks, chosen_by, refusal_of}
-use Rattle.choosing.specs.AnswerSays.{won-by, at-most-eleven}
+use Rattle.choosing.proofs.AnswerSays.{won-by, at-most-eleven}
 use Rattle.packed_answers.specs.declared.UnpackAnswer.{UnpackAnswer}
 use Rattle.packed_answers.specs.declared.PackAnswer.{PackAnswer}
 use Rattle.packed_answers.specs.declared.OpenAnswer.{OpenAnswer}

@@ -43,7 +43,7 @@ use Rattle.frames.specs.Frames.{given_checks, made_checks}
 use Rattle.framing.specs.AnswerSays.{frame-passes}
 use Rattle.ties.specs.Winning.{opening_point, TieRule, sooner, to_first, winner_by}
 use Rattle.choosing.specs.Choosing.{choosing_checks, chosen_by, chosen_of, refusal_of}
-use Rattle.choosing.specs.AnswerSays.{won-by, at-most-eleven}
+use Rattle.choosing.proofs.AnswerSays.{won-by, at-most-eleven}
 use Rattle.point_records.specs.Records.{flattened}
 use Rattle.packed_answers.specs.declared.HeatAnswer.{HeatAnswer}
 use Rattle.packed_answers.specs.declared.UnpackAnswer.{UnpackAnswer}

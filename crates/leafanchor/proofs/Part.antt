@@ -14,7 +14,7 @@ use borrow.Author.Rules.{part_to_end}
 use Rattle.packed.specs.Layout.{header_bytes}
 use Rattle.ties.specs.Winning.{TieRule, sooner, to_first}
 use Rattle.choosing.specs.Choosing.{Asked, Handed, work_after, part_of, place_of}
-use Rattle.choosing.specs.ChoosingLaws.{headers-there}
+use Rattle.choosing.proofs.ChoosingLaws.{headers-there}
 use Rattle.ties.specs.declared.Chosen.{Chosen}
 use Rattle.ties.specs.declared.Chosen.TheVariants.{Refused, First, Second}
 use Rattle.openings.specs.Answer.{answer_of}

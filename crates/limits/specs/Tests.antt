@@ -6,7 +6,7 @@ use Rattle.seconds.specs.Limits.{highest_pack, longest}
 use Rattle.seconds.specs.Ranges.{same, is_between, is_time}
 use Rattle.seconds.specs.RangesLaws.{same-is}
 use Rattle.packed.specs.Refusals.{weight_test, fields_within, bad_field}
-use Rattle.packed.specs.FieldLaws.{no-field-within}
+use Rattle.packed.proofs.FieldLaws.{no-field-within}
 use Rattle.fields.specs.Fields.{fields_of}
 use Rattle.fields.specs.declared.Job.{Job}
 

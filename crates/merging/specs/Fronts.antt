@@ -8,8 +8,8 @@ use Rattle.std.specs.Int.Signed.{lt_z}
 use Rattle.seconds.specs.Limits.{most_weight}
 use Rattle.seconds.specs.Signed.{signed, up, dn}
 use Rattle.order.specs.Job.{Point}
-use Rattle.profile.specs.Rising.{BelowAll, below-member, Rising, rising_none, rising-more}
-use Rattle.profile.specs.Closure.{PointWithin}
+use Rattle.profile.proofs.Rising.{BelowAll, below-member, Rising, rising_none, rising-more}
+use Rattle.profile.proofs.Closure.{PointWithin}
 use Rattle.better.specs.InTurn.{first_goes, turn-first}
 use Rattle.better.specs.Heavier.{heavier, merge}
 

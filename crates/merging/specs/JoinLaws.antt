@@ -11,9 +11,9 @@ use Rattle.seconds.specs.Limits.{most_weight}
 use Rattle.seconds.specs.Signed.{signed, up, dn}
 use Rattle.order.specs.Job.{Point}
 use Rattle.profile.specs.Profile.{better_of}
-use Rattle.profile.specs.Rising.{Rising, rising-front, rising-back}
-use Rattle.profile.specs.Closure.{PointWithin, rising-short}
-use Rattle.profile.specs.Points.{profile_of-member}
+use Rattle.profile.proofs.Rising.{Rising, rising-front, rising-back}
+use Rattle.profile.proofs.Closure.{PointWithin, rising-short}
+use Rattle.profile.proofs.Points.{profile_of-member}
 use Rattle.profiles.specs.OnePass.{below_all}
 use Rattle.better.specs.InTurn.{first_goes}
 use Rattle.better.specs.Heavier.{merge, merge-better}

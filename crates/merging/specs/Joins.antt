@@ -3,7 +3,7 @@ use Rattle.std.specs.Prelude.{ℕ, ◌+◌, ◌-◌, ◌≤◌, ◌<◌, ◌≡�
 use mathlib.Core.List.{List, ◌++◌, Memᴰ as In}
 use Rattle.order.specs.Job.{Point}
 use Rattle.profile.specs.Profile.{better_of}
-use Rattle.profile.specs.Rising.{Rising}
+use Rattle.profile.proofs.Rising.{Rising}
 use Rattle.codes.specs.declared.Prefix.{Prefix}
 use Rattle.codes.specs.Code.{per_second, code, lightness, past_all, at0, points_at, end_of}
 use Rattle.codes.specs.Held.{Held}

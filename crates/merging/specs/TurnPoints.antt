@@ -8,8 +8,8 @@ use mathlib.Core.List.{List, [], ◌∷◌, map, Memᴰ as In}
 use Rattle.std.specs.Int.Signed.{le_z, lt_z}
 use Rattle.seconds.specs.Signed.{signed, up, dn}
 use Rattle.order.specs.Job.{Point}
-use Rattle.profile.specs.Rising.{Rising}
-use Rattle.profile.specs.Closure.{PointWithin}
+use Rattle.profile.proofs.Rising.{Rising}
+use Rattle.profile.proofs.Closure.{PointWithin}
 use Rattle.better.specs.InTurn.{goes_first, in_turn, among, Turns, no_more, first, second, turns}
 use Rattle.better.specs.Heavier.{heavier, merge}
 use Rattle.codes.specs.declared.Prefix.{Prefix}

@@ -9,7 +9,7 @@ use lib.IntN.{ℤ}
 use Rattle.seconds.specs.Determined.{Determines, determined, two}
 use Rattle.ties.specs.Winning.{TieRule, sooner, to_first}
 use Rattle.choosing.specs.Choosing.{chosen_of, work_after, part_of, place_of}
-use Rattle.choosing.specs.ChoosingLaws.{question-choice}
+use Rattle.choosing.proofs.ChoosingLaws.{question-choice}
 use Rattle.ties.specs.declared.Chosen.{Chosen}
 use Rattle.openings.specs.Answer.{answer_of}
 use Rattle.openings.specs.AnswerLaws.{questioned-is}

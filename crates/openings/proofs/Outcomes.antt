@@ -17,9 +17,9 @@ use Rattle.packed.specs.Refusals.{order_checks}
 use Rattle.area.specs.Area.{cleared}
 use Rattle.ties.specs.Winning.{TieRule, sooner, to_first}
 use Rattle.choosing.specs.Choosing.{choosing_verdict, Asked, part_of, Handed, refusal_of, kind_won}
-use Rattle.choosing.specs.ChoosingLaws.{both-accepted, question-choice}
-use Rattle.choosing.specs.WinnerLaws.{NeitherInTime, asked-eleven, eleven-clears, BadIn, asked-six, asked-names, records-length}
-use Rattle.choosing.specs.TieLaws.{SecondSooner, AtOnce, exchanged, asked-differ, asked-fair}
+use Rattle.choosing.proofs.ChoosingLaws.{both-accepted, question-choice}
+use Rattle.choosing.proofs.WinnerLaws.{NeitherInTime, asked-eleven, eleven-clears, BadIn, asked-six, asked-names, records-length}
+use Rattle.choosing.proofs.TieLaws.{SecondSooner, AtOnce, exchanged, asked-differ, asked-fair}
 use Rattle.ties.specs.declared.Chosen.{Chosen}
 use Rattle.ties.specs.declared.Chosen.TheVariants.{First, Second}
 use Rattle.openings.specs.Answer.{Questioned}

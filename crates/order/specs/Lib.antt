@@ -5,16 +5,3 @@ pub mod Later
 pub mod Easier
 pub mod Choice
 pub mod Halves
-pub mod AsWritten
-pub mod EasierLaws
-pub mod Within
-pub mod Moves
-pub mod Runs
-pub mod Outcomes
-pub mod GivenLaws
-pub mod Counts
-pub mod Rested
-pub mod OneRate
-pub mod HalvesLaws
-pub mod Late
-pub mod LaterLaws

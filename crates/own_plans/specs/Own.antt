@@ -5,23 +5,23 @@ use Rattle.std.proofs.Common.{sym, ◌∙◌, arith}
 use Rattle.std.proofs.Math.Path.{ap}
 use Rattle.order.specs.Job.{Order}
 use Rattle.order.specs.Choice.{Choice, feasible, starts, mask}
-use Rattle.order.specs.Runs.{ran}
-use Rattle.order.specs.OneRate.{OneRate, one-rate-marks}
+use Rattle.order.proofs.Runs.{ran}
+use Rattle.order.proofs.OneRate.{OneRate, one-rate-marks}
 use Rattle.profile.specs.Profile.{start_point}
 use Rattle.plan.specs.Plan.{Answer}
-use Rattle.plan.specs.PlanIs.{plan-is, plan-heaviest}
+use Rattle.plan.proofs.PlanIs.{plan-is, plan-heaviest}
 use Rattle.packed.specs.Judge.{fine, judge}
 use Rattle.packed.specs.JudgeLaws.{stages-fine}
 use Rattle.packed.specs.Packed.{count_of, order_of}
 use Rattle.packed.specs.Refusals.{order_checks}
-use Rattle.packed.specs.Accepted.{OrderFine, order-fine}
+use Rattle.packed.proofs.Accepted.{OrderFine, order-fine}
 use Rattle.fields.specs.Places.{jobs-count, jobs-one-rate}
 use Rattle.starting.specs.Picks.{picks_of}
 use Rattle.packed_plan.specs.Plan.{plan_bytes, mask_in, kept_in, starts_in, sent_checks}
 use Rattle.legal.specs.Legal.{Legal, choice_of, kept_of, kept_starts}
-use Rattle.legal.specs.LegalLaws.{choice-kept}
-use Rattle.legal.specs.LegalIs.{legal-is}
-use Rattle.legal.specs.BestLaws.{feasible-legal, best-is}
+use Rattle.legal.proofs.LegalLaws.{choice-kept}
+use Rattle.legal.proofs.LegalIs.{legal-is}
+use Rattle.legal.proofs.BestLaws.{feasible-legal, best-is}
 use Rattle.planner.specs.PlanMask.{plan-feasible, plan-picks}
 use Rattle.checking.specs.Calls.{legal_checks, legal_in}
 use Rattle.checking.specs.Turns.{kept_by}

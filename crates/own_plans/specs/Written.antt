@@ -8,7 +8,7 @@ use denote.Triple.Entry.{Args}
 use Rattle.packed.specs.Judge.{fine, judge}
 use Rattle.packed.specs.JudgeLaws.{stages-fine}
 use Rattle.packed.specs.Refusals.{room_checks}
-use Rattle.packed.specs.RefusalLaws.{room-fine}
+use Rattle.packed.proofs.RefusalLaws.{room-fine}
 use Rattle.area.specs.Area.{area}
 use Rattle.checking.specs.Calls.{legal_checks}
 use Rattle.checking.specs.declared.Checked.{Checked}

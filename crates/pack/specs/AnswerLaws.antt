@@ -7,10 +7,10 @@ use Rattle.packed.specs.Judge.{plainly, Verdict as Judged, fine, refused, judge,
 use Rattle.packed.specs.JudgeLaws.{judge-append}
 use Rattle.packed.specs.Layout.{record_bytes}
 use Rattle.packed.specs.Packed.{kind_for, job_count, packed_header, pack_order}
-use Rattle.packed.specs.PackedLaws.{length-packed, kind-few, kind-old}
+use Rattle.packed.proofs.PackedLaws.{length-packed, kind-few, kind-old}
 use Rattle.packed.specs.Refusals.{number_checks, room_checks, pack_checks}
-use Rattle.packed.specs.RefusalLaws.{within-is, room-fine}
-use Rattle.packed.specs.Accepted.{numbers-fine}
+use Rattle.packed.proofs.RefusalLaws.{within-is, room-fine}
+use Rattle.packed.proofs.Accepted.{numbers-fine}
 use Rattle.fields.specs.Asked.{HeaderRoom}
 use Rattle.kinds.specs.Kinds.{Whole}
 use Rattle.judge.specs.Verdicts.{verdict_of}

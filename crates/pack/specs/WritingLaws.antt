@@ -13,7 +13,7 @@ use Rattle.packed.specs.Layout.{encode, bytes_of, job_layout, record_bytes}
 use Rattle.packed.specs.Places.{flat}
 use Rattle.packed.specs.PlacesLaws.{flat-zero, flat-more, length-flat, fill_on}
 use Rattle.packed.specs.Packed.{job_count, fields_at, packed_header, packed_job, pack_in}
-use Rattle.packed.specs.PackedLaws.{length-packed_header, length-packed_job, packed-is, length-packed}
+use Rattle.packed.proofs.PackedLaws.{length-packed_header, length-packed_job, packed-is, length-packed}
 use Rattle.pack.specs.Writing.{first_records}
 
 module _ (kind : ℕ) (numbers : List ℤ) (was : List ℕ) where

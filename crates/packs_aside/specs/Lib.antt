@@ -1,6 +1,3 @@
 -- R44: plans and profiles do not read a job's pack, stated and proved over the outcomes that the calls' contracts allow.
-pub mod AsWritten
 pub mod PacksAside
-pub mod SameOrder
 pub mod Unread
-pub mod UnreadLaws

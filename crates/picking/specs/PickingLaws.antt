@@ -6,9 +6,9 @@ use mathlib.Core.List.{List, [], ◌∷◌, Memᴰ}
 use Rattle.std.proofs.lemmas.Bool.{eqb-false}
 use borrow.Table.Steps.{cases}
 use Rattle.frames.specs.Frames.{Repeat, jobs_given, phase_at, period_at, sequence_of, repeat_count, repeat_at}
-use Rattle.frames.specs.SequenceLaws.{Comes, earlier, given, Sorted, leads}
+use Rattle.frames.proofs.SequenceLaws.{Comes, earlier, given, Sorted, leads}
 use Rattle.frames.specs.Facts.{GivenFine}
-use Rattle.frames.specs.RepeatsLaws.{at-place, IsRepeat, sequence-is}
+use Rattle.frames.proofs.RepeatsLaws.{at-place, IsRepeat, sequence-is}
 use Rattle.picking.specs.Picking.{IsLeast, ReadyAt, Reached}
 
 -- ---- the least of some numbers

@@ -6,16 +6,16 @@ use Rattle.std.proofs.Math.Facts.{to_z_pos}
 use Rattle.seconds.specs.Limits.{heaviest, longest_frame}
 use Rattle.seconds.specs.Signed.{signed}
 use Rattle.seconds.specs.Ranges.{same, Between}
-use Rattle.packed.specs.LayoutLaws.{bytes-old}
+use Rattle.packed.proofs.LayoutLaws.{bytes-old}
 use Rattle.packed.specs.Packed.{has_pack}
 use Rattle.packed.specs.Refusals.{fields_within}
-use Rattle.packed.specs.RefusalLaws.{within-is, weight-range}
+use Rattle.packed.proofs.RefusalLaws.{within-is, weight-range}
 use Rattle.fields.specs.Fields.{fields_of}
 use Rattle.fields.specs.Asked.{JobRoom}
 use Rattle.fields.specs.declared.Job.{Job}
 use Rattle.frames.specs.Frames.{jobs_given, period_at, Repeat, numbers_for, repeat_at, made_of}
-use Rattle.frames.specs.RepeatsLaws.{at-place}
-use Rattle.frames.specs.FrameLaws.{repeat-there, made-within}
+use Rattle.frames.proofs.RepeatsLaws.{at-place}
+use Rattle.frames.proofs.FrameLaws.{repeat-there, made-within}
 use Rattle.repeating.specs.Repeating.{numbers_in}
 use Rattle.repeating.specs.RepeatingLaws.{JobRead, job_read}
 use Rattle.repeating.specs.declared.Repeating.{Repeating}
@@ -30,7 +30,7 @@ module _ {number ready : ℕ} {j : Repeating} (can : CanMake number ready (numbe
   ready-is = to_z_pos w32 (omega (signed, can.soon))
 
   pub deadline-is : to_z w32 (of_z w32 j.deadline) ≡ j.deadline
-  deadline-is = to_z-of_z (omega (signed, can.repeats.deadline))
+  deadline-is = to_z-of_z {w = w32} {z = j.deadline} (omega (signed, can.repeats.deadline))
 
   deadline-fits : SFits w32 (to_z w32 ready +ℤ to_z w32 (of_z w32 j.deadline))
   deadline-fits = omega (signed, ready-is, deadline-is, can.soon, can.repeats.deadline)

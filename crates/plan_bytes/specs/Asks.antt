@@ -6,7 +6,7 @@ use Rattle.seconds.specs.Ranges.{InTime}
 use Rattle.seconds.specs.Twos.{bits_to, to_bits}
 use Rattle.packed.specs.Layout.{number_of, bytes_of}
 use Rattle.packed_plan.specs.Plan.{plan_bytes, pad_bits}
-use Rattle.packed_plan.specs.Writing.{place_of}
+use Rattle.packed_plan.proofs.Writing.{place_of}
 
 -- ---- one start read
 

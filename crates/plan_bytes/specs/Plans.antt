@@ -10,13 +10,13 @@ use borrow.Table.Steps.{cases}
 use Rattle.seconds.specs.Limits.{left_out}
 use Rattle.seconds.specs.Signed.{signed}
 use Rattle.seconds.specs.Twos.{to_bits}
-use Rattle.seconds.specs.TwosLaws.{time-in}
+use Rattle.seconds.proofs.TwosLaws.{time-in}
 use Rattle.packed.specs.Layout.{bytes_of, encode}
-use Rattle.packed.specs.LayoutLaws.{length-bytes_of}
+use Rattle.packed.proofs.LayoutLaws.{length-bytes_of}
 use Rattle.packed_plan.specs.Plan.{plan_bytes, pad_bits, plan_number, pack_plan, starts_kept}
-use Rattle.packed_plan.specs.PlanLaws.{Starts}
-use Rattle.packed_plan.specs.BothWays.{packed-length}
-use Rattle.packed_plan.specs.Writing.{place_of, begins, goes_on, more-fits, more-at}
+use Rattle.packed_plan.proofs.PlanLaws.{Starts}
+use Rattle.packed_plan.proofs.BothWays.{packed-length}
+use Rattle.packed_plan.proofs.Writing.{place_of, begins, goes_on, more-fits, more-at}
 use Rattle.plan_bytes.specs.Asks.{begun_at, three_with, start_put, StartRoom, KeptRoom, PlanRoom}
 
 -- ---- the mask

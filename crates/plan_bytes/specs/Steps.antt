@@ -4,7 +4,7 @@ use Rattle.std.proofs.Common.{ap, ap₂, ◌∙◌, add-one, arith}
 use Rattle.seconds.specs.Twos.{bits_to, to_bits}
 use Rattle.packed.specs.Layout.{number_of, bytes_of}
 use Rattle.packed_plan.specs.Plan.{plan_bytes, pad_bits}
-use Rattle.packed_plan.specs.Writing.{place_of}
+use Rattle.packed_plan.proofs.Writing.{place_of}
 use Rattle.plan_bytes.specs.Asks.{start_from, begun_at, three_with, start_put, StartRoom}
 
 -- The place of the three bytes, and what one more of the start counts for, of the plan that ends with it.

@@ -16,7 +16,7 @@ use Rattle.packed.specs.declared.Refusal.{Refusal}
 use Rattle.packed.specs.Judge.{in_field, fine, judge}
 use Rattle.packed.specs.Packed.{numbers_of, order_of}
 use Rattle.packed.specs.Refusals.{header_checks, order_checks}
-use Rattle.packed.specs.RefusalPlaces.{BadField, RefusalIs}
+use Rattle.packed.proofs.RefusalPlaces.{BadField, RefusalIs}
 use Rattle.plan_writer.specs.Answers.{write-refusal, write-six, NoneFeasible, write-eleven}
 use Rattle.plan_writer.specs.Answers.{plan-gets-bytes, refused-nothing, PlanWritten, plan-written}
 use Rattle.plan_writer.specs.Calls.{plan_room}

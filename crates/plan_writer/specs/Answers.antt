@@ -7,14 +7,14 @@ use Rattle.std.proofs.Math.Option.{Option, none, some, map-eq-none_iff}
 use Rattle.std.proofs.Math.Seq.{take-append_seam, drop-append_seam}
 use Rattle.order.specs.Choice.{Choice, feasible}
 use Rattle.plan.specs.Plan.{plan, Answer, answer_of, plan_answer}
-use Rattle.plan.specs.PlanIs.{plan-none}
+use Rattle.plan.proofs.PlanIs.{plan-none}
 use Rattle.packed.specs.declared.Refusal.{Refusal}
 use Rattle.packed.specs.Judge.{in_field, Verdict, fine, refused, judge}
 use Rattle.packed.specs.JudgeLaws.{stages-fine, never}
 use Rattle.packed.specs.Packed.{numbers_of, order_of}
 use Rattle.packed.specs.Refusals.{header_checks, job_checks, weight_checks, room_checks, order_checks}
-use Rattle.packed.specs.RefusalLaws.{room-fine}
-use Rattle.packed.specs.RefusalPlaces.{BadField, RefusalIs, nowhere, SixIs, six-order, answer-refusal, answer-says}
+use Rattle.packed.proofs.RefusalLaws.{room-fine}
+use Rattle.packed.proofs.RefusalPlaces.{BadField, RefusalIs, nowhere, SixIs, six-order, answer-refusal, answer-says}
 use Rattle.packed_plan.specs.Plan.{plan_bytes, starts_kept, mask_in, starts_in}
 use Rattle.area.specs.Area.{area}
 use Rattle.judge.specs.Told.{Named, named-rooms, named-order, six-rooms}

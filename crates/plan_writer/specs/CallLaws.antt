@@ -11,8 +11,8 @@ use Rattle.packed.specs.Judge.{plainly, Verdict, fine, refused, judge}
 use Rattle.packed.specs.JudgeLaws.{stages-fine}
 use Rattle.packed.specs.Packed.{count_of, order_of}
 use Rattle.packed.specs.Refusals.{order_checks, room_checks}
-use Rattle.packed.specs.RefusalLaws.{room-fine}
-use Rattle.packed.specs.Accepted.{order-fine}
+use Rattle.packed.proofs.RefusalLaws.{room-fine}
+use Rattle.packed.proofs.Accepted.{order-fine}
 use Rattle.packed_plan.specs.Plan.{plan_bytes, pack_plan, starts_kept}
 use Rattle.area.specs.Area.{area}
 use Rattle.filling.specs.After.{work_by}

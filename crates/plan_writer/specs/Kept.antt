@@ -13,10 +13,10 @@ use Rattle.seconds.specs.Ranges.{InTime}
 use Rattle.seconds.specs.Signed.{signed, add_is, max-is}
 use Rattle.order.specs.Job.{Job, start_at, allowed, bus_free, jobs_within}
 use Rattle.order.specs.Choice.{Choice, feasible, starts, mask_of, mask, number_kept}
-use Rattle.order.specs.Within.{JobWithin, jobs-within}
-use Rattle.order.specs.Moves.{pick-holds}
-use Rattle.order.specs.Counts.{mask_fits, kept-is-ones}
-use Rattle.packed_plan.specs.PlanLaws.{ones-raised}
+use Rattle.order.proofs.Within.{JobWithin, jobs-within}
+use Rattle.order.proofs.Moves.{pick-holds}
+use Rattle.order.proofs.Counts.{mask_fits, kept-is-ones}
+use Rattle.packed_plan.proofs.PlanLaws.{ones-raised}
 use Rattle.packed_plan.specs.Plan.{starts_kept}
 use Rattle.legal.specs.Legal.{kept_of, kept_starts}
 

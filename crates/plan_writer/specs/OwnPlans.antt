@@ -7,19 +7,19 @@ use Rattle.std.proofs.Math.Option.{some, map-eq-some_iff}
 use Rattle.std.specs.Int.Count.{ones}
 use Rattle.seconds.specs.Limits.{most_jobs}
 use Rattle.seconds.specs.Ranges.{InTime}
-use Rattle.seconds.specs.TwosLaws.{time-in}
+use Rattle.seconds.proofs.TwosLaws.{time-in}
 use Rattle.order.specs.Choice.{starts, mask}
-use Rattle.order.specs.Counts.{feasible-holds}
-use Rattle.order.specs.Within.{order-within as order-limits}
+use Rattle.order.proofs.Counts.{feasible-holds}
+use Rattle.order.proofs.Within.{order-within as order-limits}
 use Rattle.plan.specs.Plan.{Ended, plan, Answer, answer_of, plan_answer}
 use Rattle.packed.specs.Judge.{fine, judge}
-use Rattle.packed.specs.LayoutLaws.{AreBytes}
+use Rattle.packed.proofs.LayoutLaws.{AreBytes}
 use Rattle.packed.specs.Packed.{count_of, order_of}
 use Rattle.packed.specs.Refusals.{order_checks}
-use Rattle.packed.specs.Accepted.{order-within}
+use Rattle.packed.proofs.Accepted.{order-within}
 use Rattle.packed_plan.specs.Plan.{plan_bytes, starts_kept, mask_in, count_in, starts_in, pad_in}
-use Rattle.packed_plan.specs.PlanLaws.{Starts}
-use Rattle.packed_plan.specs.BothWays.{packed-bytes, packed-length, packed-mask, packed-count, packed-starts, packed-pad}
+use Rattle.packed_plan.proofs.PlanLaws.{Starts}
+use Rattle.packed_plan.proofs.BothWays.{packed-bytes, packed-length, packed-mask, packed-count, packed-starts, packed-pad}
 use Rattle.fields.specs.Places.{jobs-count}
 use Rattle.legal.specs.Legal.{kept_of, kept_starts}
 use Rattle.planner.specs.PlanMask.{plan-feasible}

@@ -11,7 +11,7 @@ use Rattle.plan.specs.Plan.{plan_answer}
 use Rattle.packed.specs.Judge.{in_field, Verdict, fine, judge}
 use Rattle.packed.specs.Packed.{numbers_of, order_of}
 use Rattle.packed.specs.Refusals.{header_checks}
-use Rattle.packed.specs.RefusalPlaces.{BadField, RefusalIs}
+use Rattle.packed.proofs.RefusalPlaces.{BadField, RefusalIs}
 use Rattle.planner.specs.Calls.{plan_verdict, planned_by, planned_of, plan_numbers}
 use Rattle.planner.specs.Answers.{plan-passed, plan-refusal, plan-six, NoneFeasible, plan-eleven, Fitting, plan-fits}
 use Rattle.planner.specs.declared.Figures.{Figures}

@@ -9,19 +9,19 @@ use Rattle.std.specs.Int.Count.{ones}
 use Rattle.seconds.specs.Limits.{most_jobs}
 use Rattle.order.specs.Job.{Job, weight_of}
 use Rattle.order.specs.Choice.{Choice, feasible, lost_weight, mask, number_kept}
-use Rattle.order.specs.Runs.{run_length}
+use Rattle.order.proofs.Runs.{run_length}
 use Rattle.profile.specs.Profile.{start_point, point_total}
 use Rattle.plan.specs.Plan.{Ended, plan, Answer, answer_of, plan_answer}
-use Rattle.plan.specs.PlanIs.{plan-none, plan-is}
-use Rattle.plan.specs.Figures.{answer-figures}
+use Rattle.plan.proofs.PlanIs.{plan-none, plan-is}
+use Rattle.plan.proofs.Figures.{answer-figures}
 use Rattle.packed.specs.declared.Refusal.{Refusal}
 use Rattle.packed.specs.Judge.{in_field, plainly, no_refusal, Verdict, fine, refused, judge}
 use Rattle.packed.specs.JudgeLaws.{judge-append, never, stages-fine}
 use Rattle.packed.specs.Packed.{count_of, numbers_of, order_of}
 use Rattle.packed.specs.Refusals.{header_checks, job_checks, weight_checks, room_checks, order_checks}
-use Rattle.packed.specs.RefusalLaws.{room-fine}
-use Rattle.packed.specs.Accepted.{order-fine, order-within}
-use Rattle.packed.specs.RefusalPlaces.{BadField, RefusalIs, nowhere, SixIs, six-order, answer-refusal, answer-says}
+use Rattle.packed.proofs.RefusalLaws.{room-fine}
+use Rattle.packed.proofs.Accepted.{order-fine, order-within}
+use Rattle.packed.proofs.RefusalPlaces.{BadField, RefusalIs, nowhere, SixIs, six-order, answer-refusal, answer-says}
 use Rattle.area.specs.Area.{area}
 use Rattle.judge.specs.Told.{Named, named-rooms, named-order, six-rooms}
 use Rattle.starting.specs.Picks.{jobs_kept}

@@ -7,13 +7,13 @@ use borrow.Table.Steps.{cases}
 use Rattle.seconds.specs.Limits.{most_jobs}
 use Rattle.packed.specs.declared.Refusal.{Refusal}
 use Rattle.packed.specs.Layout.{record_bytes}
-use Rattle.packed.specs.LayoutLaws.{bytes-few}
+use Rattle.packed.proofs.LayoutLaws.{bytes-few}
 use Rattle.packed.specs.Judge.{plainly, refused, judge}
 use Rattle.packed.specs.JudgeLaws.{judge-append}
 use Rattle.packed.specs.Packed.{header_word, count_of, kind_of, numbers_of}
-use Rattle.packed.specs.PackedLaws.{count-is, kind-is}
+use Rattle.packed.proofs.PackedLaws.{count-is, kind-is}
 use Rattle.packed.specs.Refusals.{header_checks, job_checks, weight_checks, order_checks}
-use Rattle.packed.specs.Steps.{header-judge}
+use Rattle.packed.proofs.Steps.{header-judge}
 use Rattle.planner.specs.Calls.{longest_order}
 
 -- The longest order is of kind 1.

@@ -7,20 +7,20 @@ use Rattle.seconds.specs.Ranges.{InFree}
 use Rattle.seconds.specs.RangesLaws.{time-free}
 use Rattle.order.specs.Job.{Job, Point, jobs_within}
 use Rattle.order.specs.Choice.{feasible, starts, mask, number_kept}
-use Rattle.order.specs.Runs.{run_length, run-in-range, ran}
+use Rattle.order.proofs.Runs.{run_length, run-in-range, ran}
 use Rattle.packed.specs.Packed.{count_of, t0_of, jobs_in}
-use Rattle.packed.specs.Accepted.{OrderFine, jobs-fit}
-use Rattle.order.specs.OneRate.{OneRate}
+use Rattle.packed.proofs.Accepted.{OrderFine, jobs-fit}
+use Rattle.order.proofs.OneRate.{OneRate}
 use Rattle.fields.specs.Places.{jobs-count, jobs-one-rate}
 use Rattle.profile.specs.Profile.{last_point, start_point}
 use Rattle.plan.specs.Plan.{Ended, plan}
-use Rattle.plan.specs.PlanIs.{plan-is}
-use Rattle.rows.specs.RowLaws.{nothing-there}
+use Rattle.plan.proofs.PlanIs.{plan-is}
+use Rattle.rows.proofs.RowLaws.{nothing-there}
 use Rattle.rows.specs.Walk.{onward}
 use Rattle.points.specs.Steps.{list_after}
-use Rattle.points.specs.PrefixLaws.{Singles}
+use Rattle.points.proofs.PrefixLaws.{Singles}
 use Rattle.points.specs.Walk.{walk_lists, walk_lists_from}
-use Rattle.points.specs.WalkLaws.{plan-by-lists}
+use Rattle.points.proofs.WalkLaws.{plan-by-lists}
 use Rattle.filling.specs.Lists.{Lists}
 use Rattle.filling.specs.ListsLaws.{jobs-single}
 use Rattle.walking.specs.declared.End.{End}

@@ -8,7 +8,7 @@ use Rattle.profile.specs.Profile.{point_total}
 use Rattle.plan.specs.Plan.{Ended, plan, plan_answer}
 use Rattle.packed.specs.Judge.{fine}
 use Rattle.packed.specs.Packed.{t0_of, order_of, jobs_in}
-use Rattle.packed.specs.Accepted.{OrderFine}
+use Rattle.packed.proofs.Accepted.{OrderFine}
 use Rattle.fields.specs.declared.Header.{Header}
 use Rattle.fields.specs.Facts.{HeaderRead}
 use Rattle.area.specs.Area.{area}

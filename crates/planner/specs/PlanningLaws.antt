@@ -10,13 +10,13 @@ use Rattle.seconds.specs.RangesLaws.{time-free}
 use Rattle.order.specs.Job.{Job, Point, weight_of}
 use Rattle.order.specs.Choice.{number_kept}
 use Rattle.profile.specs.Profile.{lookup, last_weight, start_point, extend, profile_after, points_up_to, point_total}
-use Rattle.profile.specs.Closure.{ValidProfile, valid-holds, valid-extend, valid-start, prefix-short}
+use Rattle.profile.proofs.Closure.{ValidProfile, valid-holds, valid-extend, valid-start, prefix-short}
 use Rattle.plan.specs.Plan.{Ended, plan, Answer, answer_of, plan_answer}
-use Rattle.plan.specs.PlanProfile.{plan-end-last}
-use Rattle.plan.specs.Figures.{Figures as Fitting, plan-figures}
+use Rattle.plan.proofs.PlanProfile.{plan-end-last}
+use Rattle.plan.proofs.Figures.{Figures as Fitting, plan-figures}
 use Rattle.packed.specs.Judge.{plainly}
 use Rattle.packed.specs.Packed.{count_of, t0_of, order_of, jobs_in}
-use Rattle.packed.specs.Accepted.{OrderFine, jobs-fit}
+use Rattle.packed.proofs.Accepted.{OrderFine, jobs-fit}
 use Rattle.profiles.specs.Numbers.{written_over}
 use Rattle.fields.specs.declared.Header.{Header}
 use Rattle.fields.specs.Places.{jobs-count, weight-up-to}

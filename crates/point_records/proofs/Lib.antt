@@ -1,4 +1,2 @@
--- What the walks share, and what is proved of the calls' contracts.
-pub mod Steps
-pub mod Records
+-- What is proved of the calls' contracts.
 pub mod Determined

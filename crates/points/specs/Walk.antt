@@ -5,9 +5,9 @@ use Rattle.std.specs.Prelude.{ℕ, ◌-◌, Bool, false, cond, List, [], ◌∷�
 use Rattle.std.proofs.Math.Option.{Option, none, some, map}
 use Rattle.order.specs.Job.{Job, Point, gain_of}
 use Rattle.order.specs.Choice.{Choice}
-use Rattle.order.specs.Moves.{latest_before}
+use Rattle.order.proofs.Moves.{latest_before}
 use Rattle.profile.specs.Profile.{last_point, start_point}
-use Rattle.profile.specs.Worth.{lookup_weight}
+use Rattle.profile.proofs.Worth.{lookup_weight}
 use Rattle.plan.specs.Plan.{Ended}
 use Rattle.rows.specs.Walk.{Source, onward}
 use Rattle.points.specs.Steps.{list_after}

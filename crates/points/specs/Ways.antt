@@ -4,7 +4,7 @@ use Rattle.std.specs.Prelude.{ℕ, suc, ◌+◌, ◌≡◌, List, [], ◌∷◌,
 use Rattle.std.proofs.Math.Option.{Option}
 use Rattle.order.specs.Job.{Job, Point}
 use Rattle.profile.specs.Profile.{lookup, extend, start_point, profile_after, last_weight, point_total}
-use Rattle.profile.specs.Rising.{Rising}
+use Rattle.profile.proofs.Rising.{Rising}
 use Rattle.plan.specs.Plan.{Ended, plan}
 use Rattle.rows.specs.Row.{earliest_of, start_row, row_after, reach, read_off, points_by_rows}
 use Rattle.rows.specs.ByTime.{heaviest_by}

@@ -4,7 +4,7 @@ use Rattle.std.proofs.Common.{ap, ◌∙◌}
 use Rattle.std.proofs.Math.Option.{Option, none, some, none-ne-some}
 use Rattle.order.specs.Job.{Point}
 use Rattle.profile.specs.Profile.{lookup}
-use Rattle.profile.specs.Closure.{valid-holds}
+use Rattle.profile.proofs.Closure.{valid-holds}
 use Rattle.profiles.specs.Numbers.{holds_profile}
 use Rattle.profiles.specs.Places.{points_of}
 use Rattle.profiles.specs.NumbersLaws.{held, profile-there, profile-not}

@@ -7,7 +7,7 @@ use Rattle.std.specs.Int.Signed.{le_z}
 use Rattle.seconds.specs.Signed.{signed}
 use Rattle.order.specs.Job.{Point}
 use Rattle.profile.specs.Profile.{lookup, or_else}
-use Rattle.profile.specs.Rising.{BelowAll, below_none, below_more, Rising, rising_none, rising-more}
+use Rattle.profile.proofs.Rising.{BelowAll, below_none, below_more, Rising, rising_none, rising-more}
 use Rattle.profiles.specs.Numbers.{alternating}
 use Rattle.profiles.specs.Places.{time_at}
 use Rattle.profiles.specs.NumbersLaws.{next-two}

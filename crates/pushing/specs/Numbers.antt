@@ -6,7 +6,7 @@ use Rattle.seconds.specs.Ranges.{InTime}
 use Rattle.seconds.specs.RangesLaws.{rest-small, time-free}
 use Rattle.seconds.specs.Signed.{signed, add_is, max-is, max_z}
 use Rattle.order.specs.Job.{Point}
-use Rattle.profile.specs.Closure.{PointWithin}
+use Rattle.profile.proofs.Closure.{PointWithin}
 use Rattle.points.specs.Steps.{waited, later_by}
 use Rattle.codes.specs.Code.{code_of, code, at0}
 use Rattle.codes.specs.CodeLaws.{since-is, since-few, light-is, point-back}

@@ -8,7 +8,7 @@ use mathlib.Core.List.Memᴰ
 use Rattle.seconds.specs.Ranges.{InFree}
 use Rattle.seconds.specs.RangesLaws.{time-free}
 use Rattle.order.specs.Job.{Rate as JobRate, Point}
-use Rattle.profile.specs.Closure.{PointWithin}
+use Rattle.profile.proofs.Closure.{PointWithin}
 use Rattle.points.specs.Steps.{waited, when_ready, later_by, all_later, last_of}
 use Rattle.codes.specs.declared.Prefix.{Prefix}
 use Rattle.codes.specs.Code.{code, limit_of, at0, points_at, end_of}

@@ -4,8 +4,8 @@ use mathlib.Core.List.{List, Memᴰ as In}
 use Rattle.seconds.specs.Limits.{rest, longest, most_weight, most_points}
 use Rattle.seconds.specs.Ranges.{Between, InTime}
 use Rattle.order.specs.Job.{Rate as JobRate, Point}
-use Rattle.profile.specs.Rising.{Rising}
-use Rattle.profile.specs.Closure.{PointWithin}
+use Rattle.profile.proofs.Rising.{Rising}
+use Rattle.profile.proofs.Closure.{PointWithin}
 use Rattle.points.specs.Steps.{waited, when_ready, later_by, all_later}
 use Rattle.codes.specs.declared.Prefix.{Prefix}
 use Rattle.codes.specs.Code.{per_second, code_of, point_of, past_all, at0, points_at, end_of}

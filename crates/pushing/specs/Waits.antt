@@ -7,7 +7,7 @@ use mathlib.Core.List.{List, [], ◌∷◌, ◌++◌, Memᴰ as In}
 use Rattle.std.specs.Int.Signed.{le_z}
 use Rattle.seconds.specs.Signed.{signed, max-is}
 use Rattle.order.specs.Job.{Point}
-use Rattle.order.specs.Moves.{point-path}
+use Rattle.order.proofs.Moves.{point-path}
 use Rattle.points.specs.Steps.{waited, when_ready, last_of}
 
 module _ {t : ℤ} where

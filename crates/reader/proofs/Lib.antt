@@ -1,2 +1,5 @@
 -- What is proved of the calls' contracts.
 pub mod Determined
+pub mod ReadingLaws
+pub mod AnswerSays
+pub mod Edges

@@ -1,5 +1,2 @@
 -- The reader: what it answers over bytes at a place, and the laws of that.
 pub mod Reading
-pub mod ReadingLaws
-pub mod AnswerSays
-pub mod Edges

@@ -1,3 +1,2 @@
 -- The reader that holds the caller's bytes and a place.
 pub mod Standing
-pub mod StandingLaws

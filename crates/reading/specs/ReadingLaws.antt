@@ -8,7 +8,7 @@ use Rattle.std.specs.Int.Signed.{le_z}
 use Rattle.seconds.specs.Ranges.{InFree}
 use Rattle.seconds.specs.Signed.{signed}
 use Rattle.order.specs.Job.{Point}
-use Rattle.order.specs.Moves.{point-path}
+use Rattle.order.proofs.Moves.{point-path}
 use Rattle.profile.specs.Profile.{lookup, last_point}
 use Rattle.codes.specs.Code.{code, point_of, limit_of, at0, list_at}
 use Rattle.codes.specs.CodeLaws.{code-least, point-back, limit-early, limit-late}

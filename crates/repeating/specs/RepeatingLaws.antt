@@ -15,13 +15,13 @@ use Rattle.packed.specs.Places.{part, each, first}
 use Rattle.packed.specs.PlacesLaws.{run-read, each-end, each_more, first_on, first-here}
 use Rattle.packed.specs.Judge.{plainly, at_place, fine, refused, judge}
 use Rattle.packed.specs.Refusals.{weight_test}
-use Rattle.packed.specs.RefusalLaws.{all-at, weight-range}
+use Rattle.packed.proofs.RefusalLaws.{all-at, weight-range}
 use Rattle.frames.specs.Frames.{the_weight, the_phase, the_deadline, the_period, may_repeat, jobs_given, given_at, weight_at, phase_at, period_at}
 use Rattle.frames.specs.Frames.{unfit_at, first_unfit, frame_of, times_at, given_checks}
 use Rattle.judge.specs.Gathering.{kept}
 use Rattle.frames.specs.Facts.{MayRepeat, GivenFine}
-use Rattle.frames.specs.RepeatsLaws.{of-each, at-place, total}
-use Rattle.frames.specs.FrameLaws.{count-total, weight-total}
+use Rattle.frames.proofs.RepeatsLaws.{of-each, at-place, total}
+use Rattle.frames.proofs.FrameLaws.{count-total, weight-total}
 use Rattle.repeating.specs.Repeating.{numbers_in, range_tests, in_range, in_period, Grown, whole, past}
 use Rattle.repeating.specs.Repeating.{CanWeigh, Weighs, CanCount, Counts}
 use Rattle.repeating.specs.declared.Repeating.{Repeating}

@@ -9,16 +9,16 @@ use Rattle.std.proofs.Math.ListN.{length, take, drop}
 use borrow.Author.Tests.{ltb-true, lt-ltb, le-ltb}
 use Rattle.seconds.specs.Limits.{most_jobs}
 use Rattle.plan.specs.Plan.{Answer, plan_answer}
-use Rattle.plan.specs.Figures.{answer-figures}
+use Rattle.plan.proofs.Figures.{answer-figures}
 use Rattle.packed.specs.declared.Refusal.{Refusal}
 use Rattle.packed.specs.Judge.{plainly, Verdict, fine, refused, judge}
 use Rattle.packed.specs.JudgeLaws.{judge-append, Tells, tells-append, judge-tells}
 use Rattle.packed.specs.Packed.{count_of, numbers_of, job_count, job_in, order_of}
-use Rattle.packed.specs.PackedLaws.{numbers-count, order-jobs}
+use Rattle.packed.proofs.PackedLaws.{numbers-count, order-jobs}
 use Rattle.packed.specs.PlacesLaws.{length-each}
 use Rattle.packed.specs.Refusals.{first_bad, first_repeat, header_checks, job_checks, weight_checks, order_checks}
-use Rattle.packed.specs.RefusalLaws.{header-fine}
-use Rattle.packed.specs.Accepted.{order-fine, order-within}
+use Rattle.packed.proofs.RefusalLaws.{header-fine}
+use Rattle.packed.proofs.Accepted.{order-fine, order-within}
 use Rattle.planner.specs.Calls.{plan_verdict, planned_by, starts_by, planned_of, starts_after}
 use Rattle.planner.specs.Answers.{plan-roomy}
 use Rattle.planner.specs.declared.Figures.{Figures}

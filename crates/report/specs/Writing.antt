@@ -6,7 +6,7 @@ use Rattle.plan.specs.Plan.{Answer, plan_answer}
 use Rattle.packed.specs.declared.Refusal.{Refusal}
 use Rattle.packed.specs.Places.{each}
 use Rattle.packed.specs.Packed.{count_of, job_in, order_of}
-use Rattle.packed.specs.Accepted.{OrderFine}
+use Rattle.packed.proofs.Accepted.{OrderFine}
 use Rattle.area.specs.Area.{area}
 use Rattle.planner.specs.Calls.{figures_of}
 use Rattle.planner.specs.declared.Figures.{Figures}

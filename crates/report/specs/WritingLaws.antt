@@ -14,15 +14,15 @@ use Rattle.seconds.specs.RangesLaws.{same-yes, same-no}
 use Rattle.seconds.specs.Signed.{signed, add_is, abs_is}
 use Rattle.order.specs.Job.{Job, allowed}
 use Rattle.order.specs.Choice.{start_of}
-use Rattle.order.specs.Moves.{pick-holds}
-use Rattle.order.specs.Within.{JobWithin}
+use Rattle.order.proofs.Moves.{pick-holds}
+use Rattle.order.proofs.Within.{JobWithin}
 use Rattle.packed.specs.Places.{each}
 use Rattle.packed.specs.PlacesLaws.{each_more, each-end, length-each}
 use Rattle.packed.specs.declared.Refusal.{Refusal}
 use Rattle.packed.specs.Packed.{count_of, job_fields, job_of, job_in, order_of}
-use Rattle.packed.specs.PackedLaws.{fields-of-numbers, numbers-count, order-jobs}
-use Rattle.packed.specs.RefusalLaws.{Within}
-use Rattle.packed.specs.Accepted.{OrderFine}
+use Rattle.packed.proofs.PackedLaws.{fields-of-numbers, numbers-count, order-jobs}
+use Rattle.packed.proofs.RefusalLaws.{Within}
+use Rattle.packed.proofs.Accepted.{OrderFine}
 use Rattle.fields.specs.Fields.{fields_of}
 use Rattle.fields.specs.declared.Job.{Job as Numbers}
 use Rattle.planner.specs.declared.Figures.{Figures}

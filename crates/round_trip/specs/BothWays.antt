@@ -4,7 +4,7 @@ use Rattle.std.specs.Prelude.{ℕ, ◌*◌, ◌≤◌, ◌≡◌, List, ◌++◌
 use contract.Lifetimes.{Lfts}
 use denote.Triple.Clauses.{AtExit}
 use denote.Triple.Entry.{Args}
-use Rattle.packed.specs.LayoutLaws.{AreBytes}
+use Rattle.packed.proofs.LayoutLaws.{AreBytes}
 use Rattle.packed.specs.Packed.{job_count}
 use Rattle.unpack.specs.Answer.{jobs_unpacked, t0_unpacked}
 use Rattle.unpack.specs.declared.Unpacked.{Unpacked}

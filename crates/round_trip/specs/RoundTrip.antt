@@ -5,9 +5,9 @@ use Rattle.std.proofs.Common.{sym, ap, ap₂, ◌∙◌, arith, take_at}
 use Rattle.packed.specs.Judge.{fine, judge}
 use Rattle.packed.specs.Layout.{record_bytes}
 use Rattle.packed.specs.Packed.{kind_for, count_of, t0_of, numbers_of, job_count, pack_order}
-use Rattle.packed.specs.PackedLaws.{length-numbers, numbers-count, length-packed}
+use Rattle.packed.proofs.PackedLaws.{length-numbers, numbers-count, length-packed}
 use Rattle.packed.specs.Refusals.{order_checks, number_checks}
-use Rattle.packed.specs.RoundTrip.{unpack-pack, pack-unpack, one_form}
+use Rattle.packed.proofs.RoundTrip.{unpack-pack, pack-unpack, one_form}
 use Rattle.unpack.specs.Answer.{unpack_of, numbers_after, jobs_unpacked}
 use Rattle.unpack.specs.AnswerLaws.{unpacks-order}
 use Rattle.unpack.specs.AnswerSays.{jobs-accepted}

@@ -5,7 +5,7 @@ use Rattle.std.proofs.Math.Option.{Option, none, some, map}
 use Rattle.std.specs.Int.Signed.{le_z}
 use Rattle.order.specs.Job.{Job, Point, gain_of, picks}
 use Rattle.order.specs.Choice.{Choice, bit_of}
-use Rattle.order.specs.Moves.{latest_before}
+use Rattle.order.proofs.Moves.{latest_before}
 use Rattle.profile.specs.Profile.{or_else}
 use Rattle.plan.specs.Plan.{Ended}
 use Rattle.rows.specs.Row.{Row, start_row, row_after, row_back, reach, heaviest}

@@ -7,15 +7,15 @@ use Rattle.seconds.specs.Limits.{latest_free}
 use Rattle.order.specs.Job.{Order}
 use Rattle.plan.specs.Plan.{Ended, Answer, plan_answer}
 use Rattle.profile.specs.Profile.{lookup, order_profile}
-use Rattle.profile.specs.Rising.{Rising}
-use Rattle.profile.specs.Worth.{lookup-worth, order-rises}
+use Rattle.profile.proofs.Rising.{Rising}
+use Rattle.profile.proofs.Worth.{lookup-worth, order-rises}
 use Rattle.points.specs.Ways.{Way, SameWay, by_rows, by_lists, by_rules}
-use Rattle.points.specs.WaysLaws.{lists-rules, rows-lists}
+use Rattle.points.proofs.WaysLaws.{lists-rules, rows-lists}
 use Rattle.packed.specs.Judge.{Verdict, fine, refused, judge}
 use Rattle.packed.specs.JudgeLaws.{stages-fine}
 use Rattle.packed.specs.Packed.{count_of, numbers_of, order_of, jobs_in}
 use Rattle.packed.specs.Refusals.{room_checks, order_checks, halves_checks}
-use Rattle.packed.specs.Accepted.{OrderFine, order-fine, order-within}
+use Rattle.packed.proofs.Accepted.{OrderFine, order-fine, order-within}
 use Rattle.packed_plan.specs.Plan.{kept_in}
 use Rattle.legal.specs.Legal.{weight_kept, is_best}
 use Rattle.seconds.specs.Determined.{two}
@@ -26,8 +26,8 @@ use Rattle.filling.specs.ListsLaws.{jobs-single}
 use Rattle.planner.specs.Calls.{plan_checks, plan_verdict, planned_by, starts_by, planned_of, starts_after}
 use Rattle.halves.specs.Calls.{plan_halves_checks, halves_verdict, lost_in, with_seconds, halves_of, halves_starts_after}
 use Rattle.extending.specs.Calls.{profile_given, extend_judged, extend_checks, extend_verdict, extended_by, out_by, extended_of, out_after}
-use Rattle.extending.specs.CallLaws.{given-read}
-use Rattle.extending.specs.ExtendingLaws.{Accepted, accepted, accepted-order}
+use Rattle.extending.proofs.CallLaws.{given-read}
+use Rattle.extending.proofs.ExtendingLaws.{Accepted, accepted, accepted-order}
 use Rattle.ties.specs.declared.Chosen.{Chosen}
 use Rattle.ties.specs.Winning.{TieRule, by_points}
 use Rattle.choosing.specs.Choosing.{choosing_checks, choosing_verdict, chosen_by, part_of, place_of, chosen_of}

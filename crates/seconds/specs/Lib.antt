@@ -5,5 +5,4 @@ pub mod Ranges
 pub mod Signed
 pub mod RangesLaws
 pub mod Twos
-pub mod TwosLaws
 pub mod Determined

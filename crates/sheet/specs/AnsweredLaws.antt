@@ -7,18 +7,18 @@ use Rattle.std.proofs.Math.Option.{Option, none, some, map-eq-some_iff}
 use Rattle.seconds.specs.Limits.{most_weight, most_jobs, most_points}
 use Rattle.order.specs.Job.{Order}
 use Rattle.order.specs.Choice.{Choice, number_kept}
-use Rattle.order.specs.Within.{order-within as order-limits}
-use Rattle.order.specs.Runs.{run_length}
+use Rattle.order.proofs.Within.{order-within as order-limits}
+use Rattle.order.proofs.Runs.{run_length}
 use Rattle.profile.specs.Profile.{start_point}
 use Rattle.plan.specs.Plan.{plan, Answer, answer_of, plan_answer}
-use Rattle.plan.specs.PlanIs.{plan-is}
-use Rattle.plan.specs.Figures.{answer-figures}
+use Rattle.plan.proofs.PlanIs.{plan-is}
+use Rattle.plan.proofs.Figures.{answer-figures}
 use Rattle.packed.specs.declared.Refusal.{Refusal}
 use Rattle.packed.specs.Judge.{plainly, Verdict, fine, refused, judge}
 use Rattle.packed.specs.JudgeLaws.{number-passes}
 use Rattle.packed.specs.Packed.{jobs_of, order_of}
 use Rattle.packed.specs.Refusals.{header_checks, job_checks, weight_checks, order_checks}
-use Rattle.packed.specs.Accepted.{order-fine, order-within}
+use Rattle.packed.proofs.Accepted.{order-fine, order-within}
 use Rattle.area.specs.Area.{area}
 use Rattle.planner.specs.Calls.{longest_order, figures_of, planned_by, planned_of}
 use Rattle.planner.specs.Longer.{front-enough}

@@ -5,7 +5,7 @@ use Rattle.order.specs.Job.{Job, allowed, bus_free}
 use Rattle.order.specs.Choice.{Choice, feasible, start_of, starts}
 use Rattle.packed.specs.Packed.{count_of, jobs_in}
 use Rattle.packed.specs.Refusals.{fields_within}
-use Rattle.packed.specs.Accepted.{OrderFine}
+use Rattle.packed.proofs.Accepted.{OrderFine}
 use Rattle.fields.specs.declared.Job.{Job as Numbers}
 use Rattle.fields.specs.Fields.{fields_of, as_job}
 use Rattle.starting.specs.declared.Turn.{Turn}

@@ -7,8 +7,8 @@ use Rattle.std.specs.Int.Count.{ones}
 use Rattle.std.proofs.Math.Pow.{high, low, split, field, mod-mod-pow}
 use Rattle.order.specs.Job.{Job}
 use Rattle.order.specs.Choice.{Choice, feasible, bit_of, mask_of, mask, number_kept}
-use Rattle.order.specs.Counts.{mask_fits, kept-is-ones, feasible-holds}
-use Rattle.order.specs.OneRate.{OneRate, Marks, one-rate-marks}
+use Rattle.order.proofs.Counts.{mask_fits, kept-is-ones, feasible-holds}
+use Rattle.order.proofs.OneRate.{OneRate, Marks, one-rate-marks}
 use Rattle.starting.specs.Picks.{picks_of, jobs_kept}
 
 -- No picks,

@@ -11,8 +11,8 @@ use Rattle.std.specs.Int.Signed.{le_z}
 use Rattle.seconds.specs.Limits.{rest}
 use Rattle.seconds.specs.Signed.{signed, max_z, max-is, add_is}
 use Rattle.order.specs.Job.{Point}
-use Rattle.profile.specs.Rising.{Rising, rising-more, below-member}
-use Rattle.profile.specs.Closure.{PointWithin}
+use Rattle.profile.proofs.Rising.{Rising, rising-more, below-member}
+use Rattle.profile.proofs.Closure.{PointWithin}
 use Rattle.points.specs.Steps.{waited, when_ready, later_by, all_later}
 use Rattle.codes.specs.declared.Prefix.{Prefix}
 use Rattle.codes.specs.Code.{code, at0, points_at}

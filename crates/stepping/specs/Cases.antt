@@ -11,13 +11,13 @@ use Rattle.seconds.specs.Ranges.{InTime, InFree}
 use Rattle.seconds.specs.Signed.{signed, max_z, max-is, add_is, sub_is}
 use Rattle.order.specs.Job.{Job, one_rate, Point}
 use Rattle.profile.specs.Profile.{better_of}
-use Rattle.profile.specs.Rising.{Rising, rising-front}
-use Rattle.profile.specs.Closure.{PointWithin, rising-short}
+use Rattle.profile.proofs.Rising.{Rising, rising-front}
+use Rattle.profile.proofs.Closure.{PointWithin, rising-short}
 use Rattle.profiles.specs.OnePass.{below_all}
 use Rattle.better.specs.Heavier.{merge, merge-better}
 use Rattle.points.specs.Steps.{waited, waiting, when_ready, up_to_time, later_by, all_later, pushed_by, leaving, last_of, too_late, list_step}
-use Rattle.points.specs.StepLaws.{push-rises, push-few}
-use Rattle.points.specs.Clipping.{clip-first}
+use Rattle.points.proofs.StepLaws.{push-rises, push-few}
+use Rattle.points.proofs.Clipping.{clip-first}
 use Rattle.codes.specs.declared.Prefix.{Prefix}
 use Rattle.codes.specs.Code.{code, point_of, limit_of, at0, list_at, points_at, end_of}
 use Rattle.codes.specs.CodeLaws.{point-back}

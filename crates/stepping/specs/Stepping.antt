@@ -5,7 +5,7 @@ use Rattle.std.specs.Int.Signed.{lt_z}
 use Rattle.seconds.specs.Limits.{longest, most_weight}
 use Rattle.seconds.specs.Ranges.{InTime, InFree}
 use Rattle.order.specs.Job.{Job, one_rate, Point}
-use Rattle.profile.specs.Rising.{Rising}
+use Rattle.profile.proofs.Rising.{Rising}
 use Rattle.points.specs.Steps.{pushed_by, too_late, step_by}
 use Rattle.codes.specs.declared.Prefix.{Prefix}
 use Rattle.codes.specs.Code.{point_of, limit_of, past_all, at0, points_at, end_of}

@@ -12,7 +12,7 @@ use Rattle.seconds.specs.Ranges.{InTime}
 use Rattle.seconds.specs.RangesLaws.{time-free}
 use Rattle.seconds.specs.Signed.{signed, min_z, max_z, max-is, add_is, sub_is}
 use Rattle.order.specs.Job.{Point}
-use Rattle.profile.specs.Closure.{PointWithin}
+use Rattle.profile.proofs.Closure.{PointWithin}
 use Rattle.points.specs.Steps.{waited, later_by}
 use Rattle.codes.specs.Code.{code_of, limit_of, past_all}
 use Rattle.codes.specs.CodeLaws.{since-is}

@@ -10,12 +10,12 @@ use Rattle.seconds.specs.RangesLaws.{time-free}
 use Rattle.seconds.specs.Signed.{signed, max_z, max-is, add_is, sub_is}
 use Rattle.order.specs.Job.{Job, Point}
 use Rattle.order.specs.Given.{Given, Same}
-use Rattle.order.specs.GivenLaws.{given-own, ⊑-by}
-use Rattle.order.specs.Moves.{kept-moves, moves-kept}
-use Rattle.profile.specs.Rising.{Rising}
+use Rattle.order.proofs.GivenLaws.{given-own, ⊑-by}
+use Rattle.order.proofs.Moves.{kept-moves, moves-kept}
+use Rattle.profile.proofs.Rising.{Rising}
 use Rattle.points.specs.Steps.{up_to_time, pushed_by}
-use Rattle.points.specs.Pushing.{up_to-from, up_to-has}
-use Rattle.points.specs.StepLaws.{push-from, push-gives}
+use Rattle.points.proofs.Pushing.{up_to-from, up_to-has}
+use Rattle.points.proofs.StepLaws.{push-from, push-gives}
 use Rattle.codes.specs.Code.{at0, code_of, limit_of}
 use Rattle.codes.specs.CodeLaws.{since-few}
 use Rattle.pushing.specs.declared.Rate.{Rate}

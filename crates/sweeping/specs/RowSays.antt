@@ -10,11 +10,11 @@ use Rattle.std.specs.Int.Signed.{le_z}
 use Rattle.seconds.specs.Ranges.{InFree}
 use Rattle.seconds.specs.Signed.{signed}
 use Rattle.order.specs.Job.{Point}
-use Rattle.order.specs.Moves.{point-path}
+use Rattle.order.proofs.Moves.{point-path}
 use Rattle.profile.specs.Profile.{or_else, lookup, last_point}
-use Rattle.profile.specs.Rising.{BelowAll, below_none, below_more, below-member, Rising, rising_none, rising-more}
+use Rattle.profile.proofs.Rising.{BelowAll, below_none, below_more, below-member, Rising, rising_none, rising-more}
 use Rattle.points.specs.Steps.{up_to_time}
-use Rattle.points.specs.Pushing.{up_to-rises}
+use Rattle.points.proofs.Pushing.{up_to-rises}
 use Rattle.codes.specs.Code.{at0, code_of, limit_of, lightness, list_at, point_of}
 use Rattle.codes.specs.Held.{Held, held_none, held_more, After}
 use Rattle.codes.specs.HeldLaws.{held-read, held-append, list_length}

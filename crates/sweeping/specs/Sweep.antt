@@ -6,8 +6,8 @@ use Rattle.std.specs.Int.Signed.{lt_z}
 use Rattle.seconds.specs.Limits.{most_weight}
 use Rattle.seconds.specs.Ranges.{InTime}
 use Rattle.order.specs.Job.{Point}
-use Rattle.profile.specs.Rising.{Rising}
-use Rattle.profile.specs.Closure.{PointWithin}
+use Rattle.profile.proofs.Rising.{Rising}
+use Rattle.profile.proofs.Closure.{PointWithin}
 use Rattle.points.specs.Steps.{up_to_time}
 use Rattle.codes.specs.declared.Prefix.{Prefix}
 use Rattle.codes.specs.Code.{at0, points_at, end_of, point_of}

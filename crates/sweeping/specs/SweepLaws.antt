@@ -14,12 +14,12 @@ use Rattle.seconds.specs.Ranges.{InFree}
 use Rattle.seconds.specs.Signed.{signed, min_z, max-is, sub_is}
 use Rattle.order.specs.Job.{Job, Point}
 use Rattle.profile.specs.Profile.{profile_of}
-use Rattle.profile.specs.Rising.{Rising, rising_none}
-use Rattle.profile.specs.Closure.{rising-short}
-use Rattle.profile.specs.Points.{profile_of-rises, profile_of-same, profile_of-member, profile_of-length}
+use Rattle.profile.proofs.Rising.{Rising, rising_none}
+use Rattle.profile.proofs.Closure.{rising-short}
+use Rattle.profile.proofs.Points.{profile_of-rises, profile_of-same, profile_of-member, profile_of-length}
 use Rattle.points.specs.Steps.{up_to_time, pushed_by, leaving, too_late}
-use Rattle.points.specs.Pushing.{up_to-from}
-use Rattle.points.specs.StepLaws.{push-few, step-better}
+use Rattle.points.proofs.Pushing.{up_to-from}
+use Rattle.points.proofs.StepLaws.{push-few, step-better}
 use Rattle.codes.specs.declared.Prefix.{Prefix}
 use Rattle.codes.specs.Code.{at0, points_at, end_of, lightness, limit_of, past_all}
 use Rattle.pushing.specs.declared.Rate.{Rate}

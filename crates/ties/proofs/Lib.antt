@@ -1,2 +1,4 @@
 -- What is proved of the contract of who wins.
 pub mod Determined
+pub mod AsWritten
+pub mod WinningLaws

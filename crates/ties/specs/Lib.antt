@@ -1,4 +1,2 @@
 -- Which of two openings wins: the definition, both sides of its edges, and laws.
 pub mod Winning
-pub mod AsWritten
-pub mod WinningLaws

@@ -8,7 +8,7 @@ use Rattle.std.proofs.Math.ListN.{drop}
 use Rattle.packed.specs.Places.{flat}
 use Rattle.packed.specs.PlacesLaws.{flat-zero, flat-more, length-flat, fill_on}
 use Rattle.packed.specs.Packed.{count_of, job_fields, numbers_of}
-use Rattle.packed.specs.PackedLaws.{length_fields, numbers-is, length-numbers}
+use Rattle.packed.proofs.PackedLaws.{length_fields, numbers-is, length-numbers}
 use Rattle.fields.specs.Fields.{fields_of}
 use Rattle.fields.specs.declared.Job.{Job}
 use Rattle.unpack.specs.Writing.{first_jobs}

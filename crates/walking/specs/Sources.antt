@@ -9,14 +9,14 @@ use Rattle.seconds.specs.Limits.{rest}
 use Rattle.seconds.specs.Ranges.{InFree}
 use Rattle.seconds.specs.Signed.{signed, min_z, min-is, sub_is, abs_is, one-zero}
 use Rattle.order.specs.Job.{Job, Point, Rate, one_rate, rate_of, gain_of}
-use Rattle.order.specs.Within.{JobWithin}
-use Rattle.order.specs.Moves.{latest_at, latest_before, last_start}
+use Rattle.order.proofs.Within.{JobWithin}
+use Rattle.order.proofs.Moves.{latest_at, latest_before, last_start}
 use Rattle.profile.specs.Profile.{lookup}
 use Rattle.packed.specs.Packed.{job_of, is_critical}
 use Rattle.fields.specs.declared.Job.{Job as Numbers}
 use Rattle.fields.specs.Fields.{fields_of, as_job}
 use Rattle.fields.specs.Facts.{JobFacts}
-use Rattle.rows.specs.RowLaws.{nothing-there}
+use Rattle.rows.proofs.RowLaws.{nothing-there}
 use Rattle.rows.specs.Walk.{Source}
 use Rattle.points.specs.Walk.{leaves_by, left_out, kept_by, source_in}
 use Rattle.walking.specs.declared.Trail.{Trail}

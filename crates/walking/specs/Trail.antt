@@ -8,12 +8,12 @@ use Rattle.seconds.specs.Signed.{min_z}
 use Rattle.order.specs.Job.{Job, Point, gain_of}
 use Rattle.order.specs.Choice.{Choice, bit_of, mask}
 use Rattle.profile.specs.Profile.{start_point}
-use Rattle.profile.specs.Worth.{lookup_weight}
+use Rattle.profile.proofs.Worth.{lookup_weight}
 use Rattle.rows.specs.Walk.{Source}
 use Rattle.points.specs.Walk.{is_weight, source_in, walk_lists}
 use Rattle.packed.specs.Packed.{count_of, t0_of, jobs_in}
 use Rattle.packed.specs.Refusals.{fields_within}
-use Rattle.packed.specs.Accepted.{OrderFine}
+use Rattle.packed.proofs.Accepted.{OrderFine}
 use Rattle.fields.specs.declared.Job.{Job as Numbers}
 use Rattle.fields.specs.Fields.{fields_of, as_job}
 use Rattle.codes.specs.Code.{list_at}

@@ -11,20 +11,20 @@ use Rattle.std.proofs.Math.ListN.{get_elem?}
 use Rattle.seconds.specs.Ranges.{InFree}
 use Rattle.order.specs.Job.{Job, Point, gain_of}
 use Rattle.order.specs.Choice.{Choice, bit_of, mask_of, mask}
-use Rattle.order.specs.Within.{JobWithin}
+use Rattle.order.proofs.Within.{JobWithin}
 use Rattle.profile.specs.Profile.{lookup, extend, start_point}
-use Rattle.profile.specs.Rising.{rising-one}
+use Rattle.profile.proofs.Rising.{rising-one}
 use Rattle.packed.specs.Packed.{job_fields, count_of, t0_of, jobs_in}
 use Rattle.fields.specs.declared.Job.{Job as Numbers}
 use Rattle.fields.specs.Fields.{fields_of, as_job}
 use Rattle.fields.specs.Places.{place-below, back_more, jobs-count, job-there, job-fine, job-limits}
-use Rattle.rows.specs.RowLaws.{nothing-there}
+use Rattle.rows.proofs.RowLaws.{nothing-there}
 use Rattle.rows.specs.Walk.{Source, onward, Bits, with_pick}
-use Rattle.rows.specs.WalkLaws.{bits_of, bits-more, bits-mask}
+use Rattle.rows.proofs.WalkLaws.{bits_of, bits-more, bits-mask}
 use Rattle.points.specs.Steps.{list_after}
-use Rattle.points.specs.PrefixLaws.{Singles, list-is}
+use Rattle.points.proofs.PrefixLaws.{Singles, list-is}
 use Rattle.points.specs.Walk.{source_in, fold_lists, walk_lists}
-use Rattle.points.specs.WalkLaws.{fold-lists-is}
+use Rattle.points.proofs.WalkLaws.{fold-lists-is}
 use Rattle.codes.specs.Code.{list_at}
 use Rattle.filling.specs.ListsLaws.{jobs-single, lists-stand}
 use Rattle.walking.specs.declared.Trail.{Trail}

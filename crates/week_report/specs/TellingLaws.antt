@@ -14,8 +14,8 @@ use Rattle.sheet_text.specs.SheetText.{sheet_text, sheet_room}
 use Rattle.sheet_text.specs.Writing.{CanPut}
 use Rattle.streams.specs.Entries.{entries_of, too_many}
 use Rattle.streams.specs.Stream.{front_room, State, over, edge, run}
-use Rattle.streams.specs.StreamLaws.{run-append}
-use Rattle.streams.specs.Told.{sheet-told, many-told}
+use Rattle.streams.proofs.StreamLaws.{run-append}
+use Rattle.streams.proofs.Told.{sheet-told, many-told}
 use Rattle.feeding.specs.Feeding.{Fed}
 use Rattle.feeding.specs.TakingLaws.{state-sound}
 use Rattle.feeding.specs.StateLaws.{begin-state}

@@ -10,10 +10,10 @@ use Rattle.seconds.specs.Ranges.{InTime}
 use Rattle.seconds.specs.RangesLaws.{time-fits, time-free}
 use Rattle.order.specs.Job.{Order, Point}
 use Rattle.profile.specs.Profile.{worth, lookup, last_weight, extend, start_point, order_profile}
-use Rattle.profile.specs.Closure.{valid-holds, valid-start}
-use Rattle.profile.specs.Worth.{lookup-worth, order-rises}
+use Rattle.profile.proofs.Closure.{valid-holds, valid-start}
+use Rattle.profile.proofs.Worth.{lookup-worth, order-rises}
 use Rattle.packed.specs.Packed.{order_of, jobs_in}
-use Rattle.packed.specs.Accepted.{OrderFine, order-fine}
+use Rattle.packed.proofs.Accepted.{OrderFine, order-fine}
 use Rattle.fields.specs.Facts.{HeaderRead}
 use Rattle.fields.specs.declared.Header.{Header}
 use Rattle.area.specs.Area.{area}

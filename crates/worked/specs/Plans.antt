@@ -12,7 +12,7 @@ use Rattle.packed.specs.Packed.{header_word, header_of, count_of, t0_of, kind_of
 use Rattle.packed.specs.Packed.{job_count, fields_at, packed_header, packed_job, pack_in, pack_order, first_packed, kind_for, job_of, jobs_of, order_of}
 use Rattle.packed.specs.Refusals.{fields_within, first_bad, number_at, first_repeat, header_checks, job_checks, weight_checks}
 use Rattle.packed_plan.specs.Plan.{plan_number, pack_plan, mask_in, count_in, plan_fields, starts_in, pad_in, kept_in, sent_checks}
-use Rattle.packed_plan.specs.PlanLaws.{ones-raised}
+use Rattle.packed_plan.proofs.PlanLaws.{ones-raised}
 use Rattle.legal.specs.Legal.{is_legal, is_best}
 use Rattle.pack.specs.Answer.{refusal_of, bytes_written}
 use Rattle.checking.specs.Calls.{legal_checks, legal_of, checked_numbers}

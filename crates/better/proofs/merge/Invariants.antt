@@ -22,7 +22,7 @@ use Rattle.better.specs.MergingLaws.{merging_start, merging-past, merging-room, 
 use Rattle.better.proofs.merge.Given as goal
 
 abbrev pub invariant-loop-i : goal.invariant-loop-i
-invariant-loop-i l = Merging l.p l.q l.initial.out l.i l.j l.n (to_z w32 l.last) l.out
+invariant-loop-i l = Merging l.p l.q l.initial.out l.i l.j l.n l.last l.out
 
 abbrev pub decreases-loop-i : goal.decreases-loop-i
 decreases-loop-i l = (length l.p - l.i) + (length l.q - l.j)

@@ -1,7 +1,6 @@
 -- `cells::below` meets its contract. Assumes nothing.
 use mathlib.Core.Path.{◌≡◌, ap₂, ◌∙◌}
 use native.Mathlib.Omega.{arith}
-use borrow.Author.Rules.{rules}
 use lib.IntN.{ℤ, pos, ◌-ℤ◌}
 use mir.Syntax.{w32}
 use mir.Val.{SFits, to_z, of_z}
@@ -18,7 +17,7 @@ module _ (s : Start) where
   x-is = to_z_pos w32 (omega (arith, s.requires.few))
 
   all-is : all ≡ s.args.top -ℤ pos s.args.x
-  all-is = ap₂ ◌-ℤ◌ (to_z-of_z s.fits.top) x-is
+  all-is = ap₂ ◌-ℤ◌ (to_z-of_z s.ranges.top) x-is
 
   all-fits : SFits w32 all
   all-fits =

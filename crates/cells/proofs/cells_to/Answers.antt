@@ -1,7 +1,6 @@
 -- `cells::cells_to` meets its contract. Assumes nothing.
 use Prim.Native.Nat.{ℕ, ◌-◌}
 use mathlib.Core.Path.{ap, ◌∙◌}
-use borrow.Author.Rules.{rules}
 use mir.Facts.{to_z-of_z}
 use Rattle.codes.specs.Code.{lightness}
 use Rattle.cells.proofs.cells_to.Goals as goal

@@ -1,5 +1,5 @@
 -- `cells::lower` meets its contract: between turns the cells before x are lowered, laid and counted. Assumes nothing.
-use Prim.Native.Nat.{ℕ, suc, ◌+◌, ◌-◌, ◌≤◌, ◌<◌}
+use Prim.Native.Nat.{ℕ, suc, ◌+◌, ◌<◌}
 use mathlib.Core.Path.{◌≡◌, refl, sym, ap, ap₂, ◌∙◌}
 use native.Mathlib.Omega.{arith}
 use lib.IntN.{ℤ}
@@ -8,8 +8,7 @@ use mir.Syntax.{w32}
 use mir.Val.{to_z, of_z}
 use Rattle.seconds.specs.Signed.{read_back_lem, min_z}
 use Rattle.codes.specs.Code.{at0}
-use Rattle.cells.specs.Cells.{Put}
-use Rattle.cells.specs.Laying.{before, rises_to, lowered, Laid}
+use Rattle.cells.specs.Laying.{before, rises_to, lowered}
 use Rattle.cells.specs.LayingLaws.{laid_none, laid_more, rises-more, rises-few}
 use Rattle.cells.specs.Putting.{put-none, put-more}
 use Rattle.cells.proofs.lower.Goals as goal
@@ -83,7 +82,7 @@ module _ (c : After-one_if-n) where
   more =
       let l = (turn made).loop-x in
       let f = lowered (begun made).args.row.now (begun made).args.pushed.now in
-      rises-more f l.x l.inv.2 (l.x + 1) (omega arith) (to_z w32 l.last) (cell made) l.inv.3 (cell-is made) _
+      rises-more f l.x l.invariant.2 (l.x + 1) (omega arith) (to_z w32 l.last-bits) (cell made) l.invariant.3 (cell-is made) _
       (ap (λ (k : ℕ). l.n + k) c.one_if-n.ensures)
 
 pub overflow_add-n : goal.overflow_add-n
@@ -95,7 +94,7 @@ pub overflow_add-x : goal.overflow_add-x
 overflow_add-x c = omega (arith, there (turn (made c)))
 
 pub loop-x-smaller : goal.loop-x-smaller
-loop-x-smaller c = omega (arith, (turn (made c)).loop-x-test.taken)
+loop-x-smaller c = omega (arith, (turn (made c)).loop-x-test.true)
 
 pub loop-x-preserved : goal.loop-x-preserved
 loop-x-preserved c =
@@ -107,7 +106,7 @@ loop-x-preserved c =
       laid_more i.1 (omega arith) (there t).4 (cell m) (cell-is m),
       more c,
       cell-is m ∙ ap (before (lowered (begun m).args.row.now (begun m).args.pushed.now)) (sym next),
-      omega (arith, t.loop-x-test.taken),
+      omega (arith, t.loop-x-test.true),
     )
 
 pub shape_of-row : goal.shape_of-row
@@ -120,4 +119,4 @@ pub returns : goal.returns
 returns c =
     let l = c.loop-x in
     let all : l.x ≡ c.args.end = omega (arith, c.loop-x-test.false, l.invariant.4) in
-    (rw all at l.invariant.0, (rw all at l.invariant.1, rw all at l.invariant.2))
+    record { row = rw all at l.invariant.0; laid = rw all at l.invariant.1; counted = rw all at l.invariant.2 }

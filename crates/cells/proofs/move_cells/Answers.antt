@@ -9,7 +9,7 @@ use mir.Val.{to_z, of_z}
 use mir.Facts.{to_z-of_z}
 use Rattle.seconds.specs.Signed.{read_back_lem}
 use Rattle.codes.specs.Code.{at0}
-use Rattle.cells.specs.Cells.{Put, moved_on}
+use Rattle.cells.specs.Cells.{moved_on}
 use Rattle.cells.specs.Putting.{put-none, put-more}
 use Rattle.cells.proofs.move_cells.Goals as goal
 use Rattle.cells.proofs.move_cells.Goals.{In-loop-x}

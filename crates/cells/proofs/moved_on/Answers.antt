@@ -29,16 +29,16 @@ module _ (c : After-greater) where
   less-is : to_z w32 (of_z w32 c.below.result) ≡ less
   less-is =
       read_back_lem _ c.below.type_inv ∙ c.below.ensures
-      ∙ ap (λ (z : ℤ). z -ℤ pos start.args.x) (to_z-of_z start.fits.limit)
+      ∙ ap (λ (z : ℤ). z -ℤ pos start.args.x) (to_z-of_z start.ranges.limit)
 
   most-is : to_z w32 (of_z w32 c.greater.result) ≡ max_z cell less
-  most-is = read_back_lem _ c.greater.type_inv ∙ c.greater.ensures ∙ ap₂ max_z (to_z-of_z start.fits.cell) less-is
+  most-is = read_back_lem _ c.greater.type_inv ∙ c.greater.ensures ∙ ap₂ max_z (to_z-of_z start.ranges.cell) less-is
 
   abbrev all : ℤ
   all = to_z w32 (of_z w32 c.greater.result) +ℤ to_z w32 (of_z w32 start.args.delta)
 
   all-is : all ≡ moved_on start.args.limit start.args.delta cell start.args.x
-  all-is = ap₂ ◌+ℤ◌ most-is (to_z-of_z start.fits.delta)
+  all-is = ap₂ ◌+ℤ◌ most-is (to_z-of_z start.ranges.delta)
 
   all-fits : SFits w32 all
   all-fits =

@@ -3,7 +3,6 @@ use Prim.Native.Nat.{ℕ}
 use mathlib.Core.Path.{◌≡◌, refl}
 use mathlib.Core.Bool.{Bool, true, false, cond}
 use mir.Val.{bool_byte}
-use borrow.Author.Rules.{rules}
 use Rattle.cells.proofs.one_if.Goals as goal
 
 byte-is : (b : Bool) → bool_byte b ≡ cond {A = ℕ} b 1 0

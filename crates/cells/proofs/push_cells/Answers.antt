@@ -1,7 +1,6 @@
 -- `cells::push_cells` meets its contract. Assumes nothing.
 use Prim.Native.Nat.{◌+◌, ◌-◌}
 use mathlib.Core.Path.{◌≡◌, ap, ◌∙◌}
-use borrow.Author.Rules.{rules}
 use lib.IntN.{ℤ, pos, ◌+ℤ◌}
 use mir.Syntax.{w32}
 use mir.Val.{to_z, of_z}
@@ -20,7 +19,7 @@ module _ (c : After-move_cells) where
 
   mid-is : Put (λ y. moved_on begun.args.limit begun.args.delta (at0 begun.args.row.now (y - begun.args.gain)) (y - begun.args.gain))
       begun.args.gain (begun.args.gain + begun.args.end) begun.args.pushed.now c.move_cells.new.pushed
-  mid-is = rw (to_z-of_z begun.fits.limit, to_z-of_z begun.fits.delta) at c.move_cells.ensures
+  mid-is = rw (to_z-of_z begun.ranges.limit, to_z-of_z begun.ranges.delta) at c.move_cells.ensures
 
 pub above-first-requires : goal.above-first-requires
 above-first-requires c =
@@ -38,10 +37,10 @@ module _ (c : After-above-first) where
   abbrev first : ℤ
   first = to_z w32 (of_z w32 c.above-first.result)
 
-  first-is : first ≡ at0 pushed-on.move_cells.last.1.1.1.1.1.0 (begun pushed-on).args.gain +ℤ pos (begun pushed-on).args.gain
+  first-is : first ≡ at0 pushed-on.move_cells.new.pushed (begun pushed-on).args.gain +ℤ pos (begun pushed-on).args.gain
   first-is =
       let s = begun pushed-on in
-      let z = at0 pushed-on.move_cells.last.1.1.1.1.1.0 s.args.gain in
+      let z = at0 pushed-on.move_cells.new.pushed s.args.gain in
       let r : to_z w32 (of_z w32 z) ≡ z = read_back_lem z c.above-arg-1.given in
       read_back_lem c.above-first.result c.above-first.type_inv ∙ c.above-first.ensures ∙ ap (λ (y : ℤ). y +ℤ pos s.args.gain) r
 

@@ -5,10 +5,12 @@ use native.Mathlib.Omega.{arith}
 use lib.IntN.{ℤ, pos, ◌+ℤ◌}
 use lib.ListN.{length}
 use mir.Syntax.{w32}
-use mir.Val.{to_z, of_z}
+use mir.Val.{SFits, to_z, of_z}
+use mir.Facts.{to_z-of_z}
+use borrow.Author.Rules.{rules}
 use Rattle.seconds.specs.Signed.{signed, read_back_lem}
 use Rattle.codes.specs.Code.{at0, lightness}
-use Rattle.cells.specs.Spreading.{Spreading, spread_none, number-least, end_is, can-count, can-run, spread-more, spread-all}
+use Rattle.cells.specs.Spreading.{spread_none, number-least, end_is, can-count, can-run, spread-more, spread-all}
 use Rattle.cells.proofs.put_list.Goals as goal
 use Rattle.cells.proofs.put_list.Goals.{After-above, After-cells_to-end, In-loop-i, Start}
 
@@ -27,7 +29,7 @@ offset_bounds-work-place c = omega (arith, there c)
 pub bounds-work-place : goal.bounds-work-place
 bounds-work-place c = there c
 
--- The point's number is read.
+-- The point's number.
 module _ (c : In-loop-i) where
   abbrev turn : In-loop-i
   turn = c
@@ -38,14 +40,12 @@ module _ (c : In-loop-i) where
   abbrev z : ℤ
   z = at0 begun.args.work.now (begun.args.list.place + turn.loop-i.i)
 
-  read : to_z w32 (of_z w32 z) ≡ z
-  read = read_back_lem z c.code-1.given
-
 pub cells_to-end-requires : goal.cells_to-end-requires
 cells_to-end-requires c =
-    let t = turn (goal.at.cells_to-end-requires c).In-loop-i in
-    let h = number-least (begun (goal.at.cells_to-end-requires c).In-loop-i).requires.0 t.loop-i.invariant t.loop-i-test.taken in
-    let r = read (goal.at.cells_to-end-requires c).In-loop-i in
+    let d = (goal.at.cells_to-end-requires c).In-loop-i in
+    let f : SFits w32 (z d) = search rules in
+    let h = number-least c.requires.0 c.loop-i.invariant c.loop-i-test.true in
+    let r : to_z w32 (of_z w32 (z d)) ≡ z d = to_z-of_z f in
     omega signed
 
 -- Its cells end here.
@@ -53,17 +53,22 @@ module _ (c : After-cells_to-end) where
   abbrev code_read : In-loop-i
   code_read = (goal.at.After-cells_to-end c).In-loop-i
 
+  read : to_z w32 (of_z w32 (z code_read)) ≡ z code_read
+  read =
+      let f : SFits w32 (z code_read) = search rules in
+      to_z-of_z f
+
   told : c.cells_to-end.result ≡ 512 - lightness (z code_read)
-  told = c.cells_to-end.ensures ∙ ap (λ (y : ℤ). 512 - lightness y) (read code_read)
+  told = c.cells_to-end.ensures ∙ ap (λ (y : ℤ). 512 - lightness y) read
 
 pub overflow_sub-end : goal.overflow_sub-end
-overflow_sub-end c = omega (arith, told (goal.at.overflow_sub-end c).After-cells_to-end, end_is (begun (code_read (goal.at.overflow_sub-end c).After-cells_to-end)).requires.0 (turn (code_read (goal.at.overflow_sub-end c).After-cells_to-end)).loop-i.invariant (turn (code_read (goal.at.overflow_sub-end c).After-cells_to-end)).loop-i-test.taken)
+overflow_sub-end c = omega (arith, told (goal.at.overflow_sub-end c).After-cells_to-end, end_is (begun (code_read (goal.at.overflow_sub-end c).After-cells_to-end)).requires.0 (turn (code_read (goal.at.overflow_sub-end c).After-cells_to-end)).loop-i.invariant (turn (code_read (goal.at.overflow_sub-end c).After-cells_to-end)).loop-i-test.true)
 
 pub above-requires : goal.above-requires
 above-requires c =
     let d = code_read (goal.at.above-requires c).After-cells_to-end in
     let t = turn d in
-    rw (read d) (can-count (begun d).requires.0 t.loop-i.invariant t.loop-i-test.taken _ (told (goal.at.above-requires c).After-cells_to-end))
+    rw (read (goal.at.above-requires c).After-cells_to-end) (can-count (begun d).requires.0 t.loop-i.invariant t.loop-i-test.true _ (told (goal.at.above-requires c).After-cells_to-end))
 
 module _ (c : After-above) where
   abbrev ended : After-cells_to-end
@@ -75,20 +80,20 @@ module _ (c : After-above) where
   top-is : top ≡ z (code_read ended) +ℤ pos (ended.cells_to-end.result - 1)
   top-is =
       read_back_lem c.above.result c.above.type_inv ∙ c.above.ensures
-      ∙ ap (λ (y : ℤ). y +ℤ pos (ended.cells_to-end.result - 1)) (read (code_read ended))
+      ∙ ap (λ (y : ℤ). y +ℤ pos (ended.cells_to-end.result - 1)) (read ended)
 
 pub put_run-requires : goal.put_run-requires
 put_run-requires c =
     let e = ended c in
     let d = code_read e in
     let t = turn d in
-    can-run (begun d).requires.0 t.loop-i.invariant t.loop-i-test.taken _ (told e) (top c) (top-is c)
+    can-run (begun d).requires.0 t.loop-i.invariant t.loop-i-test.true _ (told e) (top c) (top-is c)
 
 pub overflow_add-i : goal.overflow_add-i
 overflow_add-i c = omega (arith, there (turn (code_read (ended (goal.at.overflow_add-i c).After-above))))
 
 pub loop-i-smaller : goal.loop-i-smaller
-loop-i-smaller c = omega (arith, (turn (code_read (ended (goal.at.loop-i-smaller c).After-above))).loop-i-test.taken)
+loop-i-smaller c = omega (arith, (turn (code_read (ended (goal.at.loop-i-smaller c).After-above))).loop-i-test.true)
 
 pub loop-i-preserved : goal.loop-i-preserved
 loop-i-preserved c =
@@ -96,7 +101,7 @@ loop-i-preserved c =
     let e = ended (goal.at.loop-i-preserved c).After-above in
     let d = code_read e in
     let t = turn d in
-    spread-more (begun d).requires.0 t.loop-i.invariant t.loop-i-test.taken _ (told e) (top (goal.at.loop-i-preserved c).After-above) (top-is (goal.at.loop-i-preserved c).After-above) c.put_run.ensures
+    spread-more (begun d).requires.0 t.loop-i.invariant t.loop-i-test.true _ (told e) (top (goal.at.loop-i-preserved c).After-above) (top-is (goal.at.loop-i-preserved c).After-above) c.put_run.ensures
 
 pub shape_of-row : goal.shape_of-row
 shape_of-row c = c.loop-i.invariant.cells.size ∙ sym c.requires.0.size

@@ -1,13 +1,8 @@
 -- `cells::put_run` meets its contract. Assumes nothing.
-use Prim.Native.Nat.{◌-◌, ◌≤◌}
 use mathlib.Core.Path.{◌≡◌, ◌∙◌}
 use native.Mathlib.Omega.{arith}
-use lib.IntN.{pos, ◌-ℤ◌}
-use mir.Syntax.{w32}
-use mir.Val.{to_z}
 use mir.Facts.{to_z-of_z}
 use Rattle.seconds.specs.Signed.{signed, read_back_lem}
-use Rattle.cells.specs.Cells.{Put}
 use Rattle.cells.specs.Putting.{put-none, put-more}
 use Rattle.cells.proofs.put_run.Goals as goal
 

@@ -1,18 +1,11 @@
 -- `cells::put_run` meets its contract. Assumes nothing.
 use Prim.Native.Nat.{◌-◌, ◌≤◌}
-use mathlib.Core.Path.{◌≡◌, ◌∙◌}
-use native.Mathlib.Omega.{arith}
 use lib.IntN.{pos, ◌-ℤ◌}
-use mir.Syntax.{w32}
-use mir.Val.{to_z}
-use mir.Facts.{to_z-of_z}
-use Rattle.seconds.specs.Signed.{signed, read_back_lem}
 use Rattle.cells.specs.Cells.{Put}
-use Rattle.cells.specs.Putting.{put-none, put-more}
 use Rattle.cells.proofs.put_run.Given as goal
 
 abbrev pub invariant-loop-x : goal.invariant-loop-x
-invariant-loop-x l = (l.from ≤ l.x) × (l.x ≤ l.end) × Put (λ y. to_z w32 l.top -ℤ pos y) l.from l.x l.initial.row l.row
+invariant-loop-x l = (l.from ≤ l.x) × (l.x ≤ l.end) × Put (λ y. l.top -ℤ pos y) l.from l.x l.initial.row l.row
 
 abbrev pub decreases-loop-x : goal.decreases-loop-x
 decreases-loop-x l = l.end - l.x

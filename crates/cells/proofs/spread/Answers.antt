@@ -1,5 +1,4 @@
 -- `cells::spread` meets its contract. Assumes nothing.
-use borrow.Author.Rules.{rules}
 use Rattle.cells.specs.Spreading.{wiped}
 use Rattle.cells.proofs.spread.Goals as goal
 

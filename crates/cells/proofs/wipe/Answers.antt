@@ -1,9 +1,6 @@
 -- `cells::wipe` meets its contract. Assumes nothing.
-use Prim.Native.Nat.{◌-◌, ◌≤◌}
 use mathlib.Core.Path.{◌≡◌, refl}
 use native.Mathlib.Omega.{arith}
-use Rattle.codes.specs.Code.{past_all}
-use Rattle.cells.specs.Cells.{Put}
 use Rattle.cells.specs.Putting.{put-none, put-more}
 use Rattle.cells.proofs.wipe.Goals as goal
 

@@ -25,7 +25,7 @@ use Rattle.checking.proofs.all_turns.Goals.{After-job_in-job, After-take_turn-tu
 
 -- Where the code starts.
 abbrev start : At-loop-place → Start
-start c = c.before.before.before
+start c = c.before.before.before.before
 
 few : (s : Start) → s.args.n ≤ 48
 few s = omega (arith, s.requires.count, s.requires.accepted.header.few)
@@ -74,7 +74,7 @@ module _ (c : After-take_turn-turn) where
   taken =
       turn_of (as_job at.job_in-job.result) (not (eqb (at.loop-place.left / 2 ^ 63) 0))
       (start_from (entry at).args.plan.now at.loop-place.k) at.loop-place.k
-      (to_z w32 at.loop-place.free)
+      (to_z w32 at.loop-place.free-bits)
 
   turn_is : c.take_turn-turn.result ≡ taken
   turn_is = c.take_turn-turn.ensures
@@ -85,10 +85,10 @@ returns-then-not-fine c =
     let d = at (goal.at.returns-then-not-fine c).After-take_turn-turn in
     let s = entry d in
     let l = d.loop-place in
-    rw (to_z-of_z s.fits.t0) at
+    rw (to_z-of_z s.ranges.t0) at
     (judging-stops (jobs_in s.args.order.now) s.args.n (to_z w32 (of_z w32 s.args.t0)) s.args.mask s.args.plan.now
-    l.inv d.loop-place-test.taken (as_job d.job_in-job.result) (there d)
-    (sym (ap (λ (r : Turn). r.fine) (turn_is (goal.at.returns-then-not-fine c).After-take_turn-turn)) ∙ not-true t.take_turn-turn.result.fine c.if-not-fine.true))
+    l.invariant d.loop-place-test.true (as_job d.job_in-job.result) (there d)
+    (sym (ap (λ (r : Turn). r.fine) (turn_is (goal.at.returns-then-not-fine c).After-take_turn-turn)) ∙ c.if-not-fine.true))
 
 pub overflow_mul-left : goal.overflow_mul-left
 overflow_mul-left c =
@@ -106,8 +106,8 @@ loop-place-preserved c =
     let l = d.loop-place in
     let on =
     judging-on (jobs_in s.args.order.now) s.args.n (to_z w32 (of_z w32 s.args.t0)) s.args.mask s.args.plan.now
-    l.inv d.loop-place-test.taken (as_job d.job_in-job.result) (there d) (few s)
-    (sym (ap (λ (r : Turn). r.fine) (turn_is (goal.at.loop-place-preserved c).After-take_turn-turn)) ∙ not-false t.take_turn-turn.result.fine c.if-not-fine.false) in
+    l.invariant d.loop-place-test.true (as_job d.job_in-job.result) (there d) (few s)
+    (sym (ap (λ (r : Turn). r.fine) (turn_is (goal.at.loop-place-preserved c).After-take_turn-turn)) ∙ c.if-not-fine.false) in
     let same : Judging (jobs_in s.args.order.now) s.args.n (to_z w32 (of_z w32 s.args.t0)) s.args.mask
     s.args.plan.now t.take_turn-turn.result.free (l.left % 2 ^ 63 * 2) t.take_turn-turn.result.next (l.place + 1) =
     subst (λ (r : Turn). Judging (jobs_in s.args.order.now) s.args.n (to_z w32 (of_z w32 s.args.t0)) s.args.mask
@@ -117,6 +117,6 @@ loop-place-preserved c =
 pub returns : goal.returns
 returns c =
     let s = start (goal.at.returns c).At-loop-place in
-    rw (to_z-of_z s.fits.t0) at
+    rw (to_z-of_z s.ranges.t0) at
     (judging-ends (jobs_in s.args.order.now) s.args.n (to_z w32 (of_z w32 s.args.t0)) s.args.mask s.args.plan.now
     (omega arith) (omega (arith, jobs-count s.args.order.now, s.requires.count)) c.loop-place.invariant)

@@ -24,7 +24,7 @@ use Rattle.checking.proofs.all_turns.Given as goal
 
 abbrev pub invariant-loop-place : goal.invariant-loop-place
 invariant-loop-place l =
-    Judging (jobs_in l.order) l.n (to_z w32 l.t0) l.mask l.plan (to_z w32 l.free) l.left l.k l.place
+    Judging (jobs_in l.order) l.n l.t0 l.mask l.plan l.free l.left l.k l.place
 
 abbrev pub decreases-loop-place : goal.decreases-loop-place
 decreases-loop-place l = l.n - l.place

@@ -8,7 +8,7 @@ use mir.Syntax.{w32}
 use mir.Val.{SFits}
 use mir.Facts.{to_z-of_z}
 use Rattle.seconds.specs.RangesLaws.{time-fits}
-use Rattle.packed.specs.LayoutLaws.{AreBytes}
+use Rattle.packed.proofs.LayoutLaws.{AreBytes}
 use Rattle.packed_plan.specs.Plan.{mask_in}
 use Rattle.fields.specs.Facts.{HeaderRead, header_read}
 use Rattle.checking.specs.Marks.{raised-fits}

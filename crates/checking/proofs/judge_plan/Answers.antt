@@ -10,7 +10,7 @@ use lib.ListN.{length, get_or}
 use lib.Pow.{pow_pos}
 use borrow.Author.Rules.{rules}
 use borrow.Author.Tests.{eqb-true, eqb-false, not-true, not-false}
-use Rattle.packed.specs.LayoutLaws.{AreBytes}
+use Rattle.packed.proofs.LayoutLaws.{AreBytes}
 use Rattle.judge.specs.Verdicts.{verdict_of}
 use Rattle.packed_plan.specs.Plan.{plan_bytes, pad_bits, mask_in, count_in, pad_in}
 use Rattle.checking.specs.Marks.{count_small}
@@ -82,7 +82,7 @@ returns-then-mask-last_bit-ne0 c =
     let l = c.before.before in
     let m = masked (goal.at.returns-then-mask-last_bit-ne0 c).After-last_bit in
     rw c.plainly-then-mask-last_bit-ne0.ensures
-    (sym (ap verdict_of (bits-beyond (n m) (plan m) m.if-plan-lt-MASK_BYTES.left (whole (goal.at.returns-then-mask-last_bit-ne0 c).After-last_bit) (λ e. c.if-mask-last_bit-ne0.true (beyond (goal.at.returns-then-mask-last_bit-ne0 c).After-last_bit ∙ e)))))
+    (sym (ap verdict_of (bits-beyond (n m) (plan m) m.if-plan-lt-MASK_BYTES.false (whole (goal.at.returns-then-mask-last_bit-ne0 c).After-last_bit) (λ e. c.if-mask-last_bit-ne0.true (beyond (goal.at.returns-then-mask-last_bit-ne0 c).After-last_bit ∙ e)))))
 
 -- Past the third, none is beyond the jobs, and the padding is judged.
 module _ (c : After-padding_clear) where
@@ -97,7 +97,7 @@ module _ (c : After-padding_clear) where
       let m = masked judged in
       c.padding_clear.ensures
       ∙ ap (λ k. eqb (get_or (plan m) (length (plan m) - 1) 0 % 2 ^ pad_bits k) 0) (counted m)
-      ∙ ap (λ x. eqb x 0) (sym (pad-is (n m) (plan m) m.if-plan-lt-MASK_BYTES.left (whole judged) (bytes m)))
+      ∙ ap (λ x. eqb x 0) (sym (pad-is (n m) (plan m) m.if-plan-lt-MASK_BYTES.false (whole judged) (bytes m)))
 
 pub returns-then-not-padding_clear : goal.returns-then-not-padding_clear
 returns-then-not-padding_clear c =
@@ -105,13 +105,13 @@ returns-then-not-padding_clear c =
     let l = judged (goal.at.returns-then-not-padding_clear c).After-padding_clear in
     let m = masked l in
     rw c.plainly-then-not-padding_clear.ensures
-    (sym (ap verdict_of (bits-at-end (n m) (plan m) m.if-plan-lt-MASK_BYTES.left (whole l) (none (goal.at.returns-then-not-padding_clear c).After-padding_clear)
-    (eqb-false (pad_in (plan m)) 0 (sym (clear-is (goal.at.returns-then-not-padding_clear c).After-padding_clear) ∙ not-true p.padding_clear.result c.if-not-padding_clear.true)))))
+    (sym (ap verdict_of (bits-at-end (n m) (plan m) m.if-plan-lt-MASK_BYTES.false (whole l) (none (goal.at.returns-then-not-padding_clear c).After-padding_clear)
+    (eqb-false (pad_in (plan m)) 0 (sym (clear-is (goal.at.returns-then-not-padding_clear c).After-padding_clear) ∙ c.if-not-padding_clear.true)))))
 
 pub returns : goal.returns
 returns c =
     let p = c.before in
     let l = judged (goal.at.returns c).After-padding_clear in
     let m = masked l in
-    sym (ap verdict_of (all-passed (n m) (plan m) m.if-plan-lt-MASK_BYTES.left (whole l) (none (goal.at.returns c).After-padding_clear)
-    (eqb-true (pad_in (plan m)) 0 (sym (clear-is (goal.at.returns c).After-padding_clear) ∙ not-false p.padding_clear.result c.if-not-padding_clear.false))))
+    sym (ap verdict_of (all-passed (n m) (plan m) m.if-plan-lt-MASK_BYTES.false (whole l) (none (goal.at.returns c).After-padding_clear)
+    (eqb-true (pad_in (plan m)) 0 (sym (clear-is (goal.at.returns c).After-padding_clear) ∙ c.if-not-padding_clear.false))))

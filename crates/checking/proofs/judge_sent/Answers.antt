@@ -6,7 +6,7 @@ use borrow.Author.Rules.{rules}
 use Rattle.packed.specs.Judge.{fine, judge}
 use Rattle.packed.specs.Packed.{count_of}
 use Rattle.packed.specs.Refusals.{order_checks}
-use Rattle.packed.specs.Accepted.{OrderFine, order-fine}
+use Rattle.packed.proofs.Accepted.{OrderFine, order-fine}
 use Rattle.fields.specs.Facts.{header_read}
 use Rattle.judge.specs.Told.{told-fine}
 use Rattle.checking.specs.CallLaws.{stopped-by-order, judged-by-plan}
@@ -48,10 +48,9 @@ judge_plan-requires c = omega (arith, counted c, (accepted (goal.at.judge_plan-r
 
 pub returns-in-Refused : goal.returns-in-Refused
 returns-in-Refused c =
-    let r = c.refusal-1.given in
     let j : After-judge_order = (goal.at.returns-in-Refused c).After-judge_order in
     let a = j.args in
-    stopped-by-order a.order.now a.plan.now r.0.0 (sym j.judge_order.ensures ∙ r.1)
+    stopped-by-order a.order.now a.plan.now c.in-Refused.refusal (sym j.judge_order.ensures ∙ c.in-Refused.is)
 
 pub returns-in-Fine : goal.returns-in-Fine
 returns-in-Fine c =

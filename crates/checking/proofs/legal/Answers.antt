@@ -21,10 +21,9 @@ is_legal-requires c = passed c
 
 pub returns-in-Refused : goal.returns-in-Refused
 returns-in-Refused c =
-    let r = c.refusal-1.given in
     let j : After-judge_sent = (goal.at.returns-in-Refused c).After-judge_sent in
     let a = j.args in
-    legal-refused a.order.now a.plan.now r.0.0 (sym j.judge_sent.ensures ∙ r.1)
+    legal-refused a.order.now a.plan.now c.in-Refused.refusal (sym j.judge_sent.ensures ∙ c.in-Refused.is)
 
 pub returns-in-Fine : goal.returns-in-Fine
 returns-in-Fine c =

@@ -38,12 +38,12 @@ returns-then-not-kept c =
     ap (λ z. record { fine = mathlib.Core.Bool.not (lib.Dec.eqb (of_z w32 s.args.job.critical) 1); next = s.args.k; free = z })
     (to_z-of_z s.ranges.free)
     ∙ sym (turn-left s.args.job (facts s) (start_from s.args.plan.now s.args.k) s.args.free s.args.k)
-    ∙ sym (ap (goes s) (not-true s.args.kept c.if-not-kept.true))
+    ∙ sym (ap (goes s) c.if-not-kept.true)
 
 pub start_at-start-requires : goal.start_at-start-requires
 start_at-start-requires c =
     let s : Start = (goal.at.start_at-start-requires c).Start in
-    s.requires.there (not-false s.args.kept c.if-not-kept.false)
+    s.requires.there c.if-not-kept.false
 
 -- The start has been read.
 module _ (c : After-start_at-start) where
@@ -54,7 +54,7 @@ module _ (c : After-start_at-start) where
   start = start_from entry.args.plan.now entry.args.k
 
   start_is : to_z w32 (of_z w32 c.start_at-start.result) ≡ start
-  start_is = to_z-of_z (record { sfits = c.start_at-start.type_inv }) ∙ c.start_at-start.ensures
+  start_is = to_z-of_z {w = w32} {z = c.start_at-start.result} (search rules) ∙ c.start_at-start.ensures
 
   sum_is : to_z w32 (of_z w32 c.start_at-start.result) +ℤ to_z w32 (of_z w32 entry.args.job.length) ≡ start +ℤ entry.args.job.length
   sum_is = ap₂ (λ x y. x +ℤ y) start_is (to_z-of_z (fitting entry).long)
@@ -74,12 +74,12 @@ module _ (c : After-start_at-start) where
       (to_z w32 (of_z w32 entry.args.job.deadline)))
       ≡ start_legal (as_job entry.args.job) start entry.args.free
   tested =
-      (λ i. le_z (to_z-of_z entry.fits.free i) (start_is i) && le_z (to_z-of_z (fitting entry).ready i) (start_is i)
+      (λ i. le_z (to_z-of_z entry.ranges.free i) (start_is i) && le_z (to_z-of_z (fitting entry).ready i) (start_is i)
       && le_z (end_back i) (to_z-of_z (fitting entry).deadline i))
       ∙ tests-are entry.args.job (facts entry) start entry.args.free (start-in entry.args.plan.now entry.args.k)
 
   kept : entry.args.kept ≡ true
-  kept = not-false entry.args.kept c.if-not-kept.false
+  kept = c.if-not-kept.false
 
 pub overflow_add-end : goal.overflow_add-end
 overflow_add-end c = sum_fits c
@@ -96,7 +96,7 @@ returns-then-free-start c =
     let d = c.before.before in
     let e = entry (goal.at.returns-then-free-start c).After-start_at-start in
     let free : to_z w32 (of_z w32 c.rested.result) ≡ (start (goal.at.returns-then-free-start c).After-start_at-start +ℤ e.args.job.length) +ℤ pos rest =
-    to_z-of_z (record { sfits = c.rested.type_inv }) ∙ c.rested.ensures ∙ ap (λ (z : ℤ). z +ℤ pos rest) (end_back (goal.at.returns-then-free-start c).After-start_at-start) in
+    to_z-of_z {w = w32} {z = c.rested.result} (search rules) ∙ c.rested.ensures ∙ ap (λ (z : ℤ). z +ℤ pos rest) (end_back (goal.at.returns-then-free-start c).After-start_at-start) in
     ap (λ z. record { fine = true; next = e.args.k + 1; free = z }) free
     ∙ sym (turn-legal e.args.job (facts e) (start (goal.at.returns-then-free-start c).After-start_at-start) e.args.free (start-in e.args.plan.now e.args.k) e.args.k
     (sym (tested (goal.at.returns-then-free-start c).After-start_at-start) ∙ c.if-free-start.true))
@@ -106,7 +106,7 @@ pub returns : goal.returns
 returns c =
     let d = c.before in
     let e = entry (goal.at.returns c).After-start_at-start in
-    ap (λ z. record { fine = false; next = e.args.k; free = z }) (to_z-of_z e.fits.free)
+    ap (λ z. record { fine = false; next = e.args.k; free = z }) (to_z-of_z e.ranges.free)
     ∙ sym (turn-not e.args.job (facts e) (start (goal.at.returns c).After-start_at-start) e.args.free (start-in e.args.plan.now e.args.k) e.args.k
     (sym (tested (goal.at.returns c).After-start_at-start) ∙ c.if-free-start.false))
     ∙ sym (ap (goes e) (kept (goal.at.returns c).After-start_at-start))

@@ -7,7 +7,7 @@ use Rattle.packed.specs.Judge.{fine, judge}
 use Rattle.packed.specs.Refusals.{order_checks}
 use Rattle.judge.specs.Told.{told-fine}
 use Rattle.ties.specs.Winning.{rule_of}
-use Rattle.choosing.specs.ChoosingLaws.{first-refused, second-refused}
+use Rattle.choosing.proofs.ChoosingLaws.{first-refused, second-refused}
 use Rattle.choosing.proofs.ask.Goals as goal
 use Rattle.choosing.proofs.ask.Goals.{After-judge_order, After-judge_order-in-Fine, In-Fine, In-Refused, In-Refused-judge_order, Start}
 

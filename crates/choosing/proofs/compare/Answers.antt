@@ -9,7 +9,7 @@ use mir.Facts.{to_z-of_z}
 use borrow.Author.Rules.{rules}
 use Rattle.area.specs.Area.{area}
 use Rattle.ties.specs.Winning.{rule_of}
-use Rattle.choosing.specs.ChoosingLaws.{no_room, compared}
+use Rattle.choosing.proofs.ChoosingLaws.{no_room, compared}
 use Rattle.choosing.proofs.compare.Goals as goal
 use Rattle.choosing.proofs.compare.Goals.{After-clear, After-weigh_both-won, Else-work-lt-AREA, Start, Then-work-lt-AREA}
 

@@ -13,7 +13,7 @@ use Rattle.codes.specs.Cuts.{Searching, searching-start, searching-down, searchi
 use Rattle.codes.proofs.after.Given as goal
 
 abbrev pub invariant-loop-e : goal.invariant-loop-e
-invariant-loop-e l = Searching l.work l.place l.end (to_z w32 l.limit) l.e
+invariant-loop-e l = Searching l.work l.place l.end l.limit l.e
 
 abbrev pub decreases-loop-e : goal.decreases-loop-e
 decreases-loop-e l = l.e

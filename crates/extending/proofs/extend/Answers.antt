@@ -3,7 +3,7 @@
 use mathlib.Core.Path.{sym, ◌∙◌}
 use borrow.Author.Rules.{rules}
 use Rattle.judge.specs.Told.{told-fine}
-use Rattle.extending.specs.CallLaws.{seven, extend-stopped}
+use Rattle.extending.proofs.CallLaws.{seven, extend-stopped}
 use Rattle.extending.proofs.extend.Goals as goal
 use Rattle.extending.proofs.extend.Goals.{After-judge_jobs, In-Fine}
 
@@ -17,9 +17,8 @@ pub returns-in-Refused : goal.returns-in-Refused
 returns-in-Refused c =
     let j : After-judge_jobs = (goal.at.returns-in-Refused c).After-judge_jobs in
     let a = j.args in
-    let r = c.refusal-1.given in
-    extend-stopped a.profile.now a.bytes.now a.out-1.now a.work-1.now r.0.0
-    (sym j.judge_jobs.ensures ∙ r.1)
+    extend-stopped a.profile.now a.bytes.now a.out-1.now a.work-1.now c.in-Refused.refusal
+    (sym j.judge_jobs.ensures ∙ c.in-Refused.is)
 
 pub returns-in-Fine : goal.returns-in-Fine
 returns-in-Fine c = c.extend_profile.ensures

@@ -7,7 +7,7 @@ use borrow.Author.Rules.{rules}
 use Rattle.packed.specs.Packed.{count_of}
 use Rattle.fields.specs.Facts.{header_read}
 use Rattle.area.specs.Area.{area}
-use Rattle.extending.specs.ExtendingLaws.{header-there, can-begin, can-fill, can-put, extended}
+use Rattle.extending.proofs.ExtendingLaws.{header-there, can-begin, can-fill, can-put, extended}
 use Rattle.extending.proofs.extend_by_lists.Goals as goal
 use Rattle.extending.proofs.extend_by_lists.Goals.{After-fill_last-last, After-header_at-header, After-start_profile-count, Start}
 

@@ -7,7 +7,7 @@ use borrow.Author.Rules.{rules}
 use borrow.Author.Tests.{not-true, not-false}
 use Rattle.profiles.specs.Numbers.{holds_profile}
 use Rattle.filling.specs.BeginLaws.{last-light}
-use Rattle.extending.specs.CallLaws.{extend-passed, extend-not-valid, extend-too-heavy}
+use Rattle.extending.proofs.CallLaws.{extend-passed, extend-not-valid, extend-too-heavy}
 use Rattle.extending.proofs.extend_profile.Goals as goal
 use Rattle.extending.proofs.extend_profile.Goals.{After-judge_weight, After-last_weight-before, Else-not-valid, In-Fine, Start}
 
@@ -21,12 +21,12 @@ returns-then-not-valid c =
     let s : Start = (goal.at.returns-then-not-valid c).Start in
     rw c.plainly.ensures
     (extend-not-valid s.args.profile.now s.args.bytes.now s.args.out.now s.args.work.now s.requires
-    (sym t.valid.ensures ∙ not-true _ t.if-not-valid.true))
+    (sym t.valid.ensures ∙ t.if-not-valid.true))
 
 -- Past the test the profile is valid.
 is-valid : (c : Else-not-valid) → let s = start c in
     holds_profile s.args.profile.now ≡ true
-is-valid c = sym c.valid.ensures ∙ not-false _ c.if-not-valid.false
+is-valid c = sym c.valid.ensures ∙ c.if-not-valid.false
 
 pub last_weight-before-requires : goal.last_weight-before-requires
 last_weight-before-requires c = is-valid c
@@ -49,13 +49,12 @@ extend_with_room-requires c =
 pub returns-in-Refused : goal.returns-in-Refused
 returns-in-Refused c =
     let after-judge-weight : After-judge_weight = (goal.at.returns-in-Refused c).After-judge_weight in
-    let r = c.refusal-1.given in
     let w : After-last_weight-before = (goal.at.returns-in-Refused c).After-last_weight-before in
     let v = w.before in
     let s = start (goal.at.After-last_weight-before w).Else-not-valid in
     extend-too-heavy s.args.profile.now s.args.bytes.now s.args.out.now s.args.work.now s.requires
-    r.0.0 (is-valid (goal.at.After-last_weight-before w).Else-not-valid) w.last_weight-before.ensures
-    (sym after-judge-weight.judge_weight.ensures ∙ r.1)
+    c.in-Refused.refusal (is-valid (goal.at.After-last_weight-before w).Else-not-valid) w.last_weight-before.ensures
+    (sym after-judge-weight.judge_weight.ensures ∙ c.in-Refused.is)
 
 pub returns-in-Fine : goal.returns-in-Fine
 returns-in-Fine c = c.extend_with_room.ensures

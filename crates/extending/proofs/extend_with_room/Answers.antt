@@ -7,7 +7,7 @@ use lib.ListN.{length, take, drop}
 use lib.Seq.{length-take-le, drop_at}
 use borrow.Author.Rules.{rules}
 use Rattle.area.specs.Area.{area}
-use Rattle.extending.specs.CallLaws.{extend-no-room, extend-no-space, extend-done}
+use Rattle.extending.proofs.CallLaws.{extend-no-room, extend-no-space, extend-done}
 use Rattle.extending.proofs.extend_with_room.Goals as goal
 use Rattle.extending.proofs.extend_with_room.Goals.{After-extend_by_lists-points, Else-work-lt-AREA, Start}
 

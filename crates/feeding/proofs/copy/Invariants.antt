@@ -3,7 +3,7 @@ use Prim.Native.Nat.{◌-◌, ◌≤◌}
 use mathlib.Core.Path.{◌≡◌, refl, ap, ◌∙◌}
 use native.Mathlib.Omega.{arith}
 use lib.ListN.{length, take, drop}
-use Rattle.streams.specs.Kept.{kept_in, kept-length}
+use Rattle.streams.proofs.Kept.{kept_in, kept-length}
 use Rattle.feeding.specs.FeedingLaws.{copy_step}
 use Rattle.feeding.proofs.copy.Given as goal
 

@@ -7,7 +7,7 @@ use lib.ListN.{length, drop, drop_of_length-le}
 use Rattle.area.specs.Area.{area}
 use Rattle.sheet.specs.Sheet.{figure_count}
 use Rattle.streams.specs.Stream.{run}
-use Rattle.streams.specs.StreamLaws.{run-over}
+use Rattle.streams.proofs.StreamLaws.{run-over}
 use Rattle.feeding.specs.Feeding.{seen, Sound, left}
 use Rattle.feeding.specs.FeedingLaws.{left_over, left-some, less-again}
 use Rattle.feeding.proofs.feed_piece.Goals as goal

@@ -3,7 +3,7 @@ use mathlib.Core.Path.{◌≡◌, sym, ◌∙◌}
 use native.Mathlib.Omega.{arith}
 use lib.ListN.{take, drop, length-drop}
 use borrow.Author.Rules.{rules}
-use Rattle.streams.specs.Kept.{kept_in, kept_full}
+use Rattle.streams.proofs.Kept.{kept_in, kept_full}
 use Rattle.feeding.specs.FeedingLaws.{keep-least}
 use Rattle.feeding.proofs.keep.Goals as goal
 

@@ -6,7 +6,7 @@ use mir.Val.{SFits}
 use mir.Facts.{to_z-of_z}
 use borrow.Author.Rules.{rules}
 use Rattle.packed.specs.Layout.{decode, header_layout}
-use Rattle.packed.specs.LayoutLaws.{header-decode}
+use Rattle.packed.proofs.LayoutLaws.{header-decode}
 use Rattle.packed.specs.Packed.{header_of, header_word}
 use Rattle.fields.proofs.header_at.Goals as goal
 

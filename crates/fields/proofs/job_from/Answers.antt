@@ -5,6 +5,8 @@ use Prim.Native.Nat.{ℕ, ◌+◌}
 use mathlib.Core.List.{List}
 use lib.IntN.{ℤ, pos}
 use lib.ListN.{get_or}
+use mir.Syntax.{w32}
+use mir.Val.{SFits}
 use borrow.Author.Rules.{rules}
 use Rattle.fields.specs.Facts.{JobFits, fields-kept}
 use Rattle.fields.specs.Numbers.{seven-read}
@@ -13,11 +15,9 @@ use Rattle.fields.proofs.job_from.Goals as goal
 
 pub returns : goal.returns
 returns c =
-    let a = c.before.before.before.before.before.before.before in
-    let l : List ℤ = a.args.numbers.now in
-    let at : ℕ = a.args.at in
-    let job : Job =
-    record {
+    let l : List ℤ = c.args.numbers.now in
+    let at : ℕ = c.args.at in
+    let job : Job = record {
       number = get_or l at (pos 0);
       pack = get_or l (at + 1) (pos 0);
       critical = get_or l (at + 2) (pos 0);
@@ -26,14 +26,20 @@ returns c =
       length = get_or l (at + 5) (pos 0);
       deadline = get_or l (at + 6) (pos 0);
     } in
-    let fits : JobFits job =
-    record {
-      number = record { sfits = c.result-1.given };
-      pack = record { sfits = c.result-2-1.given };
-      critical = record { sfits = c.result-3-1.given };
-      weight = record { sfits = c.result-4-1.given };
-      ready = record { sfits = c.result-5-1.given };
-      long = record { sfits = c.result-6-1.given };
-      deadline = record { sfits = c.result-7-1.given };
+    let number : SFits w32 (get_or c.args.numbers.now c.args.at (pos 0)) = search rules in
+    let pack : SFits w32 (get_or c.args.numbers.now (c.args.at + 1) (pos 0)) = search rules in
+    let critical : SFits w32 (get_or c.args.numbers.now (c.args.at + 2) (pos 0)) = search rules in
+    let weight : SFits w32 (get_or c.args.numbers.now (c.args.at + 3) (pos 0)) = search rules in
+    let ready : SFits w32 (get_or c.args.numbers.now (c.args.at + 4) (pos 0)) = search rules in
+    let long : SFits w32 (get_or c.args.numbers.now (c.args.at + 5) (pos 0)) = search rules in
+    let deadline : SFits w32 (get_or c.args.numbers.now (c.args.at + 6) (pos 0)) = search rules in
+    let fits : JobFits job = record {
+      number = number;
+      pack = pack;
+      critical = critical;
+      weight = weight;
+      ready = ready;
+      long = long;
+      deadline = deadline;
     } in
-    fields-kept job fits ∙ seven-read l at a.requires
+    fields-kept job fits ∙ seven-read l at c.requires

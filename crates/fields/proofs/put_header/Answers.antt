@@ -8,9 +8,9 @@ use lib.ListN.{drop}
 use mir.Facts.{to_z-of_z}
 use borrow.Author.Rules.{rules}
 use Rattle.seconds.specs.Twos.{to_bits}
-use Rattle.seconds.specs.TwosLaws.{to_bits-below, time-in}
+use Rattle.seconds.proofs.TwosLaws.{to_bits-below, time-in}
 use Rattle.packed.specs.Layout.{bytes_of}
-use Rattle.packed.specs.LayoutLaws.{header-encode}
+use Rattle.packed.proofs.LayoutLaws.{header-encode}
 use Rattle.packed.specs.Packed.{packed_header}
 use Rattle.fields.proofs.put_header.Goals as goal
 use Rattle.fields.proofs.put_header.Goals.{After-time_bits, Start}

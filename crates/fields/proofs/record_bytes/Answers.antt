@@ -4,7 +4,7 @@ use mathlib.Core.Path.{◌∙◌, sym, ap}
 use Prim.Native.Nat.{◌+◌}
 use native.Mathlib.Omega.{arith}
 use borrow.Author.Rules.{rules}
-use Rattle.packed.specs.LayoutLaws.{record-front}
+use Rattle.packed.proofs.LayoutLaws.{record-front}
 use Rattle.fields.specs.Bits.{front-least}
 use Rattle.fields.proofs.record_bytes.Goals as goal
 

@@ -12,7 +12,7 @@ use borrow.Author.Tests.{ltb-true, ltb-false}
 use borrow.Table.Steps.{cases}
 use Rattle.seconds.specs.Signed.{signed, sub_is}
 use Rattle.seconds.specs.Twos.{bits_to}
-use Rattle.seconds.specs.TwosLaws.{low_half, high_half}
+use Rattle.seconds.proofs.TwosLaws.{low_half, high_half}
 use Rattle.fields.proofs.time_of.Goals as goal
 
 -- The bits turned, as a signed number;

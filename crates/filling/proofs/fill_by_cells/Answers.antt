@@ -122,14 +122,14 @@ loop-k-preserved c =
     let l = t.loop-k in
     let sized : length filled.cells_one-next.last.1.1.1.1.0 ≡ length l.pushed-1 = search rules in
     let wide-still : length filled.cells_one-next.last.1.1.1.1.1.0 ≡ length l.row-1 = search rules in (
-      (λ count first can sofar. one_more filled count first can (l.inv.0 count first can sofar)),
+      (λ count first can sofar. one_more filled count first can (l.invariant.0 count first can sofar)),
       omega (arith, t.loop-k-test.taken),
       filled.cells_one-next.ensures.buffer,
-      filled.cells_one-next.ensures.size ∙ l.inv.3,
-      length-set l.places (l.k + 1) filled.cells_one-next.result.place ∙ l.inv.4,
-      length-set l.counts (l.k + 1) filled.cells_one-next.result.count ∙ l.inv.5,
-      wide-still ∙ l.inv.6,
-      sized ∙ l.inv.7,
+      filled.cells_one-next.ensures.size ∙ l.invariant.3,
+      length-set l.places (l.k + 1) filled.cells_one-next.result.place ∙ l.invariant.4,
+      length-set l.counts (l.k + 1) filled.cells_one-next.result.count ∙ l.invariant.5,
+      wide-still ∙ l.invariant.6,
+      sized ∙ l.invariant.7,
     )
 
 -- ---- behind the loop

@@ -120,9 +120,9 @@ loop-k-preserved c =
       rw c.until-end.ensures end.0,
       rw c.until-end.ensures end.1,
       filled.list_one-next.ensures.buffer,
-      length-set l.places (l.k + 1) filled.list_one-next.result.place ∙ l.inv.4,
-      length-set l.counts (l.k + 1) filled.list_one-next.result.count ∙ l.inv.5,
-      sized ∙ l.inv.6,
+      length-set l.places (l.k + 1) filled.list_one-next.result.place ∙ l.invariant.4,
+      length-set l.counts (l.k + 1) filled.list_one-next.result.count ∙ l.invariant.5,
+      sized ∙ l.invariant.6,
     )
 
 -- ---- behind the loop

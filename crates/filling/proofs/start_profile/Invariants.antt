@@ -7,7 +7,7 @@ use lib.ListN.{length}
 use mir.Syntax.{w32}
 use mir.Val.{to_z, of_z}
 use Rattle.seconds.specs.Signed.{read_back_lem}
-use Rattle.profile.specs.Closure.{PointWithin}
+use Rattle.profile.proofs.Closure.{PointWithin}
 use Rattle.profiles.specs.Places.{time_at, weight_at, point, AtPoint, NextPoint}
 use Rattle.profiles.specs.PlacesLaws.{at-start, next-point}
 use Rattle.codes.specs.Code.{code_of}

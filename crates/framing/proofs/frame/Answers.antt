@@ -5,7 +5,7 @@ use borrow.Author.Rules.{rules}
 use Rattle.judge.specs.Told.{told-fine}
 use Rattle.frames.specs.Frames.{given_checks}
 use Rattle.frames.specs.Facts.{GivenFine}
-use Rattle.frames.specs.GivenLaws.{given-fine}
+use Rattle.frames.proofs.GivenLaws.{given-fine}
 use Rattle.repeating.specs.RepeatingLaws.{found-past, found-whole}
 use Rattle.framing.specs.AnswerLaws.{frames-refused, frames-long}
 use Rattle.framing.specs.declared.Framed.TheVariants.{Refused}

@@ -3,11 +3,11 @@
 use mathlib.Core.Path.{◌≡◌, refl, sym, ap, ◌∙◌}
 use borrow.Author.Rules.{rules}
 use Rattle.packed.specs.Packed.{numbers_of, job_count}
-use Rattle.packed.specs.PackedLaws.{numbers-count}
-use Rattle.packed.specs.Accepted.{order-fine}
+use Rattle.packed.proofs.PackedLaws.{numbers-count}
+use Rattle.packed.proofs.Accepted.{order-fine}
 use Rattle.fields.specs.Facts.{header_read}
 use Rattle.judge.specs.declared.Verdict.TheVariants.{Refused}
-use Rattle.halves.specs.CallLaws.{offending-told, none_told}
+use Rattle.halves.proofs.CallLaws.{offending-told, none_told}
 use Rattle.halves.proofs.judge_halves.Goals as goal
 use Rattle.halves.proofs.judge_halves.Goals.{After-header_at-header}
 

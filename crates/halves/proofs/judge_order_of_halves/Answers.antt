@@ -27,11 +27,10 @@ judge_halves-requires c = passed c
 
 pub returns-in-Refused : goal.returns-in-Refused
 returns-in-Refused c =
-    let r = c.refusal-1.given in
     let j : After-judge_order = (goal.at.returns-in-Refused c).After-judge_order in
     let bytes = j.args.bytes.now in
-    sym (told-refused (order_checks bytes) (halves_checks (numbers_of bytes)) r.0.0
-    (sym j.judge_order.ensures ∙ r.1))
+    sym (told-refused (order_checks bytes) (halves_checks (numbers_of bytes)) c.in-Refused.refusal
+    (sym j.judge_order.ensures ∙ c.in-Refused.is))
 
 pub returns-in-Fine : goal.returns-in-Fine
 returns-in-Fine c =

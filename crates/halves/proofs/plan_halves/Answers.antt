@@ -9,7 +9,7 @@ use Rattle.packed.specs.JudgeLaws.{stages-fine}
 use Rattle.packed.specs.Packed.{numbers_of}
 use Rattle.packed.specs.Refusals.{order_checks, halves_checks}
 use Rattle.judge.specs.Told.{told-fine}
-use Rattle.halves.specs.CallLaws.{halves-stopped, plan-light, halves-done}
+use Rattle.halves.proofs.CallLaws.{halves-stopped, plan-light, halves-done}
 use Rattle.halves.proofs.plan_halves.Goals as goal
 use Rattle.halves.proofs.plan_halves.Goals.{After-judge_order_of_halves, After-plan_order, In-Fine, Start}
 
@@ -36,11 +36,10 @@ add_seconds-requires c =
 
 pub returns-in-Refused : goal.returns-in-Refused
 returns-in-Refused c =
-    let r = c.refusal-1.given in
     let j : After-judge_order_of_halves = (goal.at.returns-in-Refused c).After-judge_order_of_halves in
     let a = j.args in
-    halves-stopped a.bytes.now a.starts-1.now a.work-1.now r.0.0
-    (sym j.judge_order_of_halves.ensures ∙ r.1)
+    halves-stopped a.bytes.now a.starts-1.now a.work-1.now c.in-Refused.refusal
+    (sym j.judge_order_of_halves.ensures ∙ c.in-Refused.is)
 
 pub returns-in-Fine : goal.returns-in-Fine
 returns-in-Fine c =

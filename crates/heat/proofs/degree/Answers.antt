@@ -8,7 +8,7 @@ use mir.Val.{SFits, to_z}
 use mir.Facts.{to_z_pos, to_z-of_z}
 use borrow.Author.Rules.{rules}
 use Rattle.seconds.specs.Signed.{signed, sub_is}
-use Rattle.seconds.specs.TwosLaws.{byte_low, byte_high}
+use Rattle.seconds.proofs.TwosLaws.{byte_low, byte_high}
 use Rattle.heat.proofs.degree.Goals as goal
 use Rattle.heat.proofs.degree.Goals.{Start, Then-raw-gt127}
 

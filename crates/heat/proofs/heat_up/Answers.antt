@@ -16,7 +16,7 @@ use Rattle.heat.proofs.heat_up.Goals.{After-degree-cell}
 
 -- The degree, as code reads it back from its bits.
 cell-fits : (c : After-degree-cell) → SFits w32 c.degree-cell.result
-cell-fits c = record { sfits = c.degree-cell.type_inv }
+cell-fits c = search rules
 
 cell : (c : After-degree-cell) → to_z w32 (of_z w32 c.degree-cell.result) ≡ degree_of c.args.byte
 cell c = to_z-of_z (cell-fits c) ∙ c.degree-cell.ensures

@@ -3,7 +3,7 @@
 use mathlib.Core.Path.{sym, ◌∙◌}
 use Prim.Native.Nat.{◌-◌}
 use Rattle.packed.specs.Packed.{numbers_of}
-use Rattle.packed.specs.RefusalLaws.{header-fine}
+use Rattle.packed.proofs.RefusalLaws.{header-fine}
 use Rattle.fields.specs.Facts.{header_read}
 use Rattle.judge.specs.Gathering.{Passing, Turn, can-take-in, passing-on, passing-less, passing-ends}
 use Rattle.judge.specs.Gathering.{there-starts, there-room, there-turn}

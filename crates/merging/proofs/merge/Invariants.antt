@@ -19,8 +19,8 @@ use Rattle.merging.proofs.merge.Given as goal
 abbrev pub invariant-loop-left : goal.invariant-loop-left
 invariant-loop-left l =
     Merging (kept_of l.lightest (turns_at l.initial.left l.initial.work l.initial.i l.pushed l.initial.j)) l.at l.lightest l.pushed l.initial.work l.work l.i l.j l.n l.best l.left
-    × (to_z w32 l.a ≡ at0 l.initial.work l.i)
-    × (to_z w32 l.b ≡ at0 l.pushed l.j)
+    × (l.a ≡ at0 l.initial.work l.i)
+    × (l.b ≡ at0 l.pushed l.j)
 
 abbrev pub decreases-loop-left : goal.decreases-loop-left
 decreases-loop-left l = l.left

@@ -11,7 +11,7 @@ use borrow.Author.Rules.{part_to_end}
 use Rattle.ties.specs.Winning.{rule_of}
 use Rattle.choosing.specs.Choosing.{Asked, winner_of}
 use Rattle.ties.specs.declared.Chosen.{Chosen}
-use Rattle.choosing.specs.ChoosingLaws.{headers-there, handed}
+use Rattle.choosing.proofs.ChoosingLaws.{headers-there, handed}
 use Rattle.openings.proofs.hand.Goals as goal
 use Rattle.openings.proofs.hand.Goals.{After-ask, Start}
 
@@ -23,7 +23,7 @@ start c = (goal.at.After-ask c).Start
 asked : (c : After-ask) → let s = start c in
     Asked (rule_of s.args.tie) s.args.first.now s.args.second.now s.args.t s.args.work.now
     c.ask.result c.ask.new.work
-asked c = let s = start c in rw (to_z-of_z s.fits.t) at c.ask.ensures
+asked c = let s = start c in rw (to_z-of_z s.ranges.t) at c.ask.ensures
 
 -- Where there is a winner both openings have a header.
 headers : (c : After-ask) {won : Chosen} → c.ask.result ≡ won → 0 < winner_of won

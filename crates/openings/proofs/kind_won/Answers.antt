@@ -6,8 +6,8 @@ use native.Mathlib.Omega.{arith}
 use lib.Dec.{lit<}
 use borrow.Author.Rules.{rules}
 use Rattle.packed.specs.Packed.{kind_of}
-use Rattle.packed.specs.Accepted.{order-fine}
-use Rattle.packed.specs.RefusalLaws.{HeaderFine}
+use Rattle.packed.proofs.Accepted.{order-fine}
+use Rattle.packed.proofs.RefusalLaws.{HeaderFine}
 use Rattle.choosing.specs.Choosing.{winner_of, kind_won}
 use Rattle.ties.specs.declared.Chosen.{Chosen}
 use Rattle.openings.proofs.kind_won.Goals as goal

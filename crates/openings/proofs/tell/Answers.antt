@@ -4,7 +4,7 @@ use mir.Facts.{to_z-of_z}
 use borrow.Author.Rules.{rules}
 use Rattle.ties.specs.Winning.{rule_of}
 use Rattle.choosing.specs.Choosing.{Asked}
-use Rattle.choosing.specs.ChoosingLaws.{both-accepted}
+use Rattle.choosing.proofs.ChoosingLaws.{both-accepted}
 use Rattle.openings.specs.AnswerLaws.{questioned-is}
 use Rattle.openings.proofs.tell.Goals as goal
 use Rattle.openings.proofs.tell.Goals.{After-ask-chosen, Start}

@@ -16,5 +16,5 @@ returns-in-Refused c = sym (ap unpack_numbers c.in-Refused.is)
 pub returns-in-Jobs : goal.returns-in-Jobs
 returns-in-Jobs c =
     let given = c.unpacked-in-Jobs-1.given in
-    let fits : SFits w32 given.0.1.0 = record { sfits = c.known_told-in-Jobs-1.given.1.0.1 } in
+    let fits : SFits w32 given.0.1.0 = search rules in
     ap (λ (t0 : ℤ). unpack_numbers (Jobs given.0.0 t0)) (to_z-of_z fits) ∙ sym (ap unpack_numbers given.1)

@@ -5,10 +5,5 @@ use Rattle.seconds.specs.Signed.{signed}
 use Rattle.picking.specs.PuttingLaws.{ready-is, deadline-is, job-made}
 use Rattle.picking.proofs.job_of.Goals as goal
 
-pub overflow_add-result : goal.overflow_add-result
-overflow_add-result c =
-    let can = c.requires in
-    omega (signed, ready-is can, deadline-is can, can.soon, can.repeats.deadline)
-
 pub returns : goal.returns
 returns c = job-made c.requires

@@ -12,9 +12,6 @@ use Rattle.picking.specs.PickingLaws.{none_done}
 use Rattle.picking.proofs.set_first.Goals as goal
 use Rattle.picking.proofs.set_first.Goals.{After-repeating_at-job, At-loop-p}
 
-pub loop-p-init : goal.loop-p-init
-loop-p-init c = (omega arith, refl, λ i h. absurd (omega arith))
-
 -- The job that was read is the one given at its place.
 read : (c : After-repeating_at-job)
     → JobRead c.args.numbers.now c.loop-p.p c.repeating_at-job.result
@@ -32,12 +29,6 @@ room : (l : At-loop-p) → length l.args.numbers.now / 6 ≤ length l.loop-p.nex
 unfolding jobs_given
 room l = omega (arith, l.requires.room, l.loop-p.invariant.1)
 
-pub offset_bounds-next-p : goal.offset_bounds-next-p
-offset_bounds-next-p c = omega (arith, c.well-formed)
-
-pub bounds-next-p : goal.bounds-next-p
-bounds-next-p c = omega (arith, room (goal.at.bounds-next-p c).At-loop-p)
-
 pub loop-p-preserved : goal.loop-p-preserved
 loop-p-preserved c =
     let l : At-loop-p = (goal.at.loop-p-preserved c).At-loop-p in
@@ -49,9 +40,6 @@ loop-p-preserved c =
       length-set l.loop-p.next p phase ∙ l.loop-p.invariant.1,
       noted-on (λ i n. n ≡ phase_at zs i) l.loop-p.next p phase (omega (arith, room l)) counted l.loop-p.invariant.2,
     )
-
-pub shape_of-next : goal.shape_of-next
-shape_of-next c = c.loop-p.invariant.1
 
 pub returns : goal.returns
 unfolding jobs_given

@@ -11,15 +11,10 @@ use Rattle.packed.specs.Packed.{fields_at}
 use Rattle.pack.specs.Writing.{first_records}
 use Rattle.pack.specs.WritingLaws.{none_written, written-length, one_more}
 use Rattle.frames.specs.Frames.{numbers_for, repeat_at, frame_numbers}
-use Rattle.frames.specs.FrameLaws.{frame_at}
+use Rattle.frames.proofs.FrameLaws.{frame_at}
 use Rattle.picking.specs.Picking.{Reached}
 use Rattle.picking.proofs.write_repeats.Goals as goal
 use Rattle.picking.proofs.write_repeats.Goals.{After-put_next, At-loop-k}
-
-pub set_first-requires : goal.set_first-requires
-set_first-requires c =
-    let m = c.requires.making in
-    record { given = m.given; room = omega (arith, m.given.few) }
 
 pub loop-k-init : goal.loop-k-init
 loop-k-init c =
@@ -39,20 +34,6 @@ kept l =
     let room : 4 + 8 * l.loop-k.k ≤ length a.args.order.now = omega (arith, a.requires.room, a.requires.all) in
     ap length l.loop-k.invariant.1 ∙ written-length 0 (frame_numbers a.args.numbers.now) a.args.order.now l.loop-k.k room
 
-pub slice_bounds-put_next-end : goal.slice_bounds-put_next-end
-slice_bounds-put_next-end c = sym c.loop-k.invariant.3
-
-pub put_next-requires : goal.put_next-requires
-put_next-requires c =
-    let l : At-loop-k = (goal.at.put_next-requires c).At-loop-k in
-    let a = l.before.before.before.before.before in
-    record {
-      making = a.requires.making;
-      more = omega (arith, a.requires.all);
-      reached = l.loop-k.invariant.2;
-      room = omega (arith, a.requires.room, kept l);
-    }
-
 pub loop-k-preserved : goal.loop-k-preserved
 unfolding record_bytes
 loop-k-preserved c =
@@ -71,12 +52,3 @@ loop-k-preserved c =
       put.put_next.auto.1.1.0 ∙ l.loop-k.invariant.3,
     )
 
-pub shape_of-order : goal.shape_of-order
-shape_of-order c = kept (goal.at.shape_of-order c).At-loop-k
-
-pub returns : goal.returns
-returns c =
-    let l : At-loop-k = (goal.at.returns c).At-loop-k in
-    let a = l.args in
-    let all : l.loop-k.k ≡ a.count = omega arith in
-    l.loop-k.invariant.1 ∙ ap (λ (k : ℕ). first_records 0 (frame_numbers a.numbers.now) k a.order-1.now) all

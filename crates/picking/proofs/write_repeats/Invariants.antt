@@ -11,7 +11,7 @@ use Rattle.packed.specs.Packed.{fields_at}
 use Rattle.pack.specs.Writing.{first_records}
 use Rattle.pack.specs.WritingLaws.{none_written, written-length, one_more}
 use Rattle.frames.specs.Frames.{numbers_for, repeat_at, frame_numbers}
-use Rattle.frames.specs.FrameLaws.{frame_at}
+use Rattle.frames.proofs.FrameLaws.{frame_at}
 use Rattle.picking.specs.Picking.{Reached}
 use Rattle.picking.proofs.write_repeats.Given as goal
 

@@ -30,5 +30,5 @@ pub returns-in-Made : goal.returns-in-Made
 returns-in-Made c =
     let given = c.planned-in-Made-1.given in
     let f : Figures = given.0.0 in
-    let fits : SFits w32 f.finish = record { sfits = c.struct_told-1.given.1.1.1.1.0.1 } in
+    let fits : SFits w32 f.finish = search rules in
     ap (λ (t : ℤ). plan_figures (Made (ended f t))) (to_z-of_z fits) ∙ sym (ap plan_figures given.1)

@@ -4,7 +4,9 @@ use Prim.Native.Nat.{◌-◌}
 use mathlib.Core.Path.{◌≡◌, ap, ◌∙◌}
 use mathlib.Core.List.{◌++◌}
 use native.Mathlib.Omega.{arith}
-use lib.ListN.{length, drop}
+use lib.ListN.{length, drop, get_or}
+use lib.IntN.{pos}
+use mir.Syntax.{w32}
 use mir.Facts.{to_z-of_z}
 use borrow.Author.Rules.{rules}
 use Rattle.packed_plan.specs.Plan.{plan_bytes, pack_plan, starts_kept}
@@ -37,8 +39,8 @@ put_kept-kept-requires c =
     let l : At-loop-place = (goal.at.put_kept-kept-requires c).At-loop-place in
     let w : After-put_word = (goal.at.At-loop-place l).After-put_word in
     let s = entry w in
-    rw (to_z-of_z (record { sfits = c.start-1.given }))
-    (kept-room w.put_word.new.bytes s.args.mask s.args.starts.now (room w) l.loop-place.bytes l.loop-place.auto l.loop-place.place
+    rw (to_z-of_z {w = w32} {z = get_or c.args.starts.now c.loop-place.place (pos 0)} (search rules))
+    (kept-room w.put_word.new.bytes s.args.mask s.args.starts.now (room w) l.loop-place.bytes l.loop-place.kept l.loop-place.place
     l.loop-place.invariant c.loop-place-test.true)
 
 pub loop-place-preserved : goal.loop-place-preserved
@@ -48,10 +50,10 @@ loop-place-preserved c =
     let l : At-loop-place = (goal.at.After-put_kept-kept k).At-loop-place in
     let w : After-put_word = (goal.at.At-loop-place l).After-put_word in
     let s = entry w in
-    writing-on w.put_word.new.bytes s.args.mask s.args.starts.now (room w) l.loop-place.bytes l.loop-place.auto l.loop-place.place
+    writing-on w.put_word.new.bytes s.args.mask s.args.starts.now (room w) l.loop-place.bytes l.loop-place.kept l.loop-place.place
     l.loop-place.invariant turn.loop-place-test.true k.put_kept-kept.new.bytes k.put_kept-kept.result
-    (rw (to_z-of_z (record { sfits = k.start-1.given })) at k.put_kept-kept.ensures.counts)
-    (rw (to_z-of_z (record { sfits = k.start-1.given })) at k.put_kept-kept.ensures.writes)
+    (rw (to_z-of_z {w = w32} {z = get_or c.args.starts.now c.loop-place.place (pos 0)} (search rules)) at k.put_kept-kept.ensures.counts)
+    (rw (to_z-of_z {w = w32} {z = get_or c.args.starts.now c.loop-place.place (pos 0)} (search rules)) at k.put_kept-kept.ensures.writes)
 
 pub plan_bytes-requires : goal.plan_bytes-requires
 plan_bytes-requires c =
@@ -66,27 +68,30 @@ shape_of-bytes c =
     let s = entry w in
     omega (
       arith,
-      writing-long w.put_word.new.bytes s.args.mask s.args.starts.now (room w) l.loop-place.bytes l.loop-place.auto
+      writing-long w.put_word.new.bytes s.args.mask s.args.starts.now (room w) l.loop-place.bytes l.loop-place.kept
           l.loop-place.place l.loop-place.invariant,
     )
 
 -- All are written.
 all : (c : After-loop-place) → let w : After-put_word = (goal.at.After-loop-place c).After-put_word in let s = entry w in
     let kept = starts_kept s.args.starts.now in
-    (c.loop-place.auto ≡ length kept)
+    (c.loop-place.kept ≡ length kept)
     × (c.loop-place.bytes ≡ pack_plan s.args.mask kept ++ drop (plan_bytes (length kept)) w.put_word.new.bytes)
 all c =
     let l = c.before in
     let w : After-put_word = (goal.at.After-loop-place c).After-put_word in
     let s = entry w in
-    writing-all w.put_word.new.bytes s.args.mask s.args.starts.now (room w) l.loop-place.bytes l.loop-place.auto l.loop-place.place
+    writing-all w.put_word.new.bytes s.args.mask s.args.starts.now (room w) l.loop-place.bytes l.loop-place.kept l.loop-place.place
     l.loop-place.invariant c.loop-place-test.false
 
 pub returns : goal.returns
 returns c =
-    let l = c.before.before in
-    let w = l.before.before.before in
-    let s = w.before.before.before in
-    let kept = starts_kept s.args.starts.now in (record { counts = c.plan_bytes.ensures ∙ ap plan_bytes (all (goal.at.returns c).After-loop-place).0; writes = (all (goal.at.returns c).After-loop-place).1
+    let l = (goal.at.returns c).After-loop-place in
+    let w = (goal.at.returns c).After-put_word in
+    let s = entry w in
+    let kept = starts_kept s.args.starts.now in (record {
+      counts = c.plan_bytes.ensures ∙ ap plan_bytes (all (goal.at.returns c).After-loop-place).0;
+      writes = (all (goal.at.returns c).After-loop-place).1
           ∙ ap (λ b. pack_plan s.args.mask kept ++ b)
-          (mask-behind s.args.bytes.now w.put_word.new.bytes s.args.mask w.put_word.ensures (length kept)) })
+          (mask-behind s.args.bytes.now w.put_word.new.bytes s.args.mask w.put_word.ensures (length kept));
+    })

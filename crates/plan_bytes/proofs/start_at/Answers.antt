@@ -23,7 +23,7 @@ returns c =
     let w = u.before in
     let p = w.before in
     let a = p.args in
-    let fits : SFits w32 c.time_of.result = record { sfits = c.time_of.type_inv } in
+    let fits : SFits w32 c.time_of.result = search rules in
     to_z-of_z fits ∙ c.time_of.ensures
     ∙ read_is a.plan.now a.k p.plan_bytes-end.result w.word_at-word.result u.unit.result p.plan_bytes-end.ensures
     w.word_at-word.ensures.is u.unit.ensures

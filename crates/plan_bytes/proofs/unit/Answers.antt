@@ -3,7 +3,7 @@
 use mathlib.Core.Path.{◌≡◌, sym, ap}
 use Prim.Native.Nat.{◌%◌, ◌^◌}
 use native.Mathlib.Omega.{arith}
-use Rattle.packed_plan.specs.Writing.{pad-0, pad-1, pad-2, pad-3}
+use Rattle.packed_plan.proofs.Writing.{pad-0, pad-1, pad-2, pad-3}
 use Rattle.plan_bytes.proofs.unit.Goals as goal
 use Rattle.plan_bytes.proofs.unit.Goals.{Start}
 

@@ -21,9 +21,8 @@ pub returns-in-Refused : goal.returns-in-Refused
 returns-in-Refused c =
     let p : After-plan_order = (goal.at.returns-in-Refused c).After-plan_order in
     let s = start p in
-    let r = c.refusal-1.given in
     write-handed-on s.args.order.now s.args.out.now s.args.work.now s.args.starts.now s.requires
-    p.plan_order.ensures r.0.0 r.1
+    p.plan_order.ensures c.in-Refused.refusal c.in-Refused.is
 
 pub returns-in-Made : goal.returns-in-Made
 returns-in-Made c =

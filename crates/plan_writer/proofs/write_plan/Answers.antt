@@ -19,5 +19,4 @@ pub returns-in-Refused : goal.returns-in-Refused
 returns-in-Refused c =
     let j : After-judge_order = (goal.at.returns-in-Refused c).After-judge_order in
     let a = j.args in
-    let r = c.refusal-1.given in
-    write-stopped a.order.now a.out-1.now a.work-1.now r.0.0 (sym j.judge_order.ensures ∙ r.1)
+    write-stopped a.order.now a.out-1.now a.work-1.now c.in-Refused.refusal (sym j.judge_order.ensures ∙ c.in-Refused.is)

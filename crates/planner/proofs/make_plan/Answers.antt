@@ -45,7 +45,7 @@ pub returns : goal.returns
 returns c =
     let told : After-kept_of = (goal.at.returns c).After-kept_of in
     let s = entry told in
-    let finish : SFits w32 s.args.end.finish = record { sfits = c.struct_told-2-1.given.1.0.1 } in
+    let finish : SFits w32 s.args.end.finish = search rules in
     rw (to_z-of_z finish)
     (plan-made s.requires told.kept_of.result _ told.kept_of.ensures
     (rw (t0-back s) at (written told).write_starts.ensures))

@@ -109,7 +109,7 @@ module _ (c : In-At) where
   end = record { weight = c.in-At.weight; finish = c.in-At.finish }
 
   finish-back : to_z w32 (of_z w32 end.finish) ≡ end.finish
-  finish-back = to_z-of_z (record { sfits = c.known_told-1.given.1.0.1 })
+  finish-back = to_z-of_z {w = w32} {z = end.finish} (search rules)
 
   is-end : At end.weight-1 end.finish ≡ found (lookup (last lists) latest_free)
   is-end = sym c.in-At.is ∙ searched ended

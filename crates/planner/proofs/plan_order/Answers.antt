@@ -7,7 +7,7 @@ use native.Mathlib.Omega.{arith}
 use lib.ListN.{length, take, drop}
 use lib.Seq.{length-take-le, drop_at}
 use borrow.Author.Rules.{rules}
-use Rattle.packed.specs.Accepted.{order-fine}
+use Rattle.packed.proofs.Accepted.{order-fine}
 use Rattle.fields.specs.Facts.{HeaderRead, header_read}
 use Rattle.area.specs.Area.{area}
 use Rattle.planner.specs.CallLaws.{plan-no-room, plan-no-space, plan-done}

@@ -17,7 +17,7 @@ use Rattle.profiles.specs.ByTimeLaws.{count-on, count-stops, count-ends}
 use Rattle.profiles.proofs.count_by.Given as goal
 
 abbrev pub invariant-loop-i : goal.invariant-loop-i
-invariant-loop-i l = (l.i ≤ length l.numbers) × (count_by (to_z w32 l.t) l.numbers ≡ l.i + count_by (to_z w32 l.t) (drop l.i l.numbers))
+invariant-loop-i l = (l.i ≤ length l.numbers) × (count_by l.t l.numbers ≡ l.i + count_by l.t (drop l.i l.numbers))
 
 abbrev pub decreases-loop-i : goal.decreases-loop-i
 decreases-loop-i l = length l.numbers - l.i

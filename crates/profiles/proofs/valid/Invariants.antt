@@ -22,7 +22,7 @@ use Rattle.profiles.proofs.valid.Given as goal
 
 abbrev pub invariant-loop-i : goal.invariant-loop-i
 invariant-loop-i l =
-    (l.i ≤ l.n) × (l.i % 2 ≡ 0) × (holds_profile l.numbers ≡ passes (to_z w32 l.time) (to_z w32 l.weight) (drop l.i l.numbers))
+    (l.i ≤ l.n) × (l.i % 2 ≡ 0) × (holds_profile l.numbers ≡ passes l.time l.weight (drop l.i l.numbers))
 
 abbrev pub decreases-loop-i : goal.decreases-loop-i
 decreases-loop-i l = l.n - l.i

@@ -22,7 +22,7 @@ use Rattle.pushing.proofs.push.Given as goal
 
 abbrev pub invariant-loop-i : goal.invariant-loop-i
 invariant-loop-i l =
-    Pushing l.work l.place l.initial.i (to_z w32 l.limit) (to_z w32 l.delta) l.initial.pushed l.pushed l.i l.p
+    Pushing l.work l.place l.initial.i l.limit l.delta l.initial.pushed l.pushed l.i l.p
 
 abbrev pub decreases-loop-i : goal.decreases-loop-i
 decreases-loop-i l = l.i

@@ -41,7 +41,7 @@ is-asked c =
 
 pub limit_by-limit-requires : goal.limit_by-limit-requires
 limit_by-limit-requires c =
-    let f : SFits w32 c.lesser.result = record { sfits = c.lesser.type_inv } in
+    let f : SFits w32 c.lesser.result = search rules in
     let free : InFree (asked c.args.by) = asked-free (late (goal.at.limit_by-limit-requires c).Else-by-lt-EARLIEST) in
     omega (signed, is-asked c)
 
@@ -59,8 +59,8 @@ module _ (c : After-after-end) where
   searched : Searched (limit_of (asked s.args.by))
   searched =
       let l = c.before in
-      let f : SFits w32 l.lesser.result = record { sfits = l.lesser.type_inv } in
-      let g : SFits w32 l.limit_by-limit.result = record { sfits = l.limit_by-limit.type_inv } in
+      let f : SFits w32 l.lesser.result = search rules in
+      let g : SFits w32 l.limit_by-limit.result = search rules in
       let limit : l.limit_by-limit.result ≡ limit_of (asked s.args.by) =
       l.limit_by-limit.ensures ∙ ap limit_of (to_z-of_z f ∙ is-asked (goal.at.After-after-end c).After-lesser) in
       let is : Searched (to_z w32 (of_z w32 l.limit_by-limit.result)) = c.after-end.ensures in
@@ -79,9 +79,6 @@ module _ (c : Else-end-place) where
   abbrev number : ℤ
   number = at0 (s a).args.work.now (a.after-end.result - 1)
 
-  fits : SFits w32 number
-  fits = record { sfits = c.code-1.given }
-
   more : (s a).args.place < a.after-end.result
   more = omega (arith, (searched a).low)
 
@@ -89,18 +86,18 @@ module _ (c : Else-end-place) where
   there = found_number (s a).requires (late (not-early a)) (searched a) more
 
 pub weight_in-requires : goal.weight_in-requires
-weight_in-requires c = let f = fits (goal.at.weight_in-requires c).Else-end-place in omega (signed, there (goal.at.weight_in-requires c).Else-end-place)
+weight_in-requires c = let f : SFits w32 (at0 c.args.work.now (c.after-end.result - 1)) = search rules in omega (signed, there (goal.at.weight_in-requires c).Else-end-place)
 
 pub time_in-requires : goal.time_in-requires
-time_in-requires c = let f = fits (goal.at.time_in-requires c).Else-end-place in omega (signed, there (goal.at.time_in-requires c).Else-end-place)
+time_in-requires c = let f : SFits w32 (at0 c.args.work.now (c.after-end.result - 1)) = search rules in omega (signed, there (goal.at.time_in-requires c).Else-end-place)
 
 pub returns : goal.returns
 returns c =
-    let r = c.before.before in
     let p = point_of (number (goal.at.returns c).Else-end-place) in
-    let t : SFits w32 c.time_in.result = record { sfits = c.time_in.type_inv } in
+    let t : SFits w32 c.time_in.result = search rules in
+    let n : SFits w32 (at0 c.args.work.now (c.after-end.result - 1)) = search rules in
     let weight : c.weight_in.result ≡ p.weight =
-    c.weight_in.ensures ∙ ap (λ (z : ℤ). (point_of z).weight) (to_z-of_z (fits (goal.at.returns c).Else-end-place)) in
+    c.weight_in.ensures ∙ ap (λ (z : ℤ). (point_of z).weight) (to_z-of_z n) in
     let time : to_z w32 (of_z w32 c.time_in.result) ≡ p.time =
-    to_z-of_z t ∙ c.time_in.ensures ∙ ap (λ (z : ℤ). (point_of z).time) (to_z-of_z (fits (goal.at.returns c).Else-end-place)) in
+    to_z-of_z t ∙ c.time_in.ensures ∙ ap (λ (z : ℤ). (point_of z).time) (to_z-of_z n) in
     ap₂ At weight time ∙ sym (ap found (last_found (s (a (goal.at.returns c).Else-end-place)).requires (late (not-early (a (goal.at.returns c).Else-end-place))) (searched (a (goal.at.returns c).Else-end-place)) (more (goal.at.returns c).Else-end-place)))

@@ -1,4 +1,5 @@
 -- `reading::write_list` meets its contract: the first k points are written. Assumes nothing.
+use borrow.Author.Rules.{rules}
 use Prim.Native.Nat.{◌+◌, ◌-◌, ◌*◌}
 use mathlib.Core.Path.{◌≡◌, ap, ◌∙◌}
 use native.Mathlib.Omega.{arith}
@@ -26,17 +27,14 @@ module _ (c : In-loop-k) where
   abbrev number : ℤ
   number = at0 s.args.work.now (s.args.place + c.loop-k.k)
 
-  fits : SFits w32 number
-  fits = record { sfits = c.code-1.given }
-
   there : pos 0 ≤ℤ number
   there = number-there s.args.count s.requires.held c.loop-k.k (omega arith)
 
 pub time_in-requires : goal.time_in-requires
-time_in-requires c = let f = fits (goal.at.time_in-requires c).In-loop-k in omega (signed, there (goal.at.time_in-requires c).In-loop-k)
+time_in-requires c = let f : SFits w32 (at0 c.args.work.now (c.args.place + c.loop-k.k)) = search rules in omega (signed, there (goal.at.time_in-requires c).In-loop-k)
 
 pub weight_in-requires : goal.weight_in-requires
-weight_in-requires c = let f = fits (goal.at.weight_in-requires c).In-loop-k in omega (signed, there (goal.at.weight_in-requires c).In-loop-k)
+weight_in-requires c = let f : SFits w32 (at0 c.args.work.now (c.args.place + c.loop-k.k)) = search rules in omega (signed, there (goal.at.weight_in-requires c).In-loop-k)
 
 pub overflow_cast-weight_in : goal.overflow_cast-weight_in
 overflow_cast-weight_in c = omega (signed, c.weight_in.ensures)
@@ -49,19 +47,17 @@ put_point-requires c =
 -- The turn writes the time and the weight of that point.
 pub loop-k-preserved : goal.loop-k-preserved
 loop-k-preserved c =
-    let w = c.before.before in
-    let t = w.before in
-    let r = t.before.before in
-    let l = r.loop-k in
+    let l = c.loop-k in
     let p = point_of (number (goal.at.loop-k-preserved c).In-loop-k) in
-    let f : SFits w32 t.time_in.result = record { sfits = t.time_in.type_inv } in
-    let x = to_z w32 (of_z w32 t.time_in.result) in
-    let y = to_z w32 w.weight_in.result in
-    let time : x ≡ p.time = to_z-of_z f ∙ t.time_in.ensures ∙ ap (λ (z : ℤ). (point_of z).time) (to_z-of_z (fits (goal.at.loop-k-preserved c).In-loop-k)) in
-    let heavy : w.weight_in.result ≡ p.weight =
-    w.weight_in.ensures ∙ ap (λ (z : ℤ). (point_of z).weight) (to_z-of_z (fits (goal.at.loop-k-preserved c).In-loop-k)) in
+    let f : SFits w32 c.time_in.result = search rules in
+    let n : SFits w32 (at0 c.args.work.now (c.args.place + c.loop-k.k)) = search rules in
+    let x = to_z w32 (of_z w32 c.time_in.result) in
+    let y = to_z w32 c.weight_in.result in
+    let time : x ≡ p.time = to_z-of_z f ∙ c.time_in.ensures ∙ ap (λ (z : ℤ). (point_of z).time) (to_z-of_z n) in
+    let heavy : c.weight_in.result ≡ p.weight =
+    c.weight_in.ensures ∙ ap (λ (z : ℤ). (point_of z).weight) (to_z-of_z n) in
     let weight : y ≡ pos p.weight = to_z_pos w32 (omega signed) ∙ ap pos heavy in
-    let put : c.put_point.new.out ≡ set (set l.out-1 (2 * l.k) x) (2 * l.k + 1) y = c.put_point.ensures in
+    let put : c.put_point.new.out ≡ set (set l.out (2 * l.k) x) (2 * l.k + 1) y = c.put_point.ensures in
     rw put (listing-more l.invariant (omega arith) (s (goal.at.loop-k-preserved c).In-loop-k).requires.places x y time weight)
 
 pub shape_of-out : goal.shape_of-out

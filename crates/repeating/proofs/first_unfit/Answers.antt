@@ -2,10 +2,7 @@
 -- Assumes nothing.
 use mathlib.Core.Path.{◌≡◌, refl, sym, ◌∙◌}
 use mathlib.Core.Bool.{true, false}
-use Prim.Native.Nat.{◌-◌, ◌≤◌}
 use native.Mathlib.Omega.{arith}
-use borrow.Author.Rules.{rules}
-use borrow.Author.Tests.{not-true, not-false}
 use Rattle.packed.specs.Places.{first}
 use Rattle.packed.specs.PlacesLaws.{first-end}
 use Rattle.frames.specs.Frames.{may_repeat, unfit_at}
@@ -23,7 +20,7 @@ returns-then-not-may_repeat c =
     let read : After-repeating_at-job = (goal.at.After-may_repeat m).After-repeating_at-job in
     let l : At-loop-place = (goal.at.After-repeating_at-job read).At-loop-place in
     let j = read.repeating_at-job.result in
-    let unfit : may_repeat (numbers_in j) ≡ false = sym m.may_repeat.ensures ∙ not-true m.may_repeat.result c.if-not-may_repeat.true in
+    let unfit : may_repeat (numbers_in j) ≡ false = sym m.may_repeat.ensures ∙ c.if-not-may_repeat.true in
     sym (l.loop-place.invariant.1
     ∙ unfit-here l.args.numbers.now l.loop-place.place l.args.count j read.loop-place-test.true
     read.repeating_at-job.ensures unfit)
@@ -34,7 +31,7 @@ loop-place-preserved c =
     let read : After-repeating_at-job = (goal.at.After-may_repeat m).After-repeating_at-job in
     let l : At-loop-place = (goal.at.After-repeating_at-job read).At-loop-place in
     let j = read.repeating_at-job.result in
-    let fit : may_repeat (numbers_in j) ≡ true = sym m.may_repeat.ensures ∙ not-false m.may_repeat.result c.if-not-may_repeat.false in (
+    let fit : may_repeat (numbers_in j) ≡ true = sym m.may_repeat.ensures ∙ c.if-not-may_repeat.false in (
       omega arith,
       l.loop-place.invariant.1
           ∙ unfit-on l.args.numbers.now l.loop-place.place l.args.count j read.loop-place-test.true

@@ -1,16 +1,9 @@
 -- `repeating::first_unfit` meets its contract. The loop's invariant: the search is the search from here on.
 -- Assumes nothing.
-use mathlib.Core.Path.{◌≡◌, refl, sym, ◌∙◌}
-use mathlib.Core.Bool.{true, false}
+use mathlib.Core.Path.{◌≡◌}
 use Prim.Native.Nat.{◌-◌, ◌≤◌}
-use native.Mathlib.Omega.{arith}
-use borrow.Author.Rules.{rules}
-use borrow.Author.Tests.{not-true, not-false}
 use Rattle.packed.specs.Places.{first}
-use Rattle.packed.specs.PlacesLaws.{first-end}
-use Rattle.frames.specs.Frames.{may_repeat, unfit_at}
-use Rattle.repeating.specs.Repeating.{numbers_in}
-use Rattle.repeating.specs.RepeatingLaws.{unfit-here, unfit-on}
+use Rattle.frames.specs.Frames.{unfit_at}
 use Rattle.repeating.proofs.first_unfit.Given as goal
 
 abbrev pub invariant-loop-place : goal.invariant-loop-place

@@ -1,10 +1,10 @@
 -- `repeating::frame_of` meets its contract. The loop's invariant: the frame at hand is that of the jobs before the place, or both are
 -- past the longest. Assumes nothing.
 use mathlib.Core.Path.{◌≡◌, ◌∙◌}
-use Prim.Native.Nat.{◌-◌, ◌≤◌, ◌<◌}
+use Prim.Native.Nat.{◌<◌}
 use native.Mathlib.Omega.{arith}
 use Rattle.frames.specs.Frames.{jobs_given}
-use Rattle.repeating.specs.RepeatingLaws.{jobs-are, JobRead, job_read, GrownTo, frame-starts, frame-grows, frame-ends}
+use Rattle.repeating.specs.RepeatingLaws.{jobs-are, JobRead, job_read, frame-starts, frame-grows, frame-ends}
 use Rattle.repeating.proofs.frame_of.Goals as goal
 use Rattle.repeating.proofs.frame_of.Goals.{After-count_of, After-repeating_at-job, At-loop-place, In-loop-place}
 

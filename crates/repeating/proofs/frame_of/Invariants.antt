@@ -1,10 +1,8 @@
 -- `repeating::frame_of` meets its contract. The loop's invariant: the frame at hand is that of the jobs before the place, or both are
 -- past the longest. Assumes nothing.
-use mathlib.Core.Path.{◌≡◌, ◌∙◌}
-use Prim.Native.Nat.{◌-◌, ◌≤◌, ◌<◌}
-use native.Mathlib.Omega.{arith}
+use Prim.Native.Nat.{◌-◌, ◌≤◌}
 use Rattle.frames.specs.Frames.{jobs_given}
-use Rattle.repeating.specs.RepeatingLaws.{jobs-are, JobRead, job_read, GrownTo, frame-starts, frame-grows, frame-ends}
+use Rattle.repeating.specs.RepeatingLaws.{GrownTo}
 use Rattle.repeating.proofs.frame_of.Given as goal
 
 abbrev pub invariant-loop-place : goal.invariant-loop-place

@@ -2,7 +2,6 @@
 -- Assumes nothing.
 use mathlib.Core.Path.{◌≡◌}
 use native.Mathlib.Omega.{arith}
-use borrow.Author.Rules.{rules}
 use Rattle.multiples.specs.Multiples.{lcm}
 use Rattle.multiples.specs.MultiplesLaws.{lcm-above}
 use Rattle.repeating.specs.Repeating.{whole, past}

@@ -1,10 +1,11 @@
 -- `repeating::in_period` meets its contract: with the numbers in range no difference overflows, and the rest of the code is the
 -- rest of the definitions. No other proof of this crate opens it. Assumes nothing.
 use mir.Facts.{to_z-of_z}
+use borrow.Author.Rules.{rules}
 use Rattle.seconds.specs.Limits.{rest}
 use Rattle.seconds.specs.Signed.{signed}
 use Rattle.repeating.specs.Repeating.{in_period}
-use Rattle.repeating.specs.RepeatingLaws.{RepeatingFits, bounds-fit, InRange, in-range, left_is}
+use Rattle.repeating.specs.RepeatingLaws.{RepeatingFits, InRange, in-range, left_is}
 use Rattle.repeating.specs.declared.Repeating.{Repeating}
 use Rattle.repeating.proofs.in_period.Goals as goal
 use Rattle.repeating.proofs.in_period.Goals.{Start}
@@ -18,9 +19,14 @@ module _ (c : Start) where
 
   fits : RepeatingFits job
   fits =
-      let t : Start = c in
-      let g = t.struct_told-1.given in
-      bounds-fit job g.0.1 g.1.0.1 g.1.1.0.1 g.1.1.1.0.1 g.1.1.1.1.0.1 g.1.1.1.1.1.0.1
+      record {
+        critical = search rules;
+        weight = search rules;
+        phase = search rules;
+        long = search rules;
+        deadline = search rules;
+        period = search rules;
+      }
 
   range : InRange job
   range =

@@ -10,7 +10,7 @@ use borrow.Author.Rules.{rules}
 use Rattle.seconds.specs.Limits.{longest, longest_frame}
 use Rattle.seconds.specs.Ranges.{is_between}
 use Rattle.packed.specs.Refusals.{weight_test}
-use Rattle.repeating.specs.RepeatingLaws.{RepeatingFits, bounds-fit, range-tested}
+use Rattle.repeating.specs.RepeatingLaws.{RepeatingFits, range-tested}
 use Rattle.repeating.specs.declared.Repeating.{Repeating}
 use Rattle.repeating.proofs.in_range.Goals as goal
 use Rattle.repeating.proofs.in_range.Goals.{After-between, After-between-2, After-between-3, After-weight_within, Start}
@@ -18,9 +18,14 @@ use Rattle.repeating.proofs.in_range.Goals.{After-between, After-between-2, Afte
 -- Each number of the job is an i32.
 fits : (c : Start) → RepeatingFits c.args.job
 fits c =
-    let g = c.struct_told-1.given in
-    bounds-fit c.args.job g.0.1 g.1.0.1 g.1.1.0.1
-    g.1.1.1.0.1 g.1.1.1.1.0.1 g.1.1.1.1.1.0.1
+    record {
+      critical = search rules;
+      weight = search rules;
+      phase = search rules;
+      long = search rules;
+      deadline = search rules;
+      period = search rules;
+    }
 
 pub returns : goal.returns
 returns c =

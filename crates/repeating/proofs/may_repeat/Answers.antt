@@ -2,8 +2,6 @@
 -- Assumes nothing.
 use mathlib.Core.Path.{◌≡◌, sym, ◌∙◌}
 use mathlib.Core.Bool.{true, false}
-use borrow.Author.Rules.{rules}
-use borrow.Author.Tests.{not-true, not-false}
 use Rattle.repeating.specs.Repeating.{in_range, in_period}
 use Rattle.repeating.specs.RepeatingLaws.{may-is}
 use Rattle.repeating.proofs.may_repeat.Goals as goal
@@ -13,12 +11,12 @@ pub returns-then-not-in_range : goal.returns-then-not-in_range
 returns-then-not-in_range c =
     let a : After-in_range = (goal.at.returns-then-not-in_range c).After-in_range in
     let j = a.args.job in
-    let out : in_range j ≡ false = sym a.in_range.ensures ∙ not-true a.in_range.result c.if-not-in_range.true in
+    let out : in_range j ≡ false = sym a.in_range.ensures ∙ c.if-not-in_range.true in
     rw (may-is j, out)
 
 -- Past the ranges.
 within : (c : Else-not-in_range) → in_range c.args.job ≡ true
-within c = sym c.in_range.ensures ∙ not-false c.in_range.result c.if-not-in_range.false
+within c = sym c.in_range.ensures ∙ c.if-not-in_range.false
 
 pub in_period-requires : goal.in_period-requires
 in_period-requires c = within c

@@ -1,10 +1,10 @@
 -- `repeating::totals_of` meets its contract. The loop's invariant: the repeats of the jobs before the place are counted and weighed,
 -- and are few and light enough that both sums fit. Assumes nothing.
 use mathlib.Core.Path.{◌≡◌, ◌∙◌}
-use Prim.Native.Nat.{◌-◌, ◌≤◌, ◌<◌}
+use Prim.Native.Nat.{◌<◌}
 use native.Mathlib.Omega.{arith}
 use Rattle.frames.specs.Frames.{jobs_given}
-use Rattle.repeating.specs.RepeatingLaws.{jobs-are, JobRead, job_read, CountedTo, count-starts, times-few, count-on, count-ends}
+use Rattle.repeating.specs.RepeatingLaws.{jobs-are, JobRead, job_read, count-starts, times-few, count-on, count-ends}
 use Rattle.repeating.proofs.totals_of.Goals as goal
 use Rattle.repeating.proofs.totals_of.Goals.{After-count_of, After-count_of-in-loop-place, After-repeating_at-job, At-loop-place, In-loop-place}
 

@@ -18,9 +18,8 @@ told : (c : In-Refused)
 told c =
     let planned : After-plan = (goal.at.In-Refused c).After-plan in
     let s : Start = (goal.at.After-plan planned).Start in
-    let r = c.refusal-1.given in
     refusal-told s.args.bytes.now s.args.starts.now s.args.work.now s.args.out.now s.requires
-    r.0.0 (sym r.1 ∙ planned.plan.ensures.answer)
+    c.in-Refused.refusal (sym c.in-Refused.is ∙ planned.plan.ensures.answer)
 
 pub put_refusal-requires : goal.put_refusal-requires
 put_refusal-requires c =

@@ -17,7 +17,7 @@ returns c =
     let front : After-put_front-at = (goal.at.After-put_kept-at kept).After-put_front-at in
     let start : Start = (goal.at.After-put_front-at front).Start in
     let fits : SFits w32 start.args.figures.finish =
-    record { sfits = finish.struct_told-1.given.1.1.1.1.0.1 } in
+    search rules in
     let first = wrote-more front.put_front-at.ensures.wrote kept.put_kept-at.ensures.wrote in
     let second = wrote-more first (wrote-number fits finish.put_number-at.ensures.wrote) in
     let third = wrote-more (wrote-more second gap.put_byte-at.ensures) points.put_figure.ensures.wrote in

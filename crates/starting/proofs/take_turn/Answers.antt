@@ -48,9 +48,9 @@ module _ (c : After-greater-start) where
 
   start_is : to_z w32 (of_z w32 c.greater-start.result) ≡ start
   start_is =
-      to_z-of_z (record { sfits = c.greater-start.type_inv })
+      to_z-of_z {w = w32} {z = c.greater-start.result} (search rules)
       ∙ c.greater-start.ensures
-      ∙ ap₂ max_z (to_z-of_z fitting.ready) (to_z-of_z entry.fits.free)
+      ∙ ap₂ max_z (to_z-of_z fitting.ready) (to_z-of_z entry.ranges.free)
 
   end_is : to_z w32 (of_z w32 c.greater-start.result) +ℤ to_z w32 (of_z w32 entry.args.job.length) ≡ end
   end_is = ap₂ (λ x y. x +ℤ y) start_is (to_z-of_z fitting.long)
@@ -71,5 +71,5 @@ pub returns : goal.returns
 returns c =
     let called : After-greater-start = (goal.at.returns c).After-greater-start in
     let free : to_z w32 (of_z w32 c.rested.result) ≡ end called +ℤ pos rest =
-    to_z-of_z (record { sfits = c.rested.type_inv }) ∙ c.rested.ensures ∙ ap (λ (z : ℤ). z +ℤ pos rest) (end_back called) in
+    to_z-of_z {w = w32} {z = c.rested.result} (search rules) ∙ c.rested.ensures ∙ ap (λ (z : ℤ). z +ℤ pos rest) (end_back called) in
     rw (start_is called, free) (sym (turn called).1)

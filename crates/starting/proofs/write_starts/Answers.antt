@@ -19,7 +19,7 @@ use Rattle.starting.proofs.write_starts.Goals.{After-job_in-job, In-loop-i, Star
 
 -- Where the code starts.
 abbrev begun : In-loop-i → Start
-begun c = c.before.before.before
+begun c = c.before.before.before.before
 
 -- The bus-free time as the code reads it back from its bits, and as many jobs as the header says, at most 48.
 module _ (s : Start) where
@@ -27,7 +27,7 @@ module _ (s : Start) where
   bytes = s.args.bytes.now
 
   t0-back : to_z w32 (of_z w32 s.args.t0) ≡ s.args.t0
-  t0-back = to_z-of_z s.fits.t0
+  t0-back = to_z-of_z s.ranges.t0
 
   few : s.args.n ≤ 48
   few = omega (arith, s.requires.count, s.requires.order.header.few)
@@ -50,12 +50,12 @@ module _ (c : After-job_in-job) where
   entry = (goal.at.After-job_in-job c).Start
 
   turn : CanTurn (bytes entry) entry.args.n (to_z w32 (of_z w32 entry.args.t0)) entry.args.mask
-      entry.args.starts.now c.loop-i.starts (to_z w32 c.loop-i.free)
+      entry.args.starts.now c.loop-i.starts (to_z w32 c.loop-i.free-bits)
       c.loop-i.left c.loop-i.i c.job_in-job.result
   turn =
       can-turn (bytes entry) entry.requires.order entry.args.n entry.requires.count (to_z w32 (of_z w32 entry.args.t0))
       entry.args.mask entry.args.starts.now entry.requires.room c.loop-i.starts
-      (to_z w32 c.loop-i.free) c.loop-i.left c.loop-i.i
+      (to_z w32 c.loop-i.free-bits) c.loop-i.left c.loop-i.i
       c.loop-i.invariant c.loop-i-test.true c.job_in-job.result c.job_in-job.ensures
 
 pub take_turn-turn-requires : goal.take_turn-turn-requires
@@ -97,4 +97,4 @@ returns c =
     let all : l.i ≡ s.args.n = omega (arith, l.invariant.few) in
     let count : length (jobs_in (bytes s)) ≡ s.args.n = omega (arith, jobs-count (bytes s), s.requires.count) in
     writing-all (jobs_in (bytes s)) s.args.n s.args.t0 s.args.mask s.args.starts.now l.starts
-    (to_z w32 l.free) l.left count (rw (t0-back s, all) at l.invariant)
+    (to_z w32 l.free-bits) l.left count (rw (t0-back s, all) at l.invariant)

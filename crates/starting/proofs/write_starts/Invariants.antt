@@ -18,7 +18,7 @@ use Rattle.starting.proofs.write_starts.Given as goal
 
 abbrev pub invariant-loop-i : goal.invariant-loop-i
 invariant-loop-i l =
-    Writing (jobs_in l.bytes) l.n (to_z w32 l.t0) l.mask l.initial.starts l.starts (to_z w32 l.free) l.left l.i
+    Writing (jobs_in l.bytes) l.n l.t0 l.mask l.initial.starts l.starts l.free l.left l.i
 
 abbrev pub decreases-loop-i : goal.decreases-loop-i
 decreases-loop-i l = l.n - l.i

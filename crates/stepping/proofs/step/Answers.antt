@@ -55,7 +55,7 @@ module _ (c : Else-count-eq0) where
 pub too_late-requires : goal.too_late-requires
 too_late-requires c =
     let s = (start (goal.at.too_late-requires c).Else-count-eq0).requires in
-    (record { ends = s.ends; most = s.fits.most }, rw (first_back (goal.at.too_late-requires c).Else-count-eq0) (cases (some (goal.at.too_late-requires c).Else-count-eq0)).first-least)
+    (record { ends = s.ends; most = s.ranges.most }, rw (first_back (goal.at.too_late-requires c).Else-count-eq0) (cases (some (goal.at.too_late-requires c).Else-count-eq0)).first-least)
 
 -- The test of case 1 is that of the definition.
 module _ (c : After-too_late) where

@@ -5,7 +5,7 @@ use mir.Facts.{to_z-of_z}
 use borrow.Author.Rules.{rules}
 use Rattle.order.specs.Job.{Point}
 use Rattle.ties.specs.Winning.{rule_of}
-use Rattle.ties.specs.WinningLaws.{first-wins, second-wins, even-first, even-second}
+use Rattle.ties.proofs.WinningLaws.{first-wins, second-wins, even-first, even-second}
 use Rattle.ties.proofs.heavier.Goals as goal
 use Rattle.ties.proofs.heavier.Goals.{After-to_first, Start}
 

@@ -15,6 +15,6 @@ pub returns-in-At-second-2 : goal.returns-in-At-second-2
 returns-in-At-second-2 c =
     let s = c.before.before in
     let f = s.before.before in
-    let time : SFits w32 f.in-At.time = record { sfits = f.known_told-1.given.1.0.1 } in
-    let since : SFits w32 s.in-At-second-2.since = record { sfits = c.known_told-in-At-1.given.1.0.1 } in
+    let time : SFits w32 f.in-At.time = search rules in
+    let since : SFits w32 s.in-At-second-2.since = search rules in
     rw (f.in-At.is, s.in-At-second-2.is) (rw (to_z-of_z time, to_z-of_z since) at c.heavier.ensures)

@@ -19,7 +19,7 @@ rested-requires c = omega signed
 module _ (c : After-rested) where
   end_is : to_z w32 (of_z w32 c.args.by) -ℤ to_z w32 (of_z w32 c.rested.result) ≡ c.args.by -ℤ pos rest
   end_is =
-      let f : SFits w32 c.rested.result = record { sfits = c.rested.type_inv } in
+      let f : SFits w32 c.rested.result = search rules in
       let r : to_z w32 (of_z w32 c.rested.result) ≡ pos rest = omega (signed, c.rested.ensures, add_is (pos 0) (pos rest)) in
       ap₂ (λ x y. x -ℤ y) (to_z-of_z c.ranges.by) r
 
@@ -39,13 +39,13 @@ module _ (c : After-lesser) where
 
   last-is : to_z w32 (of_z w32 c.lesser.result) ≡ min_z entry.args.deadline end
   last-is =
-      to_z-of_z (record { sfits = c.lesser.type_inv })
+      to_z-of_z {w = w32} {z = c.lesser.result} (search rules)
       ∙ c.lesser.ensures
-      ∙ ap₂ min_z (to_z-of_z entry.fits.deadline) (to_z-of_z (end_fits (goal.at.After-lesser c).After-rested) ∙ end_is (goal.at.After-lesser c).After-rested)
+      ∙ ap₂ min_z (to_z-of_z entry.ranges.deadline) (to_z-of_z (end_fits (goal.at.After-lesser c).After-rested) ∙ end_is (goal.at.After-lesser c).After-rested)
 
   start_is : to_z w32 (of_z w32 c.lesser.result) -ℤ to_z w32 (of_z w32 entry.args.long)
       ≡ min_z entry.args.deadline end -ℤ entry.args.long
-  start_is = ap₂ (λ x y. x -ℤ y) last-is (to_z-of_z entry.fits.long)
+  start_is = ap₂ (λ x y. x -ℤ y) last-is (to_z-of_z entry.ranges.long)
 
   start_fits : SFits w32 (to_z w32 (of_z w32 c.lesser.result) -ℤ to_z w32 (of_z w32 entry.args.long))
   start_fits =

@@ -42,7 +42,7 @@ module _ (c : After-last_by) where
   list = list_at s.args.work.now s.args.place s.args.count
 
   finds : c.last_by.result ≡ found (lookup list s.args.by)
-  finds = c.last_by.ensures ∙ ap (λ (t : ℤ). found (lookup list t)) (to_z-of_z s.fits.by)
+  finds = c.last_by.ensures ∙ ap (λ (t : ℤ). found (lookup list t)) (to_z-of_z s.ranges.by)
 
 pub returns-in-Nothing : goal.returns-in-Nothing
 returns-in-Nothing c =

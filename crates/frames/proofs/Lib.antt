@@ -1,0 +1,6 @@
+-- The laws, theorems and computed facts of this crate, and what its proofs share.
+pub mod AsWritten
+pub mod SequenceLaws
+pub mod GivenLaws
+pub mod RepeatsLaws
+pub mod FrameLaws

@@ -1,0 +1,2 @@
+-- The laws, theorems and computed facts of this crate, and what its proofs share.
+pub mod TwosLaws
