@@ -1,6 +1,6 @@
 # shellcheck shell=sh disable=SC2154
-# Read by ./leafanchor and .ci/run: one of them at a time builds for a checkout, $here, and what it starts ends with it. Both
-# have say WORDS and fail STATUS WORDS.
+# Read by ./leafanchor: one of them at a time builds for a checkout, $here, and what it starts ends with it. It has say WORDS and
+# fail STATUS WORDS. rt itself waits where another rt works, that of the tests among them.
 
 lock=$here/target/build.lock
 child='' ticker=''
@@ -31,7 +31,7 @@ take_lock() {
     trap 'stop TERM' TERM
     exec 9>>"$lock"
     flock -n 9 2>/dev/null && return
-    say "a build or the tests of this checkout are under way: waiting for their end"
+    say "a build of this checkout is under way: waiting for its end"
     apart "$here" flock 9 >/dev/null 2>&1 || fail 3 "the lock on builds cannot be had: flock or setsid failed"
 }
 

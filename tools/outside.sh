@@ -132,7 +132,7 @@ hold_header() {
     aarch64) other_machine "$cc" -mbig-endian ;;
     esac
     [ -z "$emulator" ] || return 0
-    clang=$(dirname "$(dirname "$(rt doc)")")/on/$here/toolchain/bin/clang
+    clang=$(dirname "$(rt doc)")/toolchain/bin/clang
     [ -x "$clang" ] || die "the kit's compiler is missing: $clang"
     for target in thumbv7em-none-eabi riscv32 wasm32 x86_64-linux-gnux32 powerpc64; do
         other_machine "$clang" "--target=$target" -nostdinc -isystem "$("$cc" -print-file-name=include)"

@@ -1,5 +1,5 @@
 #!/bin/sh
-# Tries the shell's command, ./leafanchor, and the gate's place, .ci/run, sentence by sentence: output, what is said and the
+# Tries the shell's command, ./leafanchor, and the gate's steps, .ci/run, sentence by sentence: output, what is said and the
 # status. Plans and sheets are made by the programs as built. Builds and gates go through a stand-in for rt over a checkout of a
 # few crates, so that they take a second or two.
 # A line for each case; ends with 0 if every one is as it should be.
@@ -16,7 +16,7 @@ trap 'exit 1' HUP INT TERM
 chmod 755 "$room"
 built=$root/target/bin
 for program in plan_order week_sheet; do
-    [ -x "$built/$program" ] || { echo "shell: $built/$program is missing: build it with rt check $program"; exit 1; }
+    [ -x "$built/$program" ] || { echo "shell: $built/$program is missing: ./leafanchor plan and ./leafanchor sheet build them"; exit 1; }
 done
 
 # ---- cases
@@ -81,33 +81,29 @@ mkdir "$room/bin" "$room/tmp" "$room/tools" "$room/links"
 chmod 1777 "$room/tmp"
 export TMPDIR="$room/tmp"
 
-# Notes when it begins and ends in the file 'builds' above the checkout; what the file 'mood' there says comes after the first
-# crate. As rt does, it begins a gate by removing target/.
+# Notes where it begins, and when it ends, in the file 'builds' above the checkout; what the file 'mood' there says comes after
+# the first crate, at the top of the checkout.
 cat >"$room/bin/rt" <<END
 #!/bin/sh
 case \$1 in
-check | ci) ;;
-fmt) exit ;;
+run) name=\${PWD##*/} ;;
+ci) name='' ;;
 *) exec "$real_rt" "\$@" ;;
 esac
-echo "\$*" >>"\$ABOVE/builds"
-if [ "\$1" = ci ]; then
-    rm -rf target
-    mkdir -p target/stamp target/log
-    find . ! -type d ! -path './.ci/log/*' | sort >"\$ABOVE/files"
-    ls -d .git >>"\$ABOVE/files" 2>/dev/null
-fi
-echo 'rt: first proved (1 s)' | tee target/log/first.out
+echo "\$*\${name:+ in \$name}" >>"\$ABOVE/builds"
+[ -z "\$name" ] || cd ../..
+pwd >"\$ABOVE/place"
+echo 'rt: chose --jobs 2 for first'
+[ "\$1" = run ] || echo 'rt: first proved'
 [ ! -f "\$ABOVE/mood" ] || . "\$ABOVE/mood"
-echo 'rt: second proved (unchanged since it was last proved)'
-echo "rt: \${2-plan_order} proved (2 s)"
-mkdir -p target/bin
-for program in \${2-plan_order week_sheet}; do
-    [ -f "target/bin/\$program" ] || cp "$built/\$program" target/bin
+echo 'rt: chose --jobs 2 for second'
+for program in \${name:-plan_order week_sheet}; do
+    echo "rt: chose --jobs 2 for \$program"
+    mkdir -p "crates/\$program/out"
+    cp "$built/\$program" "crates/\$program/out"
 done
-echo "rt: \${2-plan_order} ran, and wrote what its file 'stdout' has (0 s)"
 echo ended >>"\$ABOVE/builds"
-[ "\$1" = check ] || echo '3 passed, 0 failed'
+[ "\$1" = run ] || printf '%s\n' 'rt: plan_order proved' "rt: ok; must-fail edits: 1 refused\${bad-}; every proof was done" '3 passed, 0 failed'
 END
 chmod 755 "$room/bin/rt"
 PATH=$room/bin:$PATH
@@ -121,7 +117,7 @@ checkout() {
     cp "$root/include/leafanchor.h" "$root/include/phrases.txt" "$here/include"
     cp "$root/tools/build_lock.sh" "$here/tools"
     cp "$root/.ci/run" "$here/.ci"
-    printf '# crates\nfirst:\nsecond: first io\nplan_order: second libc # a program\nweek_sheet: first io\nother: first\n' >"$here/crates.txt"
+    printf '# crates\nfirst:\nsecond: first io\nplan_order: second io # a program\nweek_sheet: first io\nother: first\n' >"$here/crates.txt"
     for crate in first second plan_order week_sheet other; do
         mkdir -p "$here/crates/$crate/src" "$here/crates/$crate/must-fail"
         echo '// a source' >"$here/crates/$crate/src/lib.rt"
@@ -133,7 +129,7 @@ built_checkout() {
     mkdir -p "$here/target/bin"
     cp "$built/plan_order" "$built/week_sheet" "$here/target/bin"
 }
-builds() { grep -c '^check' "$ABOVE/builds" 2>/dev/null; }
+builds() { grep -c '^run' "$ABOVE/builds" 2>/dev/null; }
 
 # soon CONDITION: waits for it, ten seconds at most.
 soon() {
@@ -392,8 +388,8 @@ gives "an endless pipe is not read to its end" 1 '4 0 0' 'leafanchor: refusal 4:
 # The program itself, past what the command hands over: longer inputs, the longest order, none at all.
 emulated() {
     [ "$(uname -m)" = x86_64 ] && { "$@"; return; }
-    tools=$("$real_rt" doc) && tools=${tools%/*/*}/on/$(uname -m)/toolchain
-    "$tools/bin/qemu-x86_64" "$tools/lib/ld-linux-x86-64.so.2" --library-path "$tools/lib" "$@"
+    libraries=$("$real_rt" doc) && libraries=${libraries%/*}/toolchain/lib
+    qemu-x86_64 "$libraries/ld-linux-x86-64.so.2" --library-path "$libraries" "$@"
 }
 for given in "$root"/tools/program/*.in; do
     name=${given##*/}
@@ -807,7 +803,7 @@ holds "Ctrl-C ends the program, and us" '[ "$status" = 130 ] && ! kill -0 "$(cat
 
 # ---- building
 
-waiting='leafanchor: a build or the tests of this checkout are under way: waiting for their end'
+waiting='leafanchor: a build of this checkout is under way: waiting for its end'
 checkout first_use
 mood wait
 "$here/leafanchor" plan p1 >"$out" 2>"$err" &
@@ -823,6 +819,9 @@ gives "the second does not" 0 "$p1" ''
 touch "$here/crates/other/src/lib.rt" "$here/crates/first/must-fail/an.edit"
 try "$here/leafanchor" plan p1
 gives "nor does another crate or an edit make it" 0 "$p1" ''
+mkdir -p "$here/crates/first/out" && touch "$here/crates/first/out/kept" "$here/crates/plan_order/out/kept"
+try "$here/leafanchor" plan p1
+gives "nor what is kept of a build" 0 "$p1" ''
 echo '// another' >"$here/crates/first/src/lib.rt"
 try "$here/leafanchor" plan p1
 holds "a source that is newer does" '[ "$status" = 0 ] && grep -q "built in" "$err" && [ "$(builds)" = 2 ]'
@@ -842,7 +841,7 @@ checkout sheet_first
 try "$here/leafanchor" sheet week
 gives "the first sheet builds its own program" 0 "$week" 'leafanchor: building the program: *
 leafanchor: built in [0-9]* s'
-holds "and no other" '[ "$(cat "$ABOVE/builds")" = "check week_sheet
+holds "and no other" '[ "$(cat "$ABOVE/builds")" = "run in week_sheet
 ended" ] && [ ! -e "$here/target/bin/plan_order" ]'
 echo '// another' >"$here/crates/second/src/lib.rt"
 try "$here/leafanchor" sheet week
@@ -851,7 +850,7 @@ echo '// another' >"$here/crates/week_sheet/src/lib.rt"
 try "$here/leafanchor" sheet week
 holds "its own does" '[ "$status" = 0 ] && [ "$(builds)" = 2 ]'
 try "$here/leafanchor" plan p1
-holds "a plan then builds its own" '[ "$status" = 0 ] && [ "$(tail -n 2 "$ABOVE/builds")" = "check plan_order
+holds "a plan then builds its own" '[ "$status" = 0 ] && [ "$(tail -n 2 "$ABOVE/builds")" = "run in plan_order
 ended" ]'
 
 checkout at_terminal
@@ -933,135 +932,66 @@ rm "$ABOVE/mood"
 try "$here/leafanchor" plan p1
 holds "the next build waits for nothing" '[ "$status" = 0 ] && ! grep -q waiting "$err"'
 
-# ---- the gate, and plans beside it
+# ---- the gate
 
-# gate_checkout NAME: a checkout of its own whose gate has stand-ins for its tools. That for cargo's part counts its turns.
+# gate_checkout NAME: a checkout of its own whose gate has stand-ins for its tools.
 gate_checkout() {
     checkout "$1"
-    mkdir -p "$here/rust/src" "$here/rust/target" "$here/crates/first/target" "$here/.git" "$here/target/old"
-    touch "$here/rust/src/lib.rs" "$here/rust/target/lib" "$here/crates/first/target/kept" "$here/.git/HEAD" "$here/.hidden"
     cp "$root/tools/timed" "$here/tools"
-    cp "$root/.ci/steps" "$here/.ci"
     for tool in unused definitions.py edits stored shell.sh native.sh outside.sh; do
         printf '#!/bin/sh\necho "%s $*"\n[ "%s $*" != "$(cat "$ABOVE/fault" 2>/dev/null)" ] || exit 1\n' "$tool" "$tool" >"$here/tools/$tool"
         chmod 755 "$here/tools/$tool"
     done
-    echo "sh -c 'kill -s INT \$\$; echo INT is not heard'; true" >>"$here/tools/stored"
-    echo 'mkdir -p target/native && echo a library >target/native/libleafanchor.a' >>"$here/tools/native.sh"
-    echo '[ "${1-}" = tools ] || echo a turn >>rust/target/turns' >>"$here/tools/outside.sh"
-    (cd "$here" && find . ! -type d ! -path './.git/*' ! -path './target/*' ! -path './rust/target/*' && echo ./rust/target) | sort >"$ABOVE/wanted"
-    echo .git >>"$ABOVE/wanted"
 }
-# begin_gate: runs a gate beside us, up to rt's first crate at least; what it wrote and said is in gate.out and gate.err.
-begin_gate() {
-    rm -f "$room/gate.out"
-    "$here/leafanchor" test >"$room/gate.out" 2>"$room/gate.err" &
-    gate=$!
-    soon 'grep -q first "$room/gate.out" 2>/dev/null'
-}
-# state: the program and everything else of target/ that is the checkout's own, with the times.
-state() { (cd "$here/target" && find . ! -path './gate*' ! -path './build.lock' ! -path . -printf '%p %i %T@\n' | sort); }
+# files: all of the checkout but what is built.
+files() { (cd "$here" && find . -name target -prune -o -name out -prune -o -type f -printf '%p %T@\n' | sort); }
+# state: what is built for use, with the times.
+state() { (cd "$here/target/bin" 2>/dev/null && find . -type f -printf '%p %i %T@\n' | sort); }
 
 gate_checkout passing_gate
-mood wait
-begin_gate
-"$here/leafanchor" plan p1 >"$out" 2>"$err" &
-two=$!
-soon 'grep -q waiting "$err"'
-touch "$ABOVE/go"
-wait "$two"
-status=$?
-gives "a plan that must build waits for the tests, and then has nothing to build" 0 "$p1" "$waiting"
-wait "$gate"
-status=$?
-cp "$room/gate.out" "$out"
-cp "$room/gate.err" "$err"
-holds "they pass, say nothing on standard error, and their last line is rt's" '[ "$status" = 0 ] && [ ! -s "$err" ] && [ "$(tail -n 1 "$out")" = "3 passed, 0 failed" ]'
+before=$(files)
+cd "$room/tmp" && try "$here/leafanchor" test
+cd "$room" || exit 1
+holds "the tests pass, say nothing on standard error, and their last line is rt's" '[ "$status" = 0 ] && [ ! -s "$err" ] && [ "$(tail -n 1 "$out")" = "3 passed, 0 failed" ]'
 holds "they went through every step" '[ "$(grep -cx "unused --check\|definitions.py \|edits \|stored --check\|outside.sh tools\|shell.sh \|native.sh \|outside.sh " "$out")" = 8 ]'
-holds "what they run hears INT" '! grep -q "INT is not heard" "$out"'
-holds "they worked on a copy of all files but what was built" 'cmp -s "$ABOVE/files" "$ABOVE/wanted"'
-holds "nothing was built twice" '[ "$(cat "$ABOVE/builds")" = "ci
-ended" ]'
-holds "what they built is the checkout's, and nothing else of theirs is left" '[ -f "$here/target/native/libleafanchor.a" ] && [ -d "$here/target/stamp" ] &&
-    [ -f "$here/target/log/first.out" ] && [ -d "$here/target/old" ] && [ ! -e "$here/target/gate" ]'
-holds "target/gate.log has every line with its second" '[ "$(sed "s/^ *[0-9]*\.[0-9] //" "$here/target/gate.log")" = "$(cat "$out")" ]'
+holds "what is quick came first, and the library behind the proofs" '[ "$(grep -x "stored --check\|rt: first proved\|native.sh " "$out")" = "stored --check
+rt: first proved
+native.sh " ]'
+holds "rt was told nothing but ci, once, at the top of the checkout" '[ "$(cat "$ABOVE/builds")" = "ci
+ended" ] && [ "$(cat "$ABOVE/place")" = "$here" ]'
+holds "and no file of the checkout was touched" '[ "$(files)" = "$before" ]'
+holds "target/gate.log has every line of rt with its second" '[ "$(sed "s/^ *[0-9]*\.[0-9] //" "$here/target/gate.log")" = "$(grep "^rt: \|passed, " "$out" | sed "\$d")" ]'
 cd "$here" && try "$root/tools/gate_times"
-holds "of which tools/gate_times tells where the time went" '[ "$status" = 0 ] && grep -q "^ *[0-9]* s  crates  *2, 3 s of work; idle" "$out"'
-cd "$room" && rm "$ABOVE/mood"
+holds "of which tools/gate_times tells where the time went" '[ "$status" = 0 ] && grep -q "^ *[0-9]* s  proofs, 2$" "$out"'
+cd "$room" || exit 1
 try "$here/leafanchor" plan p1
 gives "after tests that passed a plan builds nothing" 0 "$p1" ''
 before=$(state)
 mood 'echo a fault; exit 1'
 try "$here/leafanchor" test
-gives "tests that fail" 1 "$(cat "$out")" "gate: it failed. This checkout is as it was; *: $here/target/gate"
-holds "their logs are where that says" 'grep -q "a fault" "$out" && [ -f "$here/target/gate/target/log/first.out" ]'
-holds "and nothing of the checkout was touched" '[ "$(state)" = "$before" ]'
-
+holds "tests that fail in a proof" '[ "$status" = 1 ] && grep -q "a fault" "$out" && [ "$(state)" = "$before" ]'
+mood 'bad=", 2 bad"'
+try "$here/leafanchor" test
+gives "tests with must-fail edits that could not be tried" 1 "$(cat "$out")" "gate: must-fail edits are bad, *"
 rm "$ABOVE/mood"
 for step in 'unused --check' 'definitions.py ' 'edits ' 'stored --check' 'outside.sh tools' 'shell.sh ' 'native.sh ' 'outside.sh '; do
     printf '%s' "$step" >"$ABOVE/fault"
     try "$here/.ci/run"
-    holds "tests that fail in one step: $step" '[ "$status" = 1 ] && grep -q "^gate: it failed" "$err"'
+    holds "tests that fail in one step: $step" '[ "$status" = 1 ]'
 done
-rm "$ABOVE/fault" "$ABOVE/builds" "$here/target/gate-cargo/turns"
+rm "$ABOVE/fault" "$ABOVE/builds"
 mood wait
-begin_gate
-"$here/.ci/run" >"$out" 2>"$err" &
-two=$!
-soon 'grep -q waiting "$err"'
+"$here/leafanchor" test >"$room/gate.out" 2>&1 &
+gate=$!
+soon 'grep -q "first proved" "$room/gate.out" 2>/dev/null'
 try_beside() { "$here/leafanchor" plan p1 >"$room/written" 2>&1; }
 try_beside
-holds "while tests run and others wait, a plan is made at once" '[ "$(cat "$room/written")" = "$p1" ] && [ ! -f "$ABOVE/go" ]'
+holds "while tests run a plan is made at once" '[ "$(cat "$room/written")" = "$p1" ] && [ ! -f "$ABOVE/go" ]'
 echo '// another' >"$here/crates/first/src/lib.rt"
 touch "$ABOVE/go"
 wait "$gate"
-wait "$two"
-status=$?
-holds "a second run of the tests waits for the first" '[ "$status" = 0 ] && [ "$(cat "$err")" = "gate: ${waiting#*: }" ] && [ "$(cat "$ABOVE/builds")" = "ci
-ended
-ci
-ended" ]'
-holds "and finds what cargo built" '[ "$(wc -l <"$here/target/gate-cargo/turns")" = 2 ]'
-begin_gate
-echo '// a third' >"$here/crates/first/src/lib.rt"
-wait "$gate"
 try "$here/leafanchor" plan p1
 holds "what is edited during the tests is built again" '[ "$status" = 0 ] && [ "$(builds)" = 1 ] && grep -q "built in" "$err"'
-
-gate_checkout stopped_gate
-mkdir -p "$here/target/bin"
-cp "$built/plan_order" "$here/target/bin"
-before=$(state)
-mood 'sleep 30'
-for signal in TERM HUP; do
-    begin_gate
-    kill -s "$signal" "$gate"
-    wait "$gate" 2>/dev/null
-    status=$?
-    holds "tests that are stopped by $signal end all that they started" '[ "$status" -gt 128 ] && rt_ended'
-done
-mood 'trap "" TERM; sleep 4'
-begin_gate
-kill -s TERM "$gate"
-wait "$gate" 2>/dev/null
-sleep 1
-holds "what does not end at once keeps the lock until it does" '! flock -n "$here/target/build.lock" true && rt_ended'
-mood 'sleep 30'
-interrupted_gate() { { soon '[ "$(grep -c ci "$ABOVE/builds")" = 4 ]' && printf '\003'; } | timeout 60 script -qec "$here/.ci/run" /dev/null; }
-try interrupted_gate
-holds "Ctrl-C ends them too" '[ "$status" = 130 ] && rt_ended'
-try "$here/leafanchor" plan p1
-gives "the program is there and plans" 0 "$p1" ''
-holds "and nothing of the checkout was touched by the tests that were stopped" '[ "$(state)" = "$before" ]'
-rm -r "$here/.git" "$ABOVE/mood"
-try "$here/.ci/run"
-holds "the next waits for nothing; of an exported tree, which is no repository, the copy is none" '[ "$status" = 0 ] && [ ! -s "$err" ] && [ "$(grep -c "^.git" "$ABOVE/files")" = 0 ]'
-
-gate_checkout closed_gate
-chmod -R a-w "$here"
-try plainly "$here/leafanchor" test
-gives "the tests of a read-only checkout" 3 '' "gate: $here cannot be written"
-chmod -R u+w "$here"
 
 # ---- a checkout that cannot be written
 
@@ -1097,22 +1027,22 @@ if [ "$(uname -m)" = x86_64 ]; then
     gives "the same: sheet --words" 0 "$(week_in_words)" ''
 fi
 
-# A machine of another kind: its kit's emulator is a stand-in that says what it is given.
+# A machine of another kind: its emulator is a stand-in that says what it is given.
 kit=$room/kit
 machine=$room/other
-mkdir -p "$kit/docs" "$kit/on/other/toolchain/bin" "$machine"
-printf '#!/bin/sh\n[ "$1" = doc ] && echo "%s/docs/START-HERE.md"\n' "$kit" >"$machine/rt"
+mkdir -p "$machine"
+printf '#!/bin/sh\n[ "$1" = doc ] && echo "%s/START-HERE.md"\n' "$kit" >"$machine/rt"
 printf '#!/bin/sh\necho other\n' >"$machine/uname"
 for of_it in plan_order week_sheet; do
     printf '[ "$*" != "%s" ] || exec cat "%s"\n' \
-        "$kit/on/other/toolchain/lib/ld-linux-x86-64.so.2 --library-path $kit/on/other/toolchain/lib $room/plans/stand/target/bin/$of_it" \
+        "$kit/toolchain/lib/ld-linux-x86-64.so.2 --library-path $kit/toolchain/lib $room/plans/stand/target/bin/$of_it" \
         "$room/$of_it.text"
-done | sed '1i #!/bin/sh' >"$kit/on/other/toolchain/bin/qemu-x86_64"
+done | sed '1i #!/bin/sh' >"$machine/qemu-x86_64"
 echo 0 0 0 0 0 7 0 >plan_order.text
 printf '%s\n' 0 whole >week_sheet.text
-chmod 755 "$machine/rt" "$machine/uname" "$kit/on/other/toolchain/bin/qemu-x86_64"
+chmod 755 "$machine/rt" "$machine/uname" "$machine/qemu-x86_64"
 try env PATH="$machine:$PATH" "$room/plans/stand/leafanchor" plan p1
-gives "on another machine the kit's emulator runs the program" 0 '0 0 0 0 0 7 0' ''
+gives "on another machine an emulator runs the program" 0 '0 0 0 0 0 7 0' ''
 try env PATH="$machine:$PATH" "$room/plans/stand/leafanchor" sheet week
 gives "and that of sheets" 0 '0
 whole' ''
@@ -1120,7 +1050,7 @@ rm "$machine/rt"
 for words in 'plan p1' 'sheet week'; do
     # shellcheck disable=SC2086
     try env PATH="$machine:$room/tools" "$room/plans/stand/leafanchor" $words
-    gives "on another machine, and no rt on PATH: $words" 3 '' "leafanchor: on this machine the program runs under the kit's emulator, and rt, *"
+    gives "on another machine, and no rt on PATH: $words" 3 '' "leafanchor: on this machine the program runs under an emulator, *"
 done
 
 # ---- nothing is left behind

@@ -1,6 +1,5 @@
-//! Finds libleafanchor.a: in the folder that LEAFANCHOR_LIB_DIR names, else where tools/native.sh or
-//! `rt staticlib leafanchor` writes it. It must be for the machine that the program is built for: its first
-//! object says which that is.
+//! Finds libleafanchor.a: in the folder that LEAFANCHOR_LIB_DIR names, else where tools/native.sh writes it. It
+//! must be for the machine that the program is built for: its first object says which that is.
 
 use std::convert::TryInto;
 use std::path::{Path, PathBuf};

@@ -6,8 +6,12 @@ ghost use Rattle.std.specs.Prelude.{◌≡◌, ◌<◌, length, take};
 ghost use Rattle.planner.specs.Calls.{longest_order};
 ghost use Rattle.report.specs.Report.{report_of};
 
-use libc::{STDIN_FILENO, STDOUT_FILENO};
 use report::{ROOM, report_read};
+
+// The streams, as the system numbers them.
+const STANDARD_INPUT: i32 = 0;
+
+const STANDARD_OUTPUT: i32 = 1;
 
 // One byte more than the longest order has: any longer input has the text of its first bytes (`read-enough`
 // of report).
@@ -17,14 +21,14 @@ const READ: usize = 437;
 fn read(input: &mut [u8]) -> usize
     requires { longest_order < length input.old }
 {
-    io::read_full(STDIN_FILENO, input)
+    io::read_full(STANDARD_INPUT, input)
 }
 
 // The text for what was read, the first `count` bytes of a buffer, and nothing else goes to standard output.
 fn write(input: &[u8], count: usize, text: &[u8])
     requires { text.now ≡ report_of (take count input.now) }
 {
-    io::write_all(STDOUT_FILENO, text);
+    io::write_all(STANDARD_OUTPUT, text);
 }
 
 // One read, one report of what was read, one write of it.

@@ -10,10 +10,14 @@ ghost use Rattle.week_report.specs.Telling.{CanRead, Reached, Says};
 
 use area::AREA;
 use feeding::{FRONT, Part, feed_piece, is_over};
-use libc::{STDERR_FILENO, STDIN_FILENO, STDOUT_FILENO};
 use sheet::none;
 use sheet_text::ROOM;
 use week_report::tell_held;
+
+// The streams that are written, as the system numbers them.
+const STANDARD_OUTPUT: i32 = 1;
+
+const STANDARD_ERROR: i32 = 2;
 
 // What a read leaves: what has come of the next entry, how many bytes came, and whether the read failed.
 #[derive(Clone, Copy)]
@@ -31,7 +35,8 @@ fn front_room() -> [u8; FRONT]
 }
 
 // One read, and the bytes that came are fed.
-fn read_some(
+fn read_some<R: std::io::Read>(
+    input: &mut R,
     begun: Part,
     figures: &mut [u32],
     front: &mut [u8],
@@ -42,18 +47,26 @@ fn read_some(
     ensures fed { Fed begun figures.old front.old (take result.count piece.new) work.old result.part figures.new front.new work.new }
     ensures counted { result.count ≤ length piece.new }
 {
-    let got = libc::read(STDIN_FILENO, piece);
-    let n = io::count(got, piece);
+    let (n, failed) = match input.read(piece) {
+        Ok(n) => (n, false),
+        Err(_) => (0, true),
+    };
     let part = feed_piece(begun, figures, front, &piece[..n], work);
     Read {
         part: part,
         count: n,
-        failed: got < 0,
+        failed: failed,
     }
 }
 
 // Reads until nothing comes, a read fails, or there are too many entries.
-fn read_all(figures: &mut [u32], front: &mut [u8], piece: &mut [u8], work: &mut [i32]) -> Read
+fn read_all<R: std::io::Read>(
+    input: &mut R,
+    figures: &mut [u32],
+    front: &mut [u8],
+    piece: &mut [u8],
+    work: &mut [i32],
+) -> Read
     requires { CanRead figures.old front.old work.old }
     ensures { Reached result.part figures.new front.new }
 {
@@ -70,7 +83,7 @@ fn read_all(figures: &mut [u32], front: &mut [u8], piece: &mut [u8], work: &mut 
                 failed: false,
             };
         }
-        let read = read_some(part, figures, front, piece, work);
+        let read = read_some(input, part, figures, front, piece, work);
         part = read.part;
         if read.count == 0 {
             return read;
@@ -82,7 +95,7 @@ fn read_all(figures: &mut [u32], front: &mut [u8], piece: &mut [u8], work: &mut 
 fn write(text: &[u8])
     requires { Says text.now }
 {
-    io::write_all(STDOUT_FILENO, text);
+    io::write_all(STANDARD_OUTPUT, text);
 }
 
 // The text for what is held of the stream that was read.
@@ -97,18 +110,19 @@ fn tell(part: Part, figures: &[u32], front: &[u8], out: &mut [u8])
 // A stream that cannot be read has no sheet.
 fn say_failed() {
     io::write_all(
-        STDERR_FILENO,
+        STANDARD_ERROR,
         b"week_sheet: standard input cannot be read\n",
     );
 }
 
-fn main() {
+fn main(rt: HostRuntime) {
+    let mut input = rt.stdin();
     let mut figures = none();
     let mut front = front_room();
     let mut piece = io::large_buffer();
     let mut work = [0i32; AREA];
     let mut out = [0u8; ROOM];
-    let read = read_all(&mut figures, &mut front, &mut piece, &mut work);
+    let read = read_all(&mut input, &mut figures, &mut front, &mut piece, &mut work);
     if read.failed {
         say_failed();
         return;
