@@ -8,7 +8,7 @@ mod choices;
 mod orders;
 mod packed_plans;
 mod plans;
-mod points;
+mod point_calls;
 mod readers;
 
 use careful::front_bytes;
@@ -34,7 +34,7 @@ fn run<'a>(line: &[u8], first: &'a [u8], second: &'a [u8]) -> bool {
     orders::run(line, first)
         || plans::run(line, first)
         || packed_plans::run(line, first, second)
-        || points::run(line, first)
+        || point_calls::run(line, first)
         || choices::run(line, first, second)
         || readers::run(line, first)
 }

@@ -1,11 +1,13 @@
 -- `cells::lower` meets its contract: between turns the cells before x are lowered, laid and counted. Assumes nothing.
+use mir.Facts.{to_z-of_z}
+use borrow.Author.Rules.{rules}
 use Prim.Native.Nat.{ℕ, suc, ◌+◌, ◌<◌}
 use mathlib.Core.Path.{◌≡◌, refl, sym, ap, ap₂, ◌∙◌}
 use native.Mathlib.Omega.{arith}
 use lib.IntN.{ℤ}
 use lib.ListN.{length}
 use mir.Syntax.{w32}
-use mir.Val.{to_z, of_z}
+use mir.Val.{SFits, to_z, of_z}
 use Rattle.seconds.specs.Signed.{read_back_lem, min_z}
 use Rattle.codes.specs.Code.{at0}
 use Rattle.cells.specs.Laying.{before, rises_to, lowered}
@@ -52,9 +54,11 @@ module _ (c : After-lesser-cell) where
 
   cell-is : cell ≡ lowered begun.args.row.now begun.args.pushed.now turn.loop-x.x
   cell-is =
-      let a-is = read_back_lem (at0 turn.loop-x.row turn.loop-x.x) c.lesser-arg-1.given
+      let a-fits : SFits w32 (at0 turn.loop-x.row turn.loop-x.x) = search rules in
+      let b-fits : SFits w32 (at0 begun.args.pushed.now turn.loop-x.x) = search rules in
+      let a-is = to_z-of_z a-fits
       ∙ turn.loop-x.invariant.0.behind turn.loop-x.x (omega arith) in
-      let b-is = read_back_lem (at0 begun.args.pushed.now turn.loop-x.x) c.lesser-arg-in-loop-x-1.given in
+      let b-is = to_z-of_z b-fits in
       read_back_lem c.lesser-cell.result c.lesser-cell.type_inv ∙ c.lesser-cell.ensures ∙ ap₂ min_z a-is b-is
 
 pub offset_bounds-row-x-in-loop-x : goal.offset_bounds-row-x-in-loop-x

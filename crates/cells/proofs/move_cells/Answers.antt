@@ -1,11 +1,12 @@
 -- `cells::move_cells` meets its contract. Assumes nothing.
+use borrow.Author.Rules.{rules}
 use Prim.Native.Nat.{ℕ, ◌+◌, ◌-◌, ◌≤◌, ◌<◌}
 use mathlib.Core.Path.{◌≡◌, sym, ap, ◌∙◌}
 use native.Mathlib.Omega.{arith}
 use lib.IntN.{ℤ}
 use lib.ListN.{length}
 use mir.Syntax.{w32}
-use mir.Val.{to_z, of_z}
+use mir.Val.{SFits, to_z, of_z}
 use mir.Facts.{to_z-of_z}
 use Rattle.seconds.specs.Signed.{read_back_lem}
 use Rattle.codes.specs.Code.{at0}
@@ -38,7 +39,8 @@ moved_on-requires c =
     let s = d.before.before in
     let p = s.requires in
     let z = at0 s.args.row.now d.loop-x.x in
-    let r : to_z w32 (of_z w32 z) ≡ z = read_back_lem z c.moved_on-arg-1.given in
+    let f : SFits w32 z = search rules in
+    let r : to_z w32 (of_z w32 z) ≡ z = to_z-of_z f in
     record {
       cell = rw r (p.cells d.loop-x.x d.loop-x-test.true);
       few = omega (arith, there (goal.at.moved_on-requires c).In-loop-x);
@@ -70,7 +72,8 @@ loop-x-preserved c =
     let i = d.loop-x.invariant in
     let back : gain + x - gain ≡ x = omega arith in
     let next : gain + x + 1 ≡ gain + (x + 1) = omega arith in
-    let cell-is = read_back_lem (at0 s.args.row.now x) c.moved_on-arg-1.given in
+    let cell-fits : SFits w32 (at0 s.args.row.now x) = search rules in
+    let cell-is = to_z-of_z cell-fits in
     let z-is = read_back_lem c.moved_on.result c.moved_on.type_inv ∙ c.moved_on.ensures
     ∙ ap (λ (z : ℤ). moved_on (to_z w32 (of_z w32 s.args.limit)) (to_z w32 (of_z w32 s.args.delta)) z x) cell-is
     ∙ ap (λ (k : ℕ). moved_on (to_z w32 (of_z w32 s.args.limit)) (to_z w32 (of_z w32 s.args.delta)) (at0 s.args.row.now k) k) (sym back) in

@@ -1,9 +1,10 @@
 -- `cells::push_cells` meets its contract. Assumes nothing.
+use borrow.Author.Rules.{rules}
 use Prim.Native.Nat.{◌+◌, ◌-◌}
 use mathlib.Core.Path.{◌≡◌, ap, ◌∙◌}
 use lib.IntN.{ℤ, pos, ◌+ℤ◌}
 use mir.Syntax.{w32}
-use mir.Val.{to_z, of_z}
+use mir.Val.{SFits, to_z, of_z}
 use mir.Facts.{to_z-of_z}
 use Rattle.seconds.specs.Signed.{read_back_lem}
 use Rattle.codes.specs.Code.{at0}
@@ -23,11 +24,12 @@ module _ (c : After-move_cells) where
 
 pub above-first-requires : goal.above-first-requires
 above-first-requires c =
-    let m = c.before.before in
-    let s = begun (goal.at.above-first-requires c).After-move_cells in
+    let m = (goal.at.above-first-requires c).After-move_cells in
+    let s = begun m in
     let z = at0 m.move_cells.new.pushed s.args.gain in
-    let r : to_z w32 (of_z w32 z) ≡ z = read_back_lem z c.above-arg-1.given in
-    rw r (can-count s.requires (mid-is (goal.at.above-first-requires c).After-move_cells))
+    let f : SFits w32 z = search rules in
+    let r : to_z w32 (of_z w32 z) ≡ z = to_z-of_z f in
+    rw r (can-count s.requires (mid-is m))
 
 -- The number of the first at no weight.
 module _ (c : After-above-first) where
@@ -41,17 +43,18 @@ module _ (c : After-above-first) where
   first-is =
       let s = begun pushed-on in
       let z = at0 pushed-on.move_cells.new.pushed s.args.gain in
-      let r : to_z w32 (of_z w32 z) ≡ z = read_back_lem z c.above-arg-1.given in
+      let f : SFits w32 z = search rules in
+      let r : to_z w32 (of_z w32 z) ≡ z = to_z-of_z f in
       read_back_lem c.above-first.result c.above-first.type_inv ∙ c.above-first.ensures ∙ ap (λ (y : ℤ). y +ℤ pos s.args.gain) r
 
 pub put_run-requires : goal.put_run-requires
 put_run-requires c =
-    let a = c.before in
-    let m = pushed-on (goal.at.put_run-requires c).After-above-first in
-    can-run (begun m).requires (mid-is m) (first (goal.at.put_run-requires c).After-above-first) (first-is (goal.at.put_run-requires c).After-above-first)
+    let a = (goal.at.put_run-requires c).After-above-first in
+    let m = pushed-on a in
+    can-run (begun m).requires (mid-is m) (first a) (first-is a)
 
 pub returns : goal.returns
 returns c =
-    let a = c.before.before.before in
-    let m = pushed-on (goal.at.returns c).After-above-first in
-    pushes (begun m).requires (mid-is m) (first (goal.at.returns c).After-above-first) (first-is (goal.at.returns c).After-above-first) c.put_run.ensures
+    let a = (goal.at.returns c).After-above-first in
+    let m = pushed-on a in
+    pushes (begun m).requires (mid-is m) (first a) (first-is a) c.put_run.ensures

@@ -12,7 +12,7 @@ use Rattle.seconds.specs.Signed.{signed, read_back_lem}
 use Rattle.codes.specs.Code.{at0, lightness}
 use Rattle.cells.specs.Spreading.{spread_none, number-least, end_is, can-count, can-run, spread-more, spread-all}
 use Rattle.cells.proofs.put_list.Goals as goal
-use Rattle.cells.proofs.put_list.Goals.{After-above, After-cells_to-end, In-loop-i, Start}
+use Rattle.cells.proofs.put_list.Goals.{After-above, After-cells_to-end, In-loop-i}
 
 pub loop-i-init : goal.loop-i-init
 loop-i-init c = spread_none _ _ _ c.requires.1
@@ -30,45 +30,39 @@ pub bounds-work-place : goal.bounds-work-place
 bounds-work-place c = there c
 
 -- The point's number.
-module _ (c : In-loop-i) where
-  abbrev turn : In-loop-i
-  turn = c
-
-  abbrev begun : Start
-  begun = turn.before.before
-
-  abbrev z : ℤ
-  z = at0 begun.args.work.now (begun.args.list.place + turn.loop-i.i)
+abbrev number : In-loop-i → ℤ
+number c = at0 c.args.work.now (c.args.list.place + c.loop-i.i)
 
 pub cells_to-end-requires : goal.cells_to-end-requires
 cells_to-end-requires c =
-    let d = (goal.at.cells_to-end-requires c).In-loop-i in
-    let f : SFits w32 (z d) = search rules in
+    let z = number (goal.at.cells_to-end-requires c).In-loop-i in
+    let f : SFits w32 z = search rules in
     let h = number-least c.requires.0 c.loop-i.invariant c.loop-i-test.true in
-    let r : to_z w32 (of_z w32 (z d)) ≡ z d = to_z-of_z f in
+    let r : to_z w32 (of_z w32 z) ≡ z = to_z-of_z f in
     omega signed
 
 -- Its cells end here.
 module _ (c : After-cells_to-end) where
-  abbrev code_read : In-loop-i
-  code_read = (goal.at.After-cells_to-end c).In-loop-i
+  abbrev turn : In-loop-i
+  turn = (goal.at.After-cells_to-end c).In-loop-i
 
-  read : to_z w32 (of_z w32 (z code_read)) ≡ z code_read
+  read : to_z w32 (of_z w32 (number turn)) ≡ number turn
   read =
-      let f : SFits w32 (z code_read) = search rules in
+      let f : SFits w32 (number turn) = search rules in
       to_z-of_z f
 
-  told : c.cells_to-end.result ≡ 512 - lightness (z code_read)
+  told : c.cells_to-end.result ≡ 512 - lightness (number turn)
   told = c.cells_to-end.ensures ∙ ap (λ (y : ℤ). 512 - lightness y) read
 
 pub overflow_sub-end : goal.overflow_sub-end
-overflow_sub-end c = omega (arith, told (goal.at.overflow_sub-end c).After-cells_to-end, end_is (begun (code_read (goal.at.overflow_sub-end c).After-cells_to-end)).requires.0 (turn (code_read (goal.at.overflow_sub-end c).After-cells_to-end)).loop-i.invariant (turn (code_read (goal.at.overflow_sub-end c).After-cells_to-end)).loop-i-test.true)
+overflow_sub-end c =
+    let e = (goal.at.overflow_sub-end c).After-cells_to-end in
+    omega (arith, told e, end_is c.requires.0 c.loop-i.invariant c.loop-i-test.true)
 
 pub above-requires : goal.above-requires
 above-requires c =
-    let d = code_read (goal.at.above-requires c).After-cells_to-end in
-    let t = turn d in
-    rw (read (goal.at.above-requires c).After-cells_to-end) (can-count (begun d).requires.0 t.loop-i.invariant t.loop-i-test.true _ (told (goal.at.above-requires c).After-cells_to-end))
+    let e = (goal.at.above-requires c).After-cells_to-end in
+    rw (read e) (can-count c.requires.0 c.loop-i.invariant c.loop-i-test.true _ (told e))
 
 module _ (c : After-above) where
   abbrev ended : After-cells_to-end
@@ -77,31 +71,24 @@ module _ (c : After-above) where
   abbrev top : ℤ
   top = to_z w32 (of_z w32 c.above.result)
 
-  top-is : top ≡ z (code_read ended) +ℤ pos (ended.cells_to-end.result - 1)
+  top-is : top ≡ number (turn ended) +ℤ pos (ended.cells_to-end.result - 1)
   top-is =
       read_back_lem c.above.result c.above.type_inv ∙ c.above.ensures
       ∙ ap (λ (y : ℤ). y +ℤ pos (ended.cells_to-end.result - 1)) (read ended)
 
 pub put_run-requires : goal.put_run-requires
-put_run-requires c =
-    let e = ended c in
-    let d = code_read e in
-    let t = turn d in
-    can-run (begun d).requires.0 t.loop-i.invariant t.loop-i-test.true _ (told e) (top c) (top-is c)
+put_run-requires c = can-run c.requires.0 c.loop-i.invariant c.loop-i-test.true _ (told (ended c)) (top c) (top-is c)
 
 pub overflow_add-i : goal.overflow_add-i
-overflow_add-i c = omega (arith, there (turn (code_read (ended (goal.at.overflow_add-i c).After-above))))
+overflow_add-i c = omega (arith, there (goal.at.overflow_add-i c).In-loop-i)
 
 pub loop-i-smaller : goal.loop-i-smaller
-loop-i-smaller c = omega (arith, (turn (code_read (ended (goal.at.loop-i-smaller c).After-above))).loop-i-test.true)
+loop-i-smaller c = omega (arith, c.loop-i-test.true)
 
 pub loop-i-preserved : goal.loop-i-preserved
 loop-i-preserved c =
-    let a = c.before.before in
-    let e = ended (goal.at.loop-i-preserved c).After-above in
-    let d = code_read e in
-    let t = turn d in
-    spread-more (begun d).requires.0 t.loop-i.invariant t.loop-i-test.true _ (told e) (top (goal.at.loop-i-preserved c).After-above) (top-is (goal.at.loop-i-preserved c).After-above) c.put_run.ensures
+    let a = (goal.at.loop-i-preserved c).After-above in
+    spread-more c.requires.0 c.loop-i.invariant c.loop-i-test.true _ (told (ended a)) (top a) (top-is a) c.put_run.ensures
 
 pub shape_of-row : goal.shape_of-row
 shape_of-row c = c.loop-i.invariant.cells.size ∙ sym c.requires.0.size

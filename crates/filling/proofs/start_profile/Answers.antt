@@ -1,4 +1,6 @@
 -- `filling::start_profile` meets its contract: the points before a place of the numbers stand. Assumes nothing.
+use borrow.Author.Rules.{rules}
+use mir.Facts.{to_z-of_z}
 use Prim.Native.Nat.{◌-◌, ◌<◌}
 use mathlib.Core.Path.{◌≡◌, sym, ap, ap₂, ◌∙◌}
 use native.Mathlib.Omega.{arith}
@@ -48,7 +50,7 @@ overflow_cast-weight c = rw (weight-back (goal.at.overflow_cast-weight c).In-loo
 pub code_of-requires : goal.code_of-requires
 code_of-requires c =
     let time = time_at (begun (goal.at.code_of-requires c).In-loop-i).args.numbers.now c.loop-i.i in
-    let time-back : to_z w32 (of_z w32 time) ≡ time = read_back_lem time c.code_of-arg-1.given in
+    let time-back : to_z w32 (of_z w32 time) ≡ time = to_z-of_z {w = w32} {z = time} (search rules) in
     rw (time-back, weight-back (goal.at.code_of-requires c).In-loop-i) ((within (goal.at.code_of-requires c).In-loop-i).time, (within (goal.at.code_of-requires c).In-loop-i).weight-1)
 
 -- The turn in which a point is coded.
@@ -75,7 +77,7 @@ loop-i-preserved c =
     let d = turn c in
     let ns = (begun d).args.numbers.now in
     let i = d.loop-i.i in
-    let time-back : to_z w32 (of_z w32 (time_at ns i)) ≡ time_at ns i = read_back_lem (time_at ns i) c.code_of-arg-1.given in
+    let time-back : to_z w32 (of_z w32 (time_at ns i)) ≡ time_at ns i = to_z-of_z {w = w32} {z = (time_at ns i)} (search rules) in
     let is : to_z w32 (of_z w32 c.code_of_lem.result) ≡ code_of (time_at ns i) (nat_abs (weight_at ns i)) =
     read_back_lem c.code_of_lem.result c.code_of_lem.type-inv
     ∙ c.code_of_lem.ensures ∙ ap₂ code_of time-back (ap nat_abs (weight-back d)) in

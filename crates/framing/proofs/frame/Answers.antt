@@ -1,7 +1,6 @@
 -- `framing::frame` meets its contract: the verdict on the jobs that are given, then their frame; then the order is made.
 -- Assumes nothing.
 use mathlib.Core.Path.{sym, ap, ◌∙◌}
-use borrow.Author.Rules.{rules}
 use Rattle.judge.specs.Told.{told-fine}
 use Rattle.frames.specs.Frames.{given_checks}
 use Rattle.frames.specs.Facts.{GivenFine}

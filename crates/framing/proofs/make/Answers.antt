@@ -1,10 +1,9 @@
 -- `framing::make` meets its contract: the repeats are counted and weighed, then the room; then the header and the repeats are
 -- written. Assumes nothing.
 use mathlib.Core.Path.{ap, ◌∙◌}
-use borrow.Author.Rules.{rules}
 use Rattle.pack.specs.Writing.{first_records}
 use Rattle.frames.specs.Frames.{frame_numbers}
-use Rattle.framing.specs.AnswerLaws.{frames-many, frames-heavy, frames-no-room, header-room, can_write, frames-written}
+use Rattle.framing.specs.AnswerLaws.{frames-many, frames-heavy, frames-no-room, frames-written}
 use Rattle.framing.specs.declared.Framed.TheVariants.{Refused}
 use Rattle.framing.proofs.make.Goals as goal
 use Rattle.framing.proofs.make.Goals.{After-put_header, After-totals_of-made, After-write_repeats, Else-count-gt-MOST_JOBS, Else-order-written, Else-weight-gt-MOST_WEIGHT}

@@ -1,9 +1,13 @@
 -- `gathering::gather` meets its contract: between turns the points of the cells before x are written. Assumes nothing.
+use mir.Syntax.{w32}
+use mir.Val.{SFits}
+use mir.Facts.{to_z-of_z}
+use borrow.Author.Rules.{rules}
 use Prim.Native.Nat.{suc, ◌+◌, ◌<◌}
 use mathlib.Core.Path.{◌≡◌}
 use native.Mathlib.Omega.{arith}
 use lib.ListN.{length}
-use Rattle.seconds.specs.Signed.{read_back_lem}
+use Rattle.codes.specs.Code.{at0}
 use Rattle.gathering.specs.PointsLaws.{gather_none, gather-room, gather-more}
 use Rattle.gathering.proofs.gather.Goals as goal
 use Rattle.gathering.proofs.gather.Goals.{In-loop-x}
@@ -45,12 +49,13 @@ loop-x-smaller c = omega (arith, c.loop-x-test.true)
 pub loop-x-preserved : goal.loop-x-preserved
 loop-x-preserved c =
     let k = c.before in
-    let r = k.before.before in
     let t : In-loop-x = (goal.at.loop-x-preserved c).In-loop-x in
     let i = t.loop-x.invariant in
+    let a-fits : SFits w32 (at0 t.args.row.now t.loop-x.x) = search rules in
+    let b-fits : SFits w32 (at0 t.args.row.now (t.loop-x.x + 1)) = search rules in
     let next : t.loop-x.x + 1 ≡ suc t.loop-x.x = omega arith in (
       gather-more t.requires i.0 t.loop-x-test.true (t.loop-x.x + 1) next _ _
-          (read_back_lem _ r.a-1.given) (read_back_lem _ r.b-1.given) _ _ k.keep-n.ensures.place k.keep-n.ensures.written,
+          (to_z-of_z a-fits) (to_z-of_z b-fits) _ _ k.keep-n.ensures.place k.keep-n.ensures.written,
       omega (arith, t.loop-x-test.true),
     )
 

@@ -1,5 +1,7 @@
 -- `report::put_jobs` meets its contract. The loop's invariant: the lines of the jobs passed are written, and each has at most
 -- 23 bytes. Assumes nothing.
+use borrow.Author.Rules.{rules}
+use mir.Facts.{to_z-of_z}
 use Prim.Native.Nat.{ℕ, ◌-◌, ◌≤◌, ◌<◌}
 use mathlib.Core.Path.{◌≡◌}
 use mathlib.Core.List.{List}
@@ -93,7 +95,7 @@ loop-i-preserved c =
     let loop = read.loop-i in
     let starts = (entry read).args.starts.now in
     let room : place read < length starts = omega (arith, (entry read).requires.places) in
-    let start_back = read_back_lem (get_or starts (place read) (pos 0)) put.start-1.given in
+    let start_back = to_z-of_z {w = w32} {z = (get_or starts (place read) (pos 0))} (search rules) in
     let next : Wrote _ _ (job_line (job_in (bytes read) (place read)).number (get_or starts (place read) (pos 0))) _ _ =
     rw (number-there read, start_back) at put.put_job-next.ensures.wrote in
     (omega arith, omega arith, rw (listed_more (bytes read) starts (place read) room) (wrote-more loop.invariant.2 next))

@@ -3,7 +3,6 @@ use Prim.Native.Nat.{◌-◌}
 use mathlib.Core.Path.{ap, ◌∙◌}
 use lib.IntN.{ℤ}
 use mir.Facts.{to_z-of_z}
-use borrow.Author.Rules.{rules}
 use Rattle.codes.specs.Code.{lightness}
 use Rattle.sweeping.proofs.cells_left.Goals as goal
 use Rattle.sweeping.proofs.cells_left.Goals.{Start}

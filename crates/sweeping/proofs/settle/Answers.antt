@@ -8,7 +8,6 @@ use mir.Syntax.{w32}
 use mir.Val.{SFits, to_z, of_z}
 use mir.Facts.{to_z-of_z}
 use borrow.Author.Rules.{rules}
-use Rattle.seconds.specs.Signed.{read_back_lem}
 use Rattle.codes.specs.Code.{at0, end_of, lightness}
 use Rattle.sweeping.specs.Sweep.{Carried}
 use Rattle.sweeping.specs.SweepLaws.{none-settled, carried-least, can-settle, settles, settled-room}

@@ -8,7 +8,7 @@ use mir.Syntax.{w32}
 use mir.Val.{SFits, to_z, of_z}
 use mir.Facts.{to_z-of_z}
 use borrow.Author.Rules.{rules}
-use Rattle.seconds.specs.Signed.{signed, read_back_lem}
+use Rattle.seconds.specs.Signed.{signed}
 use Rattle.codes.specs.Code.{at0, lightness}
 use Rattle.stepping.specs.Stepping.{last_start}
 use Rattle.sweeping.specs.SweepLaws.{can-seek, none-counted, some-counted, found-least, unready-counted}

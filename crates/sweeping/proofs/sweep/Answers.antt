@@ -2,7 +2,6 @@
 -- Assumes nothing.
 use mathlib.Core.Path.{sym, ◌∙◌}
 use native.Mathlib.Omega.{arith}
-use borrow.Author.Rules.{rules}
 use Rattle.sweeping.specs.SweepLaws.{can-count, left-swept}
 use Rattle.sweeping.proofs.sweep.Goals as goal
 use Rattle.sweeping.proofs.sweep.Goals.{After-startable_cells-many, After-sweep_started, After-wipe_if, Else-many-eq0, Start, Then-many-eq0}

@@ -1,7 +1,6 @@
 -- `sweeping::wipe_if` meets its contract. Assumes nothing.
 use mathlib.Core.Path.{sym, subst}
 use mathlib.Core.Bool.{Bool}
-use borrow.Author.Rules.{rules}
 use Rattle.codes.specs.Code.{past_all}
 use Rattle.cells.specs.Cells.{wide, Put}
 use Rattle.sweeping.specs.Sweep.{Wiped}
