@@ -1,4 +1,3 @@
--- What the walks share, and what is proved of the calls' contracts.
-pub mod Parts
+-- What is proved of the calls' contracts.
 pub mod Determined
 pub mod StandingLaws

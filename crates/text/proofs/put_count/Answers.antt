@@ -37,7 +37,10 @@ shape_of-out c = simp length-set c.loop-left.invariant.kept
 
 pub returns : goal.returns
 returns c =
-    let start = c.before.before in (record { wrote = wrote
+    let start = c.before.before in (record {
+      wrote = wrote
           (filling-all c.loop-left.invariant (omega arith))
           (ap (λ (n : ℕ). start.args.at + n) start.figure_count.ensures)
-          (omega (arith, some-figures (goal.at.returns c).After-figure_count)); upper_bound = omega (arith, some-figures (goal.at.returns c).After-figure_count) })
+          (omega (arith, some-figures (goal.at.returns c).After-figure_count));
+      upper_bound = omega (arith, some-figures (goal.at.returns c).After-figure_count);
+    })
