@@ -1,5 +1,6 @@
 -- `packed_answers::step_answer` meets its contract: each arm is a case of the answer.
 -- Assumes nothing.
+use borrow.Author.Rules.{rules}
 use Prim.Native.Nat.{◌<◌, ◌^◌}
 use mathlib.Core.Path.{◌≡◌, sym, ap, ◌∙◌}
 use lib.Signed.{mag}
@@ -21,10 +22,6 @@ use Rattle.packed_answers.proofs.step_answer.Goals as goal
 abbrev step_from : Moved → Read → StepAnswer
 step_from m r = step_numbers (record { answer = r; place = m.place })
 
--- What is told of a number's range.
-fits-32 : {z : ℤ} → mag z < 2 ^ hbits w32 → SFits w32 z
-fits-32 f = record { sfits = f }
-
 -- A job of the same seven numbers.
 seven : {n n' p p' c c' w w' r r' l l' d d' : ℤ} → n ≡ n' → p ≡ p' → c ≡ c' → w ≡ w' → r ≡ r' → l ≡ l' → d ≡ d'
     → ◌≡◌ {A = Job}
@@ -36,10 +33,9 @@ seven n p c w r l d =
 pub returns-in-Refused : goal.returns-in-Refused
 returns-in-Refused c =
     let m = c.args.moved in
-    let given = c.answer-1.given in
-    let told = no_job given.0.0 0 m.place in
+    let told = no_job c.in-Refused.refusal 0 m.place in
     let made : c.no_job.result ≡ told = c.no_job.ensures in
-    made ∙ sym (ap (step_from m) given.1)
+    made ∙ sym (ap (step_from m) c.in-Refused.is)
 
 pub returns-in-End : goal.returns-in-End
 returns-in-End c =
@@ -51,14 +47,13 @@ returns-in-End c =
 pub returns-in-Job : goal.returns-in-Job
 returns-in-Job c =
     let m = c.args.moved in
-    let given = c.answer-in-Job-1.given in
-    let told = c.struct_told-1.given in
-    let number = to_z-of_z (fits-32 told.0.1) in
-    let pack = to_z-of_z (fits-32 told.1.0.1) in
-    let critical = to_z-of_z (fits-32 told.1.1.0.1) in
-    let weight = to_z-of_z (fits-32 told.1.1.1.0.1) in
-    let ready = to_z-of_z (fits-32 told.1.1.1.1.0.1) in
-    let length = to_z-of_z (fits-32 told.1.1.1.1.1.0.1) in
-    let deadline = to_z-of_z (fits-32 told.1.1.1.1.1.1.0.1) in
-    let again = seven number pack critical weight ready length deadline in
-    ap (λ (k : Job). step_from m (read.Job k)) again ∙ sym (ap (step_from m) given.1)
+    let j = c.in-Job.job in
+    let number-fits : SFits w32 j.number = search rules in
+    let pack-fits : SFits w32 j.pack = search rules in
+    let critical-fits : SFits w32 j.critical = search rules in
+    let weight-fits : SFits w32 j.weight = search rules in
+    let ready-fits : SFits w32 j.ready = search rules in
+    let length-fits : SFits w32 j.length = search rules in
+    let deadline-fits : SFits w32 j.deadline = search rules in
+    let again = seven (to_z-of_z number-fits) (to_z-of_z pack-fits) (to_z-of_z critical-fits) (to_z-of_z weight-fits) (to_z-of_z ready-fits) (to_z-of_z length-fits) (to_z-of_z deadline-fits) in
+    ap (λ (k : Job). step_from m (read.Job k)) again ∙ sym (ap (step_from m) c.in-Job.is)

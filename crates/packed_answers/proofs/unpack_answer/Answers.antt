@@ -15,6 +15,5 @@ returns-in-Refused c = sym (ap unpack_numbers c.in-Refused.is)
 
 pub returns-in-Jobs : goal.returns-in-Jobs
 returns-in-Jobs c =
-    let given = c.unpacked-in-Jobs-1.given in
-    let fits : SFits w32 given.0.1.0 = search rules in
-    ap (λ (t0 : ℤ). unpack_numbers (Jobs given.0.0 t0)) (to_z-of_z fits) ∙ sym (ap unpack_numbers given.1)
+    let fits : SFits w32 c.in-Jobs.t0 = search rules in
+    ap (λ (t0 : ℤ). unpack_numbers (Jobs c.in-Jobs.jobs t0)) (to_z-of_z fits) ∙ sym (ap unpack_numbers c.in-Jobs.is)

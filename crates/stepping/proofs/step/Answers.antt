@@ -1,5 +1,5 @@
 -- `stepping::step` meets its contract: the tests are those of the three cases. Assumes nothing.
-use Rattle.std.proofs.Common.{◌≡◌, ◌+◌, ◌-◌, ◌∙◌, sym, true, false, arith, rules, w32, to_z, of_z, to_z-of_z}
+use Rattle.std.proofs.Common.{◌≡◌, ◌+◌, ◌-◌, ◌∙◌, sym, true, false, arith, rules, w32, to_z-of_z}
 use mir.Val.{SFits}
 use Rattle.std.specs.Int.Signed.{lt_z}
 use Rattle.points.specs.Steps.{too_late}
