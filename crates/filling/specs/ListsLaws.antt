@@ -67,6 +67,7 @@ job-single zs w = record { rate = record { takes = nat_abs (the_length zs); gain
 
 -- A member of jobs within the limits is within them.
 within_in : (js : List Job) → T (jobs_within js) → (j : Job) → In j js → JobWithin j
+within_in [] t j x'' = elim x'' [ ]
 within_in (k ∷ js) t j (head e) = rw e (jobs-within k js t).0
 within_in (k ∷ js) t j (tail m) = within_in js (jobs-within k js t).1 j m
 

@@ -38,7 +38,7 @@ module _ (turn : In-loop-k) where
   begun = start (goal.at.In-loop-k turn).After-buffer-pushed
 
   below : turn.loop-k.k < begun.args.n
-  below = omega (arith, turn.loop-k-test.taken, turn.loop-k.invariant.2)
+  below = omega (arith, turn.loop-k-test.true, turn.loop-k.invariant.2)
 
   few : turn.loop-k.k < 48
   few = let f = begun.requires.filling in omega (arith, below, f.jobs, f.order.header.few)
@@ -83,7 +83,7 @@ overflow_add-weight c =
 -- ---- its notes
 
 abbrev noting : After-list_one-next → After-list_one-next
-noting c = c.before.before.before.before
+noting c = c.before.before
 
 pub overflow_add-k : goal.overflow_add-k
 overflow_add-k c = omega (arith, few (turn (noting (goal.at.overflow_add-k c).After-list_one-next)))
