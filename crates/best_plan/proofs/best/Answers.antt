@@ -17,7 +17,7 @@ pub returns-in-Refused : goal.returns-in-Refused
 returns-in-Refused c =
     let j : After-judge_sent = (goal.at.returns-in-Refused c).After-judge_sent in
     let a = j.args in
-    best-stopped a.order.now a.plan.now a.work-1.now c.in-Refused.refusal (sym j.judge_sent.ensures ∙ c.in-Refused.is)
+    best-stopped a.order.now a.plan.now a.work.now c.in-Refused.refusal (sym j.judge_sent.ensures ∙ c.in-Refused.is)
 
 pub returns-in-Fine : goal.returns-in-Fine
 returns-in-Fine c = c.best_within.ensures

@@ -18,7 +18,7 @@ returns-then-work-lt-AREA c =
     let start : Start = (goal.at.Then-work-lt-AREA short).Start in
     let a = start.args in
     rw c.plainly.ensures
-    (no_room (rule_of a.tie) a.first.now a.second.now a.t a.work-1.now start.requires short.if-work-lt-AREA.true)
+    (no_room (rule_of a.tie) a.first.now a.second.now a.t a.work.now start.requires short.if-work-lt-AREA.true)
 
 -- There is room: the part lent is as long as the area.
 module _ (roomy : Else-work-lt-AREA) where
@@ -43,8 +43,8 @@ returns c =
     let roomy : Else-work-lt-AREA = (goal.at.After-weigh_both-won weighed).Else-work-lt-AREA in
     let a = (start roomy).args in
     let part = weighed.weigh_both-won.new.work in
-    let rest = drop area a.work-1.now in
+    let rest = drop area a.work.now in
     let long : length part ≡ area = omega (arith, lent roomy) in
-    compared (rule_of a.tie) a.first.now a.second.now a.t a.work-1.now (start roomy).requires (part ++ rest)
+    compared (rule_of a.tie) a.first.now a.second.now a.t a.work.now (start roomy).requires (part ++ rest)
     roomy.if-work-lt-AREA.false (rw (to_z-of_z (start roomy).ranges.t) at weighed.weigh_both-won.ensures) (drop_at part rest area long)
     cleared.clear.ensures

@@ -16,7 +16,7 @@ pub returns-in-Refused : goal.returns-in-Refused
 returns-in-Refused c =
     let j : After-judge_jobs = (goal.at.returns-in-Refused c).After-judge_jobs in
     let a = j.args in
-    extend-stopped a.profile.now a.bytes.now a.out-1.now a.work-1.now c.in-Refused.refusal
+    extend-stopped a.profile.now a.bytes.now a.out.now a.work.now c.in-Refused.refusal
     (sym j.judge_jobs.ensures ∙ c.in-Refused.is)
 
 pub returns-in-Fine : goal.returns-in-Fine

@@ -7,17 +7,17 @@ use Rattle.feeding.proofs.feed.Goals as goal
 pub returns-then-feed-lt-FEED : goal.returns-then-feed-lt-FEED
 returns-then-feed-lt-FEED c =
     let a = c.args in
-    numbers-short a.feed-1.now a.front-1.now a.piece.now a.work-1.now c.if-feed-lt-FEED.true
+    numbers-short a.feed.now a.front.now a.piece.now a.work.now c.if-feed-lt-FEED.true
 
 pub returns-then-front-lt-FRONT : goal.returns-then-front-lt-FRONT
 returns-then-front-lt-FRONT c =
     let a = c.args in
-    front-short a.feed-1.now a.front-1.now a.piece.now a.work-1.now c.if-feed-lt-FEED.false c.if-front-lt-FRONT.true
+    front-short a.feed.now a.front.now a.piece.now a.work.now c.if-feed-lt-FEED.false c.if-front-lt-FRONT.true
 
 pub returns-then-work-lt-AREA : goal.returns-then-work-lt-AREA
 returns-then-work-lt-AREA c =
     let a = c.args in
-    area-short a.feed-1.now a.front-1.now a.piece.now a.work-1.now c.if-feed-lt-FEED.false c.if-front-lt-FRONT.false (omega (arith, c.if-work-lt-AREA.true))
+    area-short a.feed.now a.front.now a.piece.now a.work.now c.if-feed-lt-FEED.false c.if-front-lt-FRONT.false (omega (arith, c.if-work-lt-AREA.true))
 
 pub take_piece-requires : goal.take_piece-requires
 take_piece-requires c =
@@ -32,11 +32,11 @@ pub returns-then-is_state : goal.returns-then-is_state
 returns-then-is_state c =
     let a = c.args in
     let t = c.take_piece in
-    piece-taken a.feed-1.now a.front-1.now a.piece.now a.work-1.now c.if-feed-lt-FEED.false c.if-front-lt-FRONT.false (omega (arith, c.if-work-lt-AREA.false))
+    piece-taken a.feed.now a.front.now a.piece.now a.work.now c.if-feed-lt-FEED.false c.if-front-lt-FRONT.false (omega (arith, c.if-work-lt-AREA.false))
     (sym c.is_state.ensures ∙ c.if-is_state.true) t.result t.new.feed t.new.front t.new.work t.ensures
 
 pub returns : goal.returns
 returns c =
     let a = c.args in
-    no-state a.feed-1.now a.front-1.now a.piece.now a.work-1.now c.if-feed-lt-FEED.false c.if-front-lt-FRONT.false (omega (arith, c.if-work-lt-AREA.false))
+    no-state a.feed.now a.front.now a.piece.now a.work.now c.if-feed-lt-FEED.false c.if-front-lt-FRONT.false (omega (arith, c.if-work-lt-AREA.false))
     (sym c.is_state.ensures ∙ c.if-is_state.false)

@@ -35,7 +35,7 @@ returns-then-is_over c =
           sym (run-over (seen c.loop-at.state c.loop-at.figures c.loop-at.front) (drop c.loop-at.at a.piece.now) over) ∙ c.loop-at.invariant.3;
       less =
           λ begun. omega
-          (arith, left_over c.loop-at.state c.loop-at.figures over, left-some a.begun a.figures-1.now a.front-1.now c.requires.sound begun);
+          (arith, left_over c.loop-at.state c.loop-at.figures over, left-some a.begun a.figures.now a.front.now c.requires.sound begun);
       behind = c.loop-at.invariant.4;
       beyond = c.loop-at.invariant.5;
     }

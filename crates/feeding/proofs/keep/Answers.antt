@@ -9,7 +9,7 @@ use Rattle.feeding.proofs.keep.Goals as goal
 pub returns-then-got-ge-FRONT : goal.returns-then-got-ge-FRONT
 returns-then-got-ge-FRONT c =
     let a = c.args in
-    sym (kept_full a.front-1.now a.got (take a.n (drop a.at a.piece.now)) c.if-got-ge-FRONT.true)
+    sym (kept_full a.front.now a.got (take a.n (drop a.at a.piece.now)) c.if-got-ge-FRONT.true)
 
 pub copy-requires : goal.copy-requires
 copy-requires c =
@@ -18,8 +18,8 @@ copy-requires c =
 pub returns : goal.returns
 returns c =
     let a = c.args in
-    let put : c.copy.new.front ≡ kept_in a.front-1.now a.got (take c.least-m.result (drop a.at a.piece.now)) =
+    let put : c.copy.new.front ≡ kept_in a.front.now a.got (take c.least-m.result (drop a.at a.piece.now)) =
     c.copy.ensures in
     put
-    ∙ keep-least a.front-1.now a.got (drop a.at a.piece.now) a.n c.least-m.result
+    ∙ keep-least a.front.now a.got (drop a.at a.piece.now) a.n c.least-m.result
     (omega (arith, length-drop a.at a.piece.now, c.requires.has)) c.if-got-ge-FRONT.false c.least-m.ensures

@@ -6,13 +6,13 @@ use Rattle.feeding.proofs.one_turn.Goals as goal
 pub returns-then-known-eq0 : goal.returns-then-known-eq0
 returns-then-known-eq0 c =
     let a = c.args in
-    turn-high a.part a.figures-1.now a.front-1.now a.piece.now a.at a.work-1.now c.requires c.if-known-eq0.true c.wide-high.result c.wide-high.ensures.value c.wide-high.ensures.upper_bound
+    turn-high a.part a.figures.now a.front.now a.piece.now a.at a.work.now c.requires c.if-known-eq0.true c.wide-high.result c.wide-high.ensures.value c.wide-high.ensures.upper_bound
 
 pub settle-begun-requires : goal.settle-begun-requires
 settle-begun-requires c =
     let a = c.args in
     record {
-      can = few-enough a.part a.figures-1.now a.front-1.now a.piece.now a.at a.work-1.now c.requires;
+      can = few-enough a.part a.figures.now a.front.now a.piece.now a.at a.work.now c.requires;
       wide = c.requires.sound.wide;
       most = omega (arith, c.requires.sound.half c.if-known-eq1.true, c.wide-low.ensures.upper_bound);
       come = omega arith;
@@ -21,7 +21,7 @@ settle-begun-requires c =
 pub returns-then-known-eq1 : goal.returns-then-known-eq1
 returns-then-known-eq1 c =
     let a = c.args in
-    turn_low a.part a.figures-1.now a.front-1.now a.piece.now a.at a.work-1.now c.requires c.if-known-eq1.true c.wide-low.result c.wide-low.ensures.value
+    turn_low a.part a.figures.now a.front.now a.piece.now a.at a.work.now c.requires c.if-known-eq1.true c.wide-low.result c.wide-low.ensures.value
     c.settle-begun.result c.settle-begun.new.figures c.settle-begun.new.work c.settle-begun.ensures
 
 pub overflow_sub-size : goal.overflow_sub-size
@@ -47,7 +47,7 @@ settle-more-requires c =
     let a = c.args in
     let left = c.requires.sound.inside (omega (arith, two)) in
     record {
-      can = few-enough a.part a.figures-1.now a.front-1.now a.piece.now a.at a.work-1.now c.requires;
+      can = few-enough a.part a.figures.now a.front.now a.piece.now a.at a.work.now c.requires;
       wide = omega (arith, c.requires.sound.wide, c.keep.auto.0);
       most = c.requires.sound.most;
       come = omega (arith, c.least-n.ensures, left);
@@ -57,5 +57,5 @@ pub returns : goal.returns
 returns c =
     let two = known_two c.args.part.known c.requires.sound.few c.if-known-eq0.false c.if-known-eq1.false in
     let a = c.args in
-    turn_more a.part a.figures-1.now a.front-1.now a.piece.now a.at a.work-1.now c.requires two c.least-n.result c.least-n.ensures c.keep.new.front
+    turn_more a.part a.figures.now a.front.now a.piece.now a.at a.work.now c.requires two c.least-n.result c.least-n.ensures c.keep.new.front
     c.keep.ensures c.settle-more.result c.settle-more.new.figures c.settle-more.new.work c.settle-more.ensures

@@ -12,8 +12,8 @@ feed_piece-part-requires c =
     let a = c.args in
     record {
       space = c.requires.space;
-      sound = state-sound c.part_in-begun.result a.feed-1.now a.front-1.now (omega (arith, c.requires.long)) c.requires.wide
-          (ap (λ (q : Part). is_state (seen q a.feed-1.now a.front-1.now)) c.part_in-begun.ensures ∙ c.requires.state);
+      sound = state-sound c.part_in-begun.result a.feed.now a.front.now (omega (arith, c.requires.long)) c.requires.wide
+          (ap (λ (q : Part). is_state (seen q a.feed.now a.front.now)) c.part_in-begun.ensures ∙ c.requires.state);
     }
 
 pub put_part-requires : goal.put_part-requires
@@ -24,7 +24,7 @@ put_part-requires c =
 pub returns : goal.returns
 returns c =
     let a = c.args in
-    taken-by a.feed-1.now a.front-1.now a.piece.now a.work-1.now c.requires.long c.part_in-begun.result c.part_in-begun.ensures
+    taken-by a.feed.now a.front.now a.piece.now a.work.now c.requires.long c.part_in-begun.result c.part_in-begun.ensures
     c.feed_piece-part.result c.feed_piece-part.new.figures c.feed_piece-part.new.front c.feed_piece-part.new.work c.feed_piece-part.ensures
     c.feed_piece-part.auto.1.0 c.is_over-many.result c.is_over-many.ensures c.put_part.new.feed c.put_part.ensures
     c.clear.new.work c.clear.ensures c.refusal_if.result c.refusal_if.ensures

@@ -16,7 +16,7 @@ use Rattle.filling.proofs.fill_by_cells.Goals.{After-buffer-pushed, After-cells_
 
 -- Where the code starts, seen from where the buffer is made.
 abbrev start : After-buffer-pushed → Start
-start c = c.before.before.before.before
+start c = (goal.at.After-buffer-pushed c).Start
 
 pub spread-requires : goal.spread-requires
 spread-requires c =
@@ -46,10 +46,10 @@ module _ (turn : In-loop-k) where
   own : Filling begun.args.bytes.now begun.requires.count begun.requires.work₀ turn.loop-k.k turn.loop-k.list true
       turn.loop-k.points turn.loop-k.weight turn.loop-k.places turn.loop-k.counts
       turn.loop-k.work turn.loop-k.row
-  own = let g = begun.requires in turn.loop-k.invariant.0 g.count g.work-1₀ g.can g.filled
+  own = let g = begun.requires in turn.loop-k.invariant.0 g.count g.work₀ g.can g.filled
 
   few : turn.loop-k.k < 48
-  few = let f = begun.requires.can in omega (arith, turn.loop-k-test.taken, f.jobs, f.order.header.few)
+  few = let f = begun.requires.can in omega (arith, turn.loop-k-test.true, f.jobs, f.order.header.few)
 
 pub slice_bounds-cells_one-end : goal.slice_bounds-cells_one-end
 slice_bounds-cells_one-end c = sym c.loop-k.invariant.7
@@ -72,14 +72,14 @@ module _ (filled : After-cells_one-next) where
       → Filling (begun turn).args.bytes.now count first (turn.loop-k.k + 1) (carried_as filled.cells_one-next.result) true
       (turn.loop-k.points + filled.cells_one-next.result.points) (turn.loop-k.weight + filled.cells_one-next.result.weight)
       (set turn.loop-k.places (turn.loop-k.k + 1) filled.cells_one-next.result.place)
-      (set turn.loop-k.counts (turn.loop-k.k + 1) filled.cells_one-next.result.count) filled.cells_one-next.last.0
-      filled.cells_one-next.last.1.1.1.1.1.0
-  one_more count first can f = filling-more can f turn.loop-k-test.taken filled.cells_one-next.ensures
+      (set turn.loop-k.counts (turn.loop-k.k + 1) filled.cells_one-next.result.count) filled.cells_one-next.new.work
+      filled.cells_one-next.new.row
+  one_more count first can f = filling-more can f turn.loop-k-test.true filled.cells_one-next.ensures
 
   -- The sums stay small.
   small : (turn.loop-k.points + filled.cells_one-next.result.points ≤ 301 * (turn.loop-k.k + 1))
       × (turn.loop-k.weight + filled.cells_one-next.result.weight ≤ 300)
-  small = let g = (begun turn).requires in sums-small g.can (one_more g.count g.work-1₀ g.can (own turn))
+  small = let g = (begun turn).requires in sums-small g.can (one_more g.count g.work₀ g.can (own turn))
 
 pub overflow_add-points : goal.overflow_add-points
 overflow_add-points c =
@@ -93,36 +93,33 @@ overflow_add-weight c =
 
 -- ---- its notes
 
-abbrev noting : After-cells_one-next → After-cells_one-next
-noting c = c.before.before.before.before.before
-
 pub overflow_add-k : goal.overflow_add-k
-overflow_add-k c = omega (arith, few (turn (noting (goal.at.overflow_add-k c).After-cells_one-next)))
+overflow_add-k c = omega (arith, few (turn (goal.at.overflow_add-k c).After-cells_one-next))
 
 pub offset_bounds-places-k : goal.offset_bounds-places-k
-offset_bounds-places-k c = omega (arith, few (turn (noting (goal.at.offset_bounds-places-k c).After-cells_one-next)))
+offset_bounds-places-k c = omega (arith, few (turn (goal.at.offset_bounds-places-k c).After-cells_one-next))
 
 pub bounds-places-k : goal.bounds-places-k
-bounds-places-k c = let t = turn (noting (goal.at.bounds-places-k c).After-cells_one-next) in omega (arith, few t, (own t).room_places)
+bounds-places-k c = let t = turn (goal.at.bounds-places-k c).After-cells_one-next in omega (arith, few t, (own t).room_places)
 
 pub offset_bounds-counts-k : goal.offset_bounds-counts-k
-offset_bounds-counts-k c = omega (arith, few (turn (noting (goal.at.offset_bounds-counts-k c).After-cells_one-next)))
+offset_bounds-counts-k c = omega (arith, few (turn (goal.at.offset_bounds-counts-k c).After-cells_one-next))
 
 pub bounds-counts-k : goal.bounds-counts-k
-bounds-counts-k c = let t = turn (noting (goal.at.bounds-counts-k c).After-cells_one-next) in omega (arith, few t, (own t).room_counts)
+bounds-counts-k c = let t = turn (goal.at.bounds-counts-k c).After-cells_one-next in omega (arith, few t, (own t).room_counts)
 
 pub loop-k-smaller : goal.loop-k-smaller
-loop-k-smaller c = omega (arith, (turn (noting (goal.at.loop-k-smaller c).After-cells_one-next)).loop-k-test.taken)
+loop-k-smaller c = omega (arith, (turn (goal.at.loop-k-smaller c).After-cells_one-next).loop-k-test.true)
 
 pub loop-k-preserved : goal.loop-k-preserved
 loop-k-preserved c =
-    let filled = noting (goal.at.loop-k-preserved c).After-cells_one-next in
+    let filled = (goal.at.loop-k-preserved c).After-cells_one-next in
     let t = turn filled in
     let l = t.loop-k in
-    let sized : length filled.cells_one-next.last.1.1.1.1.0 ≡ length l.pushed-1 = search rules in
-    let wide-still : length filled.cells_one-next.last.1.1.1.1.1.0 ≡ length l.row-1 = search rules in (
+    let sized : length filled.cells_one-next.new.pushed ≡ length l.pushed = search rules in
+    let wide-still : length filled.cells_one-next.new.row ≡ length l.row = search rules in (
       (λ count first can sofar. one_more filled count first can (l.invariant.0 count first can sofar)),
-      omega (arith, t.loop-k-test.taken),
+      omega (arith, t.loop-k-test.true),
       filled.cells_one-next.ensures.buffer,
       filled.cells_one-next.ensures.size ∙ l.invariant.3,
       length-set l.places (l.k + 1) filled.cells_one-next.result.place ∙ l.invariant.4,

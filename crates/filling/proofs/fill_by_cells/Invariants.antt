@@ -13,7 +13,7 @@ use Rattle.filling.proofs.fill_by_cells.Given as goal
 abbrev pub invariant-loop-k : goal.invariant-loop-k
 invariant-loop-k l =
     ((count : ℕ) (first : List ℤ) → CanFill l.bytes l.n count first
-    → FilledSofar l.bytes l.n count first (record { jobs = l.initial.k; place = l.initial.list.place; count = l.initial.list.count; l.points = l.initial.points; l.weight = l.initial.weight })
+    → FilledSofar l.bytes l.n count first (record { jobs = l.initial.k; place = l.initial.list.place; count = l.initial.list.count; points = l.initial.points; weight = l.initial.weight })
     l.initial.places l.initial.counts l.initial.work
     → Filling l.bytes count first l.k l.list true l.points l.weight l.places l.counts l.work l.row)
     × (l.k ≤ l.n)

@@ -14,7 +14,7 @@ use Rattle.filling.proofs.fill_by_lists.Goals.{After-buffer-pushed, After-list_o
 
 -- Where the code starts, seen from where the first list's count is read.
 abbrev start : After-buffer-pushed → Start
-start c = c.before.before.before.before.before
+start c = (goal.at.After-buffer-pushed c).Start
 
 pub bounds-counts-0 : goal.bounds-counts-0
 bounds-counts-0 c = omega (arith, (start (goal.at.bounds-counts-0 c).After-buffer-pushed).requires.room_counts)
@@ -62,7 +62,7 @@ module _ (filled : After-list_one-next) where
       (turn.loop-k.k + 1) (listed_as filled.list_one-next.result) false
       (turn.loop-k.points + filled.list_one-next.result.count) (turn.loop-k.weight + filled.list_one-next.result.weight)
       (set turn.loop-k.places (turn.loop-k.k + 1) filled.list_one-next.result.place)
-      (set turn.loop-k.counts (turn.loop-k.k + 1) filled.list_one-next.result.count) filled.list_one-next.last.0 []
+      (set turn.loop-k.counts (turn.loop-k.k + 1) filled.list_one-next.result.count) filled.list_one-next.new.work []
   one_more = filling-more (begun turn).requires.filling turn.loop-k.invariant.0 (below turn) filled.list_one-next.ensures
 
   -- The sums stay small.
@@ -82,23 +82,20 @@ overflow_add-weight c =
 
 -- ---- its notes
 
-abbrev noting : After-list_one-next → After-list_one-next
-noting c = c.before.before
-
 pub overflow_add-k : goal.overflow_add-k
-overflow_add-k c = omega (arith, few (turn (noting (goal.at.overflow_add-k c).After-list_one-next)))
+overflow_add-k c = omega (arith, few (turn (goal.at.overflow_add-k c).After-list_one-next))
 
 pub offset_bounds-places-k : goal.offset_bounds-places-k
-offset_bounds-places-k c = omega (arith, few (turn (noting (goal.at.offset_bounds-places-k c).After-list_one-next)))
+offset_bounds-places-k c = omega (arith, few (turn (goal.at.offset_bounds-places-k c).After-list_one-next))
 
 pub bounds-places-k : goal.bounds-places-k
-bounds-places-k c = let t = turn (noting (goal.at.bounds-places-k c).After-list_one-next) in omega (arith, few t, t.loop-k.invariant.0.room_places)
+bounds-places-k c = let t = turn (goal.at.bounds-places-k c).After-list_one-next in omega (arith, few t, t.loop-k.invariant.0.room_places)
 
 pub offset_bounds-counts-k : goal.offset_bounds-counts-k
-offset_bounds-counts-k c = omega (arith, few (turn (noting (goal.at.offset_bounds-counts-k c).After-list_one-next)))
+offset_bounds-counts-k c = omega (arith, few (turn (goal.at.offset_bounds-counts-k c).After-list_one-next))
 
 pub bounds-counts-k : goal.bounds-counts-k
-bounds-counts-k c = let t = turn (noting (goal.at.bounds-counts-k c).After-list_one-next) in omega (arith, few t, t.loop-k.invariant.0.room_counts)
+bounds-counts-k c = let t = turn (goal.at.bounds-counts-k c).After-list_one-next in omega (arith, few t, t.loop-k.invariant.0.room_counts)
 
 -- The end is here or at the last job.
 between : (late : Bool) (k n : ℕ) → k ≤ n → (k ≤ cond late k n) × (cond late k n ≤ n)
@@ -106,14 +103,14 @@ between true k n h = (omega arith, h)
 between false k n h = (h, omega arith)
 
 pub loop-k-smaller : goal.loop-k-smaller
-loop-k-smaller c = omega (arith, below (turn (noting (goal.at.loop-k-smaller c).After-list_one-next)))
+loop-k-smaller c = omega (arith, below (turn (goal.at.loop-k-smaller c).After-list_one-next))
 
 pub loop-k-preserved : goal.loop-k-preserved
 loop-k-preserved c =
-    let filled = noting (goal.at.loop-k-preserved c).After-list_one-next in
+    let filled = (goal.at.loop-k-preserved c).After-list_one-next in
     let t = turn filled in
     let l = t.loop-k in
-    let sized : length filled.list_one-next.last.1.1.1.1.0 ≡ length l.pushed-1 = search rules in
+    let sized : length filled.list_one-next.new.pushed ≡ length l.pushed = search rules in
     let end = between filled.list_one-next.result.late (l.k + 1) (begun t).args.n (omega (arith, below t)) in (
       one_more filled,
       rw c.until-end.ensures end.0,

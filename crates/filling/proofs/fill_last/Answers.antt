@@ -92,7 +92,7 @@ returns-then-sofar-n c =
     let e = s.settle.ensures in
     let h = e.held _ all.many (by-cells refl all.last) in
     let a = (start made).args in
-    rw (first_count made) at (last-stands a.bytes.now (counted made) a.work-1.now e.room h.0 h.1)
+    rw (first_count made) at (last-stands a.bytes.now (counted made) a.work.now e.room h.0 h.1)
 
 pub returns : goal.returns
 returns c =
@@ -101,4 +101,4 @@ returns c =
     let e = l.fill_by_lists-sofar.ensures in
     let last = by-list refl (filling-last (can made) e.filling (omega (arith, e.order, c.if-sofar-n.false))) in
     let a = (start made).args in
-    rw (first_count made) at (last-stands a.bytes.now (counted made) a.work-1.now last.room last.held last.count)
+    rw (first_count made) at (last-stands a.bytes.now (counted made) a.work.now last.room last.held last.count)

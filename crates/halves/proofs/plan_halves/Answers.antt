@@ -31,13 +31,13 @@ add_seconds-requires c =
     let p : After-plan_order = (goal.at.add_seconds-requires c).After-plan_order in
     let e : In-Fine = (goal.at.After-plan_order p).In-Fine in
     let a = e.args in
-    plan-light a.bytes.now a.starts-1.now a.work-1.now (passed e).0 (passed e).1 p.plan_order.ensures
+    plan-light a.bytes.now a.starts.now a.work.now (passed e).0 (passed e).1 p.plan_order.ensures
 
 pub returns-in-Refused : goal.returns-in-Refused
 returns-in-Refused c =
     let j : After-judge_order_of_halves = (goal.at.returns-in-Refused c).After-judge_order_of_halves in
     let a = j.args in
-    halves-stopped a.bytes.now a.starts-1.now a.work-1.now c.in-Refused.refusal
+    halves-stopped a.bytes.now a.starts.now a.work.now c.in-Refused.refusal
     (sym j.judge_order_of_halves.ensures ∙ c.in-Refused.is)
 
 pub returns-in-Fine : goal.returns-in-Fine
@@ -46,4 +46,4 @@ returns-in-Fine c =
     let e : In-Fine = (goal.at.After-plan_order p).In-Fine in
     let a = e.args in
     rw c.add_seconds.ensures
-    (halves-done a.bytes.now a.starts-1.now a.work-1.now (passed e).0 (passed e).1 p.plan_order.ensures)
+    (halves-done a.bytes.now a.starts.now a.work.now (passed e).0 (passed e).1 p.plan_order.ensures)

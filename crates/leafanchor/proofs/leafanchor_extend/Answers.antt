@@ -11,5 +11,5 @@ returns c =
     let called : After-extend = (goal.at.returns c).After-extend in
     let a = called.args in
     let said = called.extend.ensures in
-    let numbers = ap extend_numbers {y = extended_of a.profile.now a.order.now a.out-1.now a.work-1.now} said.answer in
+    let numbers = ap extend_numbers {y = extended_of a.profile.now a.order.now a.out.now a.work.now} said.answer in
     (c.extend_answer.ensures ∙ numbers, (said.written, said.area))

@@ -7,4 +7,4 @@ pub returns : goal.returns
 returns c =
     let called : After-tell = (goal.at.returns c).After-tell in
     let e = called.tell.ensures in
-    (record { answer = c.text_answer.ensures ∙ (λ i. record { refusal = e.refusal i; bytes = e.bytes i }); lent = e.text-1 })
+    (record { answer = c.text_answer.ensures ∙ (λ i. record { refusal = e.refusal i; bytes = e.bytes i }); lent = e.text })

@@ -29,7 +29,7 @@ returns-in-Made c =
     let a = w.before in
     let p : After-plan_order = (goal.at.After-put_plan w).After-plan_order in
     let s = start p in
-    let f = a.figures-1.given in
+    let f = a.figures.given in
     write_done s.args.order.now s.args.out.now s.args.work.now s.args.starts.now s.requires
     p.plan_order.ensures f.0.0 f.1 w.put_plan.result w.put_plan.new.bytes w.put_plan.ensures.counts
     w.put_plan.ensures.writes

@@ -18,4 +18,4 @@ pub returns-in-Refused : goal.returns-in-Refused
 returns-in-Refused c =
     let j : After-judge_order = (goal.at.returns-in-Refused c).After-judge_order in
     let a = j.args in
-    write-stopped a.order.now a.out-1.now a.work-1.now c.in-Refused.refusal (sym j.judge_order.ensures ∙ c.in-Refused.is)
+    write-stopped a.order.now a.out.now a.work.now c.in-Refused.refusal (sym j.judge_order.ensures ∙ c.in-Refused.is)

@@ -19,7 +19,7 @@ returns-in-Refused c =
     let judged : After-judge_order = (goal.at.returns-in-Refused c).After-judge_order in
     let start : Start = (goal.at.After-judge_order judged).Start in
     let a = start.args in
-    plan-stopped a.bytes.now a.starts-1.now a.work-1.now c.in-Refused.refusal (sym judged.judge_order.ensures ∙ c.in-Refused.is)
+    plan-stopped a.bytes.now a.starts.now a.work.now c.in-Refused.refusal (sym judged.judge_order.ensures ∙ c.in-Refused.is)
 
 pub returns-in-Fine : goal.returns-in-Fine
 returns-in-Fine c = c.plan_order.ensures

@@ -111,7 +111,7 @@ module _ (c : In-At) where
   finish-back : to_z w32 (of_z w32 end.finish) ≡ end.finish
   finish-back = to_z-of_z {w = w32} {z = end.finish} (search rules)
 
-  is-end : At end.weight-1 end.finish ≡ found (lookup (last lists) latest_free)
+  is-end : At end.weight end.finish ≡ found (lookup (last lists) latest_free)
   is-end = sym c.in-At.is ∙ searched ended
 
 -- ---- the plan is made from there

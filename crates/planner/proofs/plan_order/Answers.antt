@@ -40,7 +40,7 @@ returns-then-starts-n c =
     let h : After-header_at-header = (goal.at.Then-starts-n short).After-header_at-header in
     let a = (start h).args in
     rw c.plainly.ensures
-    (plan-no-room a.bytes.now a.starts-1.now a.work-1.now (start h).requires (omega (arith, short.if-starts-n.true, (read h).count)))
+    (plan-no-room a.bytes.now a.starts.now a.work.now (start h).requires (omega (arith, short.if-starts-n.true, (read h).count)))
 
 pub returns-then-work-lt-AREA : goal.returns-then-work-lt-AREA
 returns-then-work-lt-AREA c =
@@ -49,7 +49,7 @@ returns-then-work-lt-AREA c =
     let h : After-header_at-header = (goal.at.Else-starts-n enough).After-header_at-header in
     let a = (start h).args in
     rw c.plainly-then-work-lt-AREA.ensures
-    (plan-no-space a.bytes.now a.starts-1.now a.work-1.now (start h).requires (omega (arith, enough.if-starts-n.false, (read h).count))
+    (plan-no-space a.bytes.now a.starts.now a.work.now (start h).requires (omega (arith, enough.if-starts-n.false, (read h).count))
     short.if-work-lt-AREA.true)
 
 -- ---- the part lent is as long as the area
@@ -81,7 +81,7 @@ returns c =
     let h = header r in
     let a = (start h).args in
     let part = planned.plan_within-answer.new.work in
-    let rest = drop area a.work-1.now in
+    let rest = drop area a.work.now in
     let long : length part ≡ area = omega (arith, lent r) in
-    plan-done a.bytes.now a.starts-1.now a.work-1.now (start h).requires (omega (arith, r.if-starts-n.left, (read h).count))
+    plan-done a.bytes.now a.starts.now a.work.now (start h).requires (omega (arith, r.if-starts-n.left, (read h).count))
     (part ++ rest) r.if-work-lt-AREA.left planned.plan_within-answer.ensures (drop_at part rest area long) cleared.clear.ensures

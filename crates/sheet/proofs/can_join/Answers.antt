@@ -12,13 +12,13 @@ abbrev second : After-is_sheet-second → Start
 second c = (goal.at.After-is_sheet-second c).Start
 
 pub overflow_cast-result : goal.overflow_cast-result
-overflow_cast-result c = omega (arith, (first c).shared_slice_known-1.given 0)
+overflow_cast-result c = omega (arith, (first c).shared_slice_known.given 0)
 
 pub overflow_cast-result-2 : goal.overflow_cast-result-2
 overflow_cast-result-2 c = omega (arith, (second c).shared_slice_known-2-1.given 0)
 
 pub overflow_add-result : goal.overflow_add-result
-overflow_add-result c = omega (arith, (first c).shared_slice_known-1.given 0, (second c).shared_slice_known-2-1.given 0)
+overflow_add-result c = omega (arith, (first c).shared_slice_known.given 0, (second c).shared_slice_known-2-1.given 0)
 
 pub returns : goal.returns
 returns c =

@@ -7,7 +7,7 @@ use Rattle.sheet.proofs.is_sheet.Goals.{Start}
 pub overflow_cast-result : goal.overflow_cast-result
 overflow_cast-result c =
     let first : Start = (goal.at.overflow_cast-result c).Start in
-    omega (arith, first.shared_slice_known-1.given 0)
+    omega (arith, first.shared_slice_known.given 0)
 
 pub returns : goal.returns
 returns c =
