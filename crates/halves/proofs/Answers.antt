@@ -36,7 +36,6 @@ use Rattle.halves.specs.Calls.{plan_halves_checks, halves_verdict, lost_in, lost
 use Rattle.halves.specs.Calls.{halves_numbers}
 use Rattle.halves.proofs.CallLaws.{lost-sixty, verdict-as-plan}
 use Rattle.halves.specs.declared.HalvesPlanned.{HalvesPlanned}
-use Rattle.halves.specs.declared.HalvesPlanned.TheVariants.{Refused, Made}
 
 -- ---- check 13
 

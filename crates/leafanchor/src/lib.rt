@@ -100,8 +100,7 @@ pub extern "C" fn leafanchor_lookup(profile: &[i32], t: i32) -> LookupAnswer
     plan_answers::lookup_answer(profiles::lookup(profile, t))
 }
 
-// The same lookup over a lent list of point records. The borrow checker does not cover a slice of structs, so this is proved
-// by hand and does nothing but call.
+// The same lookup over a lent list of point records.
 #[unsafe(no_mangle)]
 pub extern "C" fn leafanchor_lookup_records(points: &[Point], t: i32) -> LookupAnswer
     ensures { result ≡ lookup_numbers (lookup_of (flattened points.now) t) }

@@ -91,13 +91,41 @@ pub easier-gain : {new old : Job} → EasierJob NoLower new old → (x : ℕ) �
 easier-gain e zero = omega arith
 easier-gain e (suc k) = gain-at (rates-at e.rates k)
 
--- So it is of one job: what is allowed with the bus free at a time is allowed with it free earlier,
-pub allowed-earlier : (j : Job) (x : ℕ) {s t : ℤ} → s ≤ℤ t → allowed j x t ≡ true → allowed j x s ≡ true
-allowed-earlier j x h = easier-allowed (no-lower-job j j (same-job j)) h x
+-- ---- a kept job, forwards: from an earlier time it is allowed, and the bus is free, no later
 
--- and with the bus free no later, it is free again no later.
+earlier-at : (j : Job) (o : Option Rate) {s t : ℤ} → s ≤ℤ t → allowed_at j o t ≡ true → allowed_at j o s ≡ true
+earlier-at j none h e = e
+earlier-at j (some r) {s} {t} h e =
+    omega (
+      signed,
+      max-is j.ready s,
+      max-is j.ready t,
+      add_is (start_at j s) (pos r.takes),
+      add_is (start_at j t) (pos r.takes),
+    )
+
+mono_at : (j : Job) (o : Option Rate) {s t : ℤ} → s ≤ℤ t → free_at j o s ≤ℤ free_at j o t
+mono_at j none h = h
+mono_at j (some r) {s} {t} h =
+    omega (
+      signed,
+      max-is j.ready s,
+      max-is j.ready t,
+      add_is (start_at j s) (pos r.takes),
+      add_is (start_at j t) (pos r.takes),
+      add_is (finish_at j r s) (pos rest),
+      add_is (finish_at j r t) (pos rest),
+    )
+
+-- What is allowed with the bus free at a time is allowed with it free earlier.
+pub allowed-earlier : (j : Job) (x : ℕ) {s t : ℤ} → s ≤ℤ t → allowed j x t ≡ true → allowed j x s ≡ true
+allowed-earlier j zero h e = e
+allowed-earlier j (suc k) h e = earlier-at j (rate_of j k) h e
+
+-- With the bus free no later, it is free again no later.
 pub bus_free-mono : (j : Job) (x : ℕ) {s t : ℤ} → s ≤ℤ t → bus_free j x s ≤ℤ bus_free j x t
-bus_free-mono j x h = easier-free (no-lower-job j j (same-job j)) h x
+bus_free-mono j zero h = h
+bus_free-mono j (suc k) h = mono_at j (rate_of j k) h
 
 later-at : (j : Job) (o : Option Rate) (t : ℤ) → t ≤ℤ free_at j o t
 later-at j none t = omega signed

@@ -52,8 +52,8 @@ fn lookup_copied(records: [Point; MOST_READ], count: usize, t: i32) -> Finding
     profiles::lookup(&numbers[..2 * count], t)
 }
 
-// The weight of the last point at or before t. The borrow checker does not cover a slice of structs, so
-// this is proved by hand and does only what needs the slice: it copies as many records as are read.
+// The weight of the last point at or before t. It does only what needs the slice of structs: it copies as
+// many records as are read.
 pub fn lookup_records(points: &[Point], t: i32) -> Finding
     ensures { result ≡ lookup_of (flattened points.now) t }
 {
@@ -82,7 +82,7 @@ fn among(count: usize) -> usize
 }
 
 // The lookup over the first so many of a few records that are passed by value, for callers that lend no
-// slice of structs themselves. It lends them, so this too is proved by hand.
+// slice of structs themselves.
 pub fn lookup_among(points: [Point; MOST_PASSED], count: usize, t: i32) -> Finding
     ensures { result ≡ lookup_of (flattened (take count points)) t }
 {

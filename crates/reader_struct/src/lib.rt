@@ -1,7 +1,5 @@
-// A reader that stands over the caller's bytes: a struct of the packed bytes and a place. The borrow
-// checker covers no function over such a struct, so `open`, `step` and `read_at` are proved by hand;
-// each takes the struct apart and leaves the work to a covered function over the slice and the place.
-// Assumes nothing.
+// A reader that stands over the caller's bytes: a struct of the packed bytes and a place. Each function takes
+// the struct apart and leaves the work to a function over the slice and the place. Assumes nothing.
 #![tactic(auto)]
 
 ghost use Rattle.std.specs.Prelude.{◌≡◌};

@@ -1,5 +1,4 @@
 -- `area::clear` meets its contract: the first k numbers are cleared. Assumes nothing.
-use Prim.Native.Nat.{◌-◌}
 use mathlib.Core.Path.{refl, ap, ◌∙◌}
 use native.Mathlib.Omega.{arith}
 use lib.IntN.{ℤ, pos}

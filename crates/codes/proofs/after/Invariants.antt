@@ -1,5 +1,4 @@
 -- `codes::after` meets its contract: all numbers from `e` on are past the limit. Assumes nothing.
-use Prim.Native.Nat.{◌-◌}
 use Rattle.codes.specs.Cuts.{Searching}
 use Rattle.codes.proofs.after.Given as goal
 

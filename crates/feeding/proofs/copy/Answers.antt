@@ -1,5 +1,4 @@
 -- `feeding::copy` meets its contract: so many bytes of the piece are kept. Assumes nothing.
-use Prim.Native.Nat.{◌-◌}
 use mathlib.Core.Path.{◌≡◌, refl, ap, ◌∙◌}
 use native.Mathlib.Omega.{arith}
 use lib.ListN.{length, take, drop}

@@ -1,5 +1,4 @@
 -- `feeding::feed_piece` meets its contract: what is still to come of the piece, fed to the state so far, is the whole. Assumes nothing.
-use Prim.Native.Nat.{◌-◌}
 use mathlib.Core.Path.{◌≡◌, refl, sym, ap, ◌∙◌}
 use mathlib.Core.List.{[]}
 use native.Mathlib.Omega.{arith}

@@ -1,7 +1,7 @@
 -- `filling::start_profile` meets its contract: the points before a place of the numbers stand. Assumes nothing.
 use borrow.Author.Rules.{rules}
 use mir.Facts.{to_z-of_z}
-use Prim.Native.Nat.{◌-◌, ◌<◌}
+use Prim.Native.Nat.{◌<◌}
 use mathlib.Core.Path.{◌≡◌, sym, ap, ap₂, ◌∙◌}
 use native.Mathlib.Omega.{arith}
 use lib.IntN.{pos, nat_abs}
@@ -14,7 +14,7 @@ use Rattle.profiles.specs.PlacesLaws.{at-start, next-point}
 use Rattle.codes.specs.Code.{code_of}
 use Rattle.filling.specs.BeginLaws.{begin-none, next-room, next-within, begin-more, begin-all, weight-read}
 use Rattle.filling.proofs.start_profile.Goals as goal
-use Rattle.filling.proofs.start_profile.Goals.{After-code_of, In-loop-i, Start}
+use Rattle.filling.proofs.start_profile.Goals.{In-loop-i, Start}
 
 pub loop-i-init : goal.loop-i-init
 loop-i-init c = (at-start _ c.requires.valid, begin-none _ _)

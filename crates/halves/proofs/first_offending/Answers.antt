@@ -2,7 +2,7 @@
 -- are those of the jobs before it.
 -- Assumes nothing.
 use mathlib.Core.Path.{sym, ◌∙◌}
-use Prim.Native.Nat.{◌-◌, ◌<◌}
+use Prim.Native.Nat.{◌<◌}
 use native.Mathlib.Omega.{arith}
 use Rattle.fields.specs.Asked.{RecordIn}
 use Rattle.fields.specs.Facts.{record-in}

@@ -1,12 +1,10 @@
 -- `packed_answers::step_answer` meets its contract: each arm is a case of the answer.
 -- Assumes nothing.
 use borrow.Author.Rules.{rules}
-use Prim.Native.Nat.{◌<◌, ◌^◌}
 use mathlib.Core.Path.{◌≡◌, sym, ap, ◌∙◌}
-use lib.Signed.{mag}
 use lib.IntN.{ℤ}
 use mir.Syntax.{w32}
-use mir.Val.{SFits, hbits}
+use mir.Val.{SFits}
 use mir.Facts.{to_z-of_z}
 use Rattle.packed.specs.declared.Refusal.{Refusal}
 use Rattle.packed.specs.Judge.{no_refusal}

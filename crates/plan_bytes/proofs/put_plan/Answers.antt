@@ -1,6 +1,5 @@
 -- `plan_bytes::put_plan` meets its contract: the starts written are those of the jobs kept at the places passed.
 -- Assumes nothing.
-use Prim.Native.Nat.{◌-◌}
 use mathlib.Core.Path.{◌≡◌, ap, ◌∙◌}
 use mathlib.Core.List.{◌++◌}
 use native.Mathlib.Omega.{arith}

@@ -1,6 +1,6 @@
 -- `profiles::count_by` meets its contract. The loop's invariant: what is counted is what was passed and what is counted of
 -- the rest. Assumes nothing.
-use Rattle.std.proofs.Common.{ℕ, ◌+◌, ◌<◌, ◌≡◌, arith, rules, List, ℤ, ◌<ℤ◌, ◌≤ℤ◌, to_z-of_z, w32}
+use Rattle.std.proofs.Common.{ℕ, ◌+◌, ◌≡◌, arith, rules, List, ℤ, ◌<ℤ◌, ◌≤ℤ◌, to_z-of_z, w32}
 use Rattle.std.specs.Prelude.{drop}
 use mir.Val.{SFits}
 use Rattle.seconds.specs.Signed.{signed}

@@ -7,7 +7,7 @@ use native.Mathlib.Omega.{arith}
 use lib.Dec.{eqb}
 use borrow.Author.Tests.{eq-eqb, ne_eqb}
 use Rattle.packed.specs.declared.Refusal.{Refusal}
-use Rattle.packed.specs.Judge.{in_field, plainly}
+use Rattle.packed.specs.Judge.{in_field}
 use Rattle.packed.specs.Packed.{job_fields}
 use Rattle.packed.specs.Refusals.{fields_within, bad_field}
 use Rattle.packed.proofs.FieldLaws.{no-field-within}

@@ -1,6 +1,5 @@
 -- `sheet_text::put_sums` meets its contract. The loop's invariant: the lines of the numbers passed are written, and each has at most
 -- eleven bytes. Assumes nothing.
-use Prim.Native.Nat.{◌-◌}
 use mathlib.Core.Path.{◌≡◌}
 use native.Mathlib.Omega.{arith}
 use Rattle.text.specs.BufferLaws.{wrote_none, wrote-more}

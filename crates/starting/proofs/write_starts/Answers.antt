@@ -1,6 +1,6 @@
 -- `starting::write_starts` meets its contract. The loop's invariant: the starts of the jobs passed are written, and the mask
 -- has the picks of those still to come. Assumes nothing.
-use Prim.Native.Nat.{ℕ, ◌-◌, ◌≤◌}
+use Prim.Native.Nat.{ℕ, ◌≤◌}
 use mathlib.Core.Path.{◌≡◌}
 use mathlib.Core.List.{List}
 use native.Mathlib.Omega.{arith}

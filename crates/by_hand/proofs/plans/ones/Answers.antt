@@ -1,6 +1,5 @@
 -- `by_hand::plans::ones` meets its contract: each turn counts a bit at most, and leaves fewer.
 -- Assumes nothing.
-use Prim.Native.Nat.{◌-◌}
 use mathlib.Core.Logic.{⊎_elim}
 use native.Mathlib.Omega.{arith}
 use Rattle.by_hand.proofs.plans.ones.Goals as goal

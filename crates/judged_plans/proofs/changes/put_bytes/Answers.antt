@@ -1,6 +1,5 @@
 -- `judged_plans::changes::put_bytes` is safe and ends: each turn leaves fewer bytes. The plan stays as long.
 -- Assumes nothing.
-use Prim.Native.Nat.{◌-◌}
 use native.Mathlib.Omega.{arith}
 use lib.ListN.{length-set}
 use Rattle.judged_plans.proofs.changes.put_bytes.Goals as goal
