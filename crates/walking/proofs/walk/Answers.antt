@@ -37,7 +37,7 @@ abbrev start : Start → Start
 start read = read.before.before.before.before
 
 abbrev read-in : After-bit_at → After-job_in-job
-read-in c = c.before.before.before.before
+read-in c = c.before.before.before.before.before
 
 pub loop-k-init : goal.loop-k-init
 loop-k-init c = trail-start (walks (start (goal.at.loop-k-init c).Start))
