@@ -21,17 +21,6 @@ use Rattle.planner.specs.PlanningLaws.{can-start, can-fill, last-stands, nothing
 use Rattle.planner.proofs.plan_by_lists.Goals as goal
 use Rattle.planner.proofs.plan_by_lists.Goals.{After-fill_lists-totals, After-last_by, After-start_at, After-walk-mask, In-At, In-Nothing, Start}
 
--- ---- the stages of the code, each seen from a later one
-
-abbrev start : Start → Start
-start read = read
-
-abbrev begun : After-start_at → After-start_at
-begun back = back
-
-abbrev filled : tie.After-last-by-arg → After-fill_lists-totals
-filled read = read.before.before.before.before.before.before.before.before
-
 -- ---- the first list is started
 
 -- The header's time, as the code reads it back.
@@ -42,11 +31,11 @@ t0-back s =
     to_z-of_z fits
 
 pub start_at-requires : goal.start_at-requires
-start_at-requires c = let s = start (goal.at.start_at-requires c).Start in rw (t0-back s) (can-start s.requires)
+start_at-requires c = let s = (goal.at.start_at-requires c).Start in rw (t0-back s) (can-start s.requires)
 
 module _ (c : After-start_at) where
   abbrev entry : Start
-  entry = start (goal.at.After-start_at c).Start
+  entry = (goal.at.After-start_at c).Start
 
   abbrev first : List ℤ
   first = c.start_at.new.work
@@ -61,12 +50,12 @@ module _ (c : After-start_at) where
 
 pub fill_lists-totals-requires : goal.fill_lists-totals-requires
 fill_lists-totals-requires c =
-    let from : After-start_at = begun (goal.at.fill_lists-totals-requires c).After-start_at in
+    let from : After-start_at = (goal.at.fill_lists-totals-requires c).After-start_at in
     can-fill (entry from).requires (sized from) (started from)
 
 module _ (c : After-fill_lists-totals) where
   abbrev from : After-start_at
-  from = begun (goal.at.After-fill_lists-totals c).After-start_at
+  from = (goal.at.After-fill_lists-totals c).After-start_at
 
   abbrev all : List ℤ
   all = c.fill_lists-totals.new.work
@@ -90,11 +79,12 @@ module _ (c : After-fill_lists-totals) where
 
 pub last_by-requires : goal.last_by-requires
 last_by-requires c =
-    let f = filled c in
+    let f : After-fill_lists-totals = (goal.at.last_by-requires c).After-fill_lists-totals in
     let d = from f in
     last-stands (entry d).requires (sized d) (started d) (kept f) f.fill_lists-totals.ensures
 
-searched : (c : After-last_by) → c.last_by.result ≡ found (lookup (last (filled c.before)) latest_free)
+searched : (c : After-last_by)
+    → c.last_by.result ≡ found (lookup (last (goal.at.After-last_by c).After-fill_lists-totals) latest_free)
 unfolding rest
 searched c = c.last_by.ensures
 
@@ -103,7 +93,7 @@ module _ (c : In-At) where
   ended = (goal.at.In-At c).After-last_by
 
   abbrev lists : After-fill_lists-totals
-  lists = filled ended.before
+  lists = (goal.at.After-last_by ended).After-fill_lists-totals
 
   abbrev end : End
   end = record { weight = c.in-At.weight; finish = c.in-At.finish }
@@ -118,7 +108,7 @@ module _ (c : In-At) where
 
 pub walk-mask-requires : goal.walk-mask-requires
 walk-mask-requires c =
-    let e : In-At = c in
+    let e : In-At = (goal.at.walk-mask-requires c).In-At in
     let f = lists e in
     let d = from f in
     rw (finish-back e)
@@ -138,7 +128,7 @@ pub returns-in-Nothing : goal.returns-in-Nothing
 returns-in-Nothing c =
     let told : In-Nothing = (goal.at.returns-in-Nothing c).In-Nothing in
     let ended : After-last_by = (goal.at.In-Nothing told).After-last_by in
-    let f = filled ended.before in
+    let f : After-fill_lists-totals = (goal.at.After-last_by ended).After-fill_lists-totals in
     let d = from f in
     let none : Nothing ≡ found (lookup (last f) latest_free) = sym told.in-Nothing.is ∙ searched ended in
     rw c.plainly.ensures (nothing-made (entry d).requires (sized d) (started d) (kept f) f.fill_lists-totals.ensures none)
