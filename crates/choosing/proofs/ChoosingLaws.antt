@@ -98,7 +98,7 @@ module _ (rule : TieRule) (first second : Bor (List ℕ)) (t : ℤ) (work : List
 
     -- What is handed back by the answer of the question is what the choice hands back.
     pub handed : {c : Chosen} {r : Bor (List ℕ)} → q ≡ c → r.now ≡ part_of c first.now second.now
-        → r.ref_ptr ≡ place_of c first.ptr second.ptr → Handed rule first second t work r left
+        → r.ref_ptr ≡ place_of c first.ref_ptr second.ref_ptr → Handed rule first second t work r left
     handed e b p =
         let told : chosen_of rule first.now second.now t work ≡ _ = sym asked.answer ∙ e in
         record { bytes = rw told b; place = rw told p; area = asked.area }

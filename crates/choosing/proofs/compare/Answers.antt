@@ -26,7 +26,7 @@ module _ (roomy : Else-work-lt-AREA) where
   start = (goal.at.Else-work-lt-AREA roomy).Start
 
   lent : length (take area start.args.work.now) ≡ area
-  lent = length-take-le area start.args.work.now roomy.if-work-lt-AREA.left
+  lent = length-take-le area start.args.work.now roomy.if-work-lt-AREA.false
 
 pub slice_bounds-weigh_both-end-2 : goal.slice_bounds-weigh_both-end-2
 slice_bounds-weigh_both-end-2 c = omega (arith, lent (goal.at.slice_bounds-weigh_both-end-2 c).Else-work-lt-AREA)

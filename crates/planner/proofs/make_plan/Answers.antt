@@ -12,14 +12,11 @@ use Rattle.planner.proofs.make_plan.Goals.{After-kept_of, After-write_starts, St
 
 -- ---- the stages of the code, each seen from a later one
 
-abbrev start : Start → Start
-start read = read
-
 abbrev written : After-kept_of → After-write_starts
 written told = (goal.at.After-kept_of told).After-write_starts
 
 abbrev entry : After-kept_of → Start
-entry told = start (written told).before
+entry told = (goal.at.After-write_starts (written told)).Start
 
 -- The header's time, as the code reads it back.
 t0-back : (s : Start) → to_z w32 (of_z w32 s.args.header.t0) ≡ s.args.header.t0
@@ -30,13 +27,13 @@ t0-back s =
 -- ---- the needs
 
 pub write_starts-requires : goal.write_starts-requires
-write_starts-requires c = let s = start (goal.at.write_starts-requires c).Start in rw (t0-back s) (can_write s.requires)
+write_starts-requires c = let s = (goal.at.write_starts-requires c).Start in rw (t0-back s) (can_write s.requires)
 
 pub overflow_cast-result : goal.overflow_cast-result
-overflow_cast-result c = let f = (entry c).requires in omega (arith, weight-light f, total-light f)
+overflow_cast-result c = let f = (entry (goal.at.overflow_cast-result c).After-kept_of).requires in omega (arith, weight-light f, total-light f)
 
 pub overflow_sub-result : goal.overflow_sub-result
-overflow_sub-result c = omega (arith, weight-light (entry c).requires)
+overflow_sub-result c = omega (arith, weight-light (entry (goal.at.overflow_sub-result c).After-kept_of).requires)
 
 pub overflow_cast-result-3 : goal.overflow_cast-result-3
 overflow_cast-result-3 c = omega (arith, points-light (entry (goal.at.overflow_cast-result-3 c).After-kept_of).requires)

@@ -67,7 +67,7 @@ plan_within-answer-requires c =
     record {
       order = (order-fine (start h).args.bytes.now).0 (start h).requires;
       read = read h;
-      places = r.if-starts-n.left;
+      places = r.if-starts-n.false;
       room = omega (arith, lent r);
     }
 
@@ -83,5 +83,5 @@ returns c =
     let part = planned.plan_within-answer.new.work in
     let rest = drop area a.work.now in
     let long : length part ≡ area = omega (arith, lent r) in
-    plan-done a.bytes.now a.starts.now a.work.now (start h).requires (omega (arith, r.if-starts-n.left, (read h).count))
-    (part ++ rest) r.if-work-lt-AREA.left planned.plan_within-answer.ensures (drop_at part rest area long) cleared.clear.ensures
+    plan-done a.bytes.now a.starts.now a.work.now (start h).requires (omega (arith, r.if-starts-n.false, (read h).count))
+    (part ++ rest) r.if-work-lt-AREA.false planned.plan_within-answer.ensures (drop_at part rest area long) cleared.clear.ensures

@@ -14,17 +14,17 @@ pub bounds-figures-i : goal.bounds-figures-i
 bounds-figures-i c = omega (arith, c.requires)
 
 pub overflow_cast-sum : goal.overflow_cast-sum
-overflow_cast-sum c = omega (arith, c.shared_slice_known-1.given c.loop-i.i)
+overflow_cast-sum c = omega (arith, c.type_inv.figures c.loop-i.i)
 
 pub overflow_add-sum : goal.overflow_add-sum
-overflow_add-sum c = omega (arith, c.shared_slice_known-1.given c.loop-i.i)
+overflow_add-sum c = omega (arith, c.type_inv.figures c.loop-i.i)
 
 pub loop-i-preserved : goal.loop-i-preserved
 loop-i-preserved c =
     let figures = c.args.figures.now in (
       omega arith,
       omega arith,
-      omega (arith, c.shared_slice_known-1.given c.loop-i.i),
+      omega (arith, c.type_inv.figures c.loop-i.i),
       ap (λ n. n + get_or figures c.loop-i.i 0) c.loop-i.invariant.3 ∙ sym (sum_step c.loop-i.i figures c.loop-i.invariant.0),
     )
 

@@ -52,5 +52,4 @@ pub returns-in-At : goal.returns-in-At
 returns-in-At c =
     let d : After-last_by = (goal.at.returns-in-At c).After-last_by in
     let a = (s d).args in
-    let e = c.found-1.given in
-    sym (left_at a.critical (list d) a.weight a.by d.if-critical.false e.0.0 e.0.1.0 (sym (finds d) ∙ e.1))
+    sym (left_at a.critical (list d) a.weight a.by d.if-critical.false c.in-At.found _ (sym (finds d) ∙ c.in-At.is))

@@ -122,7 +122,7 @@ module _ (c : After-no_bit_if-worth) where
   weighed = (goal.at.After-no_bit_if-worth c).After-no_weight_if-gain
 
   abbrev told : After-last_start-last
-  told = weighed.before.before.before.before.before
+  told = (goal.at.After-no_bit_if-worth c).After-last_start-last
 
   abbrev start : Start
   start = entry (tested told)

@@ -32,20 +32,17 @@ module _ (s : Start) where
   walks : Walks s.args.work.now bytes s.args.n s.args.places.now s.args.counts.now end
   walks = rw finish-back s.requires
 
--- The stages of the code: where it starts, seen from where the end is read, and a turn, seen from where its job is read.
-abbrev start : Start → Start
-start read = read.before.before.before.before
-
+-- A turn, seen from where its job is read.
 abbrev read-in : After-bit_at → After-job_in-job
-read-in c = c.before.before.before.before.before
+read-in c = (goal.at.After-bit_at c).After-job_in-job
 
 pub loop-k-init : goal.loop-k-init
-loop-k-init c = trail-start (walks (start (goal.at.loop-k-init c).Start))
+loop-k-init c = trail-start (walks ((goal.at.loop-k-init c).Start))
 
 -- The place of the job is one of all, below 48.
 module _ (turn : In-loop-k) where
   abbrev at-start : Start
-  at-start = start (goal.at.In-loop-k turn).Start
+  at-start = (goal.at.In-loop-k turn).Start
 
   place-below : turn.loop-k.k - 1 < at-start.args.n
   place-below = omega (arith, turn.loop-k.invariant.few, jobs-count (bytes at-start), at-start.requires.count)
@@ -109,6 +106,6 @@ loop-k-preserved c =
 
 pub returns : goal.returns
 returns c =
-    let s = start (goal.at.returns c).Start in
+    let s = (goal.at.returns c).Start in
     let none : c.loop-k.k ≡ 0 = omega arith in
     rw (finish-back s) at (trail-end (walks s) (rw none at c.loop-k.invariant))

@@ -1,6 +1,5 @@
 -- `walking::walk` meets its contract. The loop's invariant: the trail after the jobs that are left, which ends as the whole
 -- walk does. Assumes nothing.
-use Prim.Native.Nat.{◌-◌}
 use Rattle.walking.specs.TrailLaws.{Trails}
 use Rattle.walking.proofs.walk.Given as goal
 
