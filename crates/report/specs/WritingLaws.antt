@@ -78,7 +78,7 @@ module _ (bytes : List ℕ) (order : OrderFine bytes) (k : ℕ) (below : k < cou
 
   -- It is read back from its bits,
   number-back : to_z w32 (of_z w32 job.number) ≡ job.number
-  number-back = to_z-of_z (omega (signed, number_in))
+  number-back = to_z-of_z {w = w32} {z = job.number} (omega (signed, number_in))
 
   -- can be handed on as an unsigned number,
   pub number-casts : T (non_neg (to_z w32 (of_z w32 job.number))) × Fits w32 (nat_abs (to_z w32 (of_z w32 job.number)))

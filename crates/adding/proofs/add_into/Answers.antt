@@ -49,7 +49,7 @@ returns c =
     let s = start p in
     let one = o.one_order-one.result in
     one-counted s.args.figures.now s.args.bytes.now s.args.work.now s.requires one (one-is o)
-    j.join_into.new.to j.join_into.ensures p.plan.last.1.1.0 (eqb (get_or one 20 0) 1)
+    j.join_into.new.to j.join_into.ensures p.plan.new.work (eqb (get_or one 20 0) 1)
     (ap (drop area) p.plan.ensures.area ∙ plan-behind s.args.bytes.now (replicate 48 (pos 0)) s.args.work.now)
     (λ e. p.plan.ensures.area
     ∙ one-clears s.args.figures.now s.args.bytes.now s.args.work.now s.requires one (one-is o) (replicate 48 (pos 0))

@@ -1,7 +1,7 @@
 -- `best_plan::kept_weight` meets its contract. The loop's invariant: the weight so far and that of the jobs from here on are the
 -- whole weight.
 -- Assumes nothing.
-use Prim.Native.Nat.{◌-◌, ◌≤◌, ◌<◌}
+use Prim.Native.Nat.{◌≤◌, ◌<◌}
 use native.Mathlib.Omega.{arith}
 use Rattle.fields.specs.Asked.{RecordIn}
 use Rattle.fields.specs.Facts.{record-in}

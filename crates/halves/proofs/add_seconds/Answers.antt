@@ -9,9 +9,7 @@ use Rattle.halves.proofs.add_seconds.Goals.{Start}
 
 pub overflow_mul-seconds : goal.overflow_mul-seconds
 overflow_mul-seconds c =
-    let s : Start = (goal.at.overflow_mul-seconds c).Start in
-    let m = c.planned-in-Made-1.given in
-    let light : Light (Made m.0.0) = rw m.1 at s.requires in
+    let light : Light (Made c.in-Made.figures) = rw c.in-Made.is at c.requires in
     omega (arith, light)
 
 pub returns-in-Refused : goal.returns-in-Refused

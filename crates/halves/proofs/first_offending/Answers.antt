@@ -12,7 +12,7 @@ use Rattle.halves.proofs.first_offending.Goals.{After-job_in-job, After-take_hal
 
 -- Where the code starts.
 abbrev start : In-loop-place → Start
-start c = c.before.before.before.before
+start c = (goal.at.In-loop-place c).Start
 
 pub loop-place-init : goal.loop-place-init
 loop-place-init c =
@@ -41,17 +41,15 @@ pub shape_of-awaited-then-take_half : goal.shape_of-awaited-then-take_half
 shape_of-awaited-then-take_half c =
     let h : After-take_half = (goal.at.shape_of-awaited-then-take_half c).After-take_half in
     let j : After-job_in-job = (goal.at.After-take_half h).After-job_in-job in
-    let t = j.before in
     let s = start (goal.at.After-job_in-job j).In-loop-place in
-    room-kept t.loop-place.invariant t.loop-place-test.true j.job_in-job.result j.job_in-job.ensures _ h.take_half.ensures.notes
+    room-kept c.loop-place.invariant c.loop-place-test.true j.job_in-job.result j.job_in-job.ensures _ h.take_half.ensures.notes
     ∙ sym (search-room s.args.bytes.now s.args.n s.args.awaited.now s.requires)
 
 pub returns-then-take_half : goal.returns-then-take_half
 returns-then-take_half c =
     let h : After-take_half = (goal.at.returns-then-take_half c).After-take_half in
     let j : After-job_in-job = (goal.at.After-take_half h).After-job_in-job in
-    let t = j.before in
-    search-ends t.loop-place.invariant t.loop-place-test.true j.job_in-job.result j.job_in-job.ensures
+    search-ends c.loop-place.invariant c.loop-place-test.true j.job_in-job.result j.job_in-job.ensures
     (sym c.if-take_half.true ∙ h.take_half.ensures.tells)
 
 pub overflow_add-place : goal.overflow_add-place
@@ -68,8 +66,7 @@ pub loop-place-preserved : goal.loop-place-preserved
 loop-place-preserved c =
     let h : After-take_half = (goal.at.loop-place-preserved c).After-take_half in
     let j : After-job_in-job = (goal.at.After-take_half h).After-job_in-job in
-    let t = j.before in
-    search-on t.loop-place.invariant t.loop-place-test.true j.job_in-job.result j.job_in-job.ensures _
+    search-on c.loop-place.invariant c.loop-place-test.true j.job_in-job.result j.job_in-job.ensures _
     (sym c.if-take_half.false ∙ h.take_half.ensures.tells) h.take_half.ensures.notes
 
 pub shape_of-awaited : goal.shape_of-awaited

@@ -10,10 +10,6 @@ use Rattle.halves.specs.AwaitingLaws.{number-low, weight-low, high_taken, half-t
 use Rattle.halves.proofs.take_half.Goals as goal
 use Rattle.halves.proofs.take_half.Goals.{Start}
 
--- Where the code starts.
-abbrev start : Start → Start
-start c = c
-
 -- The job is within its limits.
 facts : (s : Start) → JobFacts s.args.job
 facts s = (job-facts s.args.job).0 s.requires.within
@@ -34,33 +30,33 @@ overflow_cast-length c =
 
 pub returns-then-number-gt-HIGHEST_HALF : goal.returns-then-number-gt-HIGHEST_HALF
 returns-then-number-gt-HIGHEST_HALF c =
-    let s = start (goal.at.returns-then-number-gt-HIGHEST_HALF c).Start in
-    high_taken s.args.job s.args.awaited.now (facts s) c.if-job-eq1.true c.if-number-gt-HIGHEST_HALF.true
+    let taken = high_taken c.args.job c.args.awaited.now (facts (goal.at.returns-then-number-gt-HIGHEST_HALF c).Start) c.if-job-eq1.true c.if-number-gt-HIGHEST_HALF.true in
+    record { tells = taken.0; notes = taken.1 }
 
 pub overflow_add-awaited : goal.overflow_add-awaited
 overflow_add-awaited c =
-    let s = start (goal.at.overflow_add-awaited c).Start in
+    let s = (goal.at.overflow_add-awaited c).Start in
     omega (arith, number-low s.args.job s.args.awaited.now (facts s))
 
 pub bounds-awaited-number : goal.bounds-awaited-number
 bounds-awaited-number c =
-    let s = start (goal.at.bounds-awaited-number c).Start in
+    let s = (goal.at.bounds-awaited-number c).Start in
     omega (arith, s.requires.room, c.if-number-gt-HIGHEST_HALF.false)
 
 pub returns-then-job-eq1 : goal.returns-then-job-eq1
 returns-then-job-eq1 c =
-    let s = start (goal.at.returns-then-job-eq1 c).Start in
-    half-taken s.args.job s.args.awaited.now (facts s) c.if-job-eq1.true c.if-number-gt-HIGHEST_HALF.false
+    let taken = half-taken c.args.job c.args.awaited.now (facts (goal.at.returns-then-job-eq1 c).Start) c.if-job-eq1.true c.if-number-gt-HIGHEST_HALF.false in
+    record { tells = taken.0; notes = taken.1 }
 
 pub overflow_mul-weight : goal.overflow_mul-weight
 overflow_mul-weight c =
-    let s = start (goal.at.overflow_mul-weight c).Start in
+    let s = (goal.at.overflow_mul-weight c).Start in
     omega (arith, weight-low s.args.job s.args.awaited.now (facts s))
 
 pub returns-then-length-weight : goal.returns-then-length-weight
 returns-then-length-weight c =
-    let s = start (goal.at.returns-then-length-weight c).Start in
-    long-taken s.args.job s.args.awaited.now (facts s) c.if-job-eq1.false c.if-length-weight.true
+    let taken = long-taken c.args.job c.args.awaited.now (facts (goal.at.returns-then-length-weight c).Start) c.if-job-eq1.false c.if-length-weight.true in
+    record { tells = taken.0; notes = taken.1 }
 
 pub bounds-awaited-number-2 : goal.bounds-awaited-number-2
 bounds-awaited-number-2 c =
@@ -69,5 +65,5 @@ bounds-awaited-number-2 c =
 
 pub returns : goal.returns
 returns c =
-    let s : Start = (goal.at.returns c).Start in
-    awaited-taken s.args.job s.args.awaited.now (facts s) c.if-job-eq1.false c.if-length-weight.false
+    let taken = awaited-taken c.args.job c.args.awaited.now (facts (goal.at.returns c).Start) c.if-job-eq1.false c.if-length-weight.false in
+    record { tells = taken.0; notes = taken.1 }

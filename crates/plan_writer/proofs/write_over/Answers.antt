@@ -12,9 +12,8 @@ pub put_plan-requires : goal.put_plan-requires
 put_plan-requires c =
     let p : After-plan_order = (goal.at.put_plan-requires c).After-plan_order in
     let s = start p in
-    let f = c.figures-1.given in
     write-room s.args.order.now s.args.out.now s.args.work.now s.args.starts.now s.requires
-    p.plan_order.ensures f.0.0 f.1
+    p.plan_order.ensures c.in-Made.figures c.in-Made.is
 
 pub returns-in-Refused : goal.returns-in-Refused
 returns-in-Refused c =
@@ -26,10 +25,8 @@ returns-in-Refused c =
 pub returns-in-Made : goal.returns-in-Made
 returns-in-Made c =
     let w : After-put_plan = (goal.at.returns-in-Made c).After-put_plan in
-    let a = w.before in
     let p : After-plan_order = (goal.at.After-put_plan w).After-plan_order in
     let s = start p in
-    let f = a.figures.given in
     write_done s.args.order.now s.args.out.now s.args.work.now s.args.starts.now s.requires
-    p.plan_order.ensures f.0.0 f.1 w.put_plan.result w.put_plan.new.bytes w.put_plan.ensures.counts
+    p.plan_order.ensures c.in-Made.figures c.in-Made.is w.put_plan.result w.put_plan.new.bytes w.put_plan.ensures.counts
     w.put_plan.ensures.writes

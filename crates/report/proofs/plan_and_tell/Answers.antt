@@ -30,9 +30,8 @@ tell_plan-requires c =
     let made : In-Made = (goal.at.tell_plan-requires c).In-Made in
     let planned : After-plan = (goal.at.In-Made made).After-plan in
     let s : Start = (goal.at.After-plan planned).Start in
-    let r = made.figures.given in
     plan-tellable s.args.bytes.now s.args.starts.now s.args.work.now s.args.out.now s.requires
-    r.0.0 planned.plan.new.starts (sym r.1 ∙ planned.plan.ensures.answer) planned.plan.ensures.written
+    made.in-Made.figures planned.plan.new.starts (sym made.in-Made.is ∙ planned.plan.ensures.answer) planned.plan.ensures.written
 
 pub returns-in-Refused : goal.returns-in-Refused
 returns-in-Refused c =

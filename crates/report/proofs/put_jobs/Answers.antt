@@ -24,7 +24,7 @@ use Rattle.report.proofs.put_jobs.Goals.{After-job_in-job, After-put_job-next, A
 
 -- Where the code starts.
 abbrev begun : In-loop-i → Start
-begun c = c.before.before.before.before
+begun c = (goal.at.In-loop-i c).Start
 
 -- There are at most 48 jobs.
 few : (s : Start) → s.args.n ≤ 48
