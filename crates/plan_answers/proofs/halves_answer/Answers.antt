@@ -12,7 +12,6 @@ returns-in-Refused c =
 
 pub returns-in-Made : goal.returns-in-Made
 returns-in-Made c =
-    let given = c.planned-in-Made-1.given in
-    let told : c.with_seconds-in-Made.result ≡ beside c.plan_answer-in-Made.result given.0.1.0 = c.with_seconds-in-Made.ensures in
-    told ∙ ap (λ (p : PlanAnswer). beside p given.0.1.0) c.plan_answer-in-Made.ensures
-    ∙ sym (ap halves_figures given.1)
+    let told : c.with_seconds-in-Made.result ≡ beside c.plan_answer-in-Made.result c.in-Made.seconds = c.with_seconds-in-Made.ensures in
+    told ∙ ap (λ (p : PlanAnswer). beside p c.in-Made.seconds) c.plan_answer-in-Made.ensures
+    ∙ sym (ap halves_figures c.in-Made.is)

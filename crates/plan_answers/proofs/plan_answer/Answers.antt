@@ -28,7 +28,6 @@ ended f t =
 
 pub returns-in-Made : goal.returns-in-Made
 returns-in-Made c =
-    let given = c.planned-in-Made-1.given in
-    let f : Figures = given.0.0 in
+    let f : Figures = c.in-Made.figures in
     let fits : SFits w32 f.finish = search rules in
-    ap (λ (t : ℤ). plan_figures (Made (ended f t))) (to_z-of_z fits) ∙ sym (ap plan_figures given.1)
+    ap (λ (t : ℤ). plan_figures (Made (ended f t))) (to_z-of_z fits) ∙ sym (ap plan_figures c.in-Made.is)

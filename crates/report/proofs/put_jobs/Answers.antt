@@ -2,7 +2,7 @@
 -- 23 bytes. Assumes nothing.
 use borrow.Author.Rules.{rules}
 use mir.Facts.{to_z-of_z}
-use Prim.Native.Nat.{ℕ, ◌-◌, ◌≤◌, ◌<◌}
+use Prim.Native.Nat.{ℕ, ◌≤◌, ◌<◌}
 use mathlib.Core.Path.{◌≡◌}
 use mathlib.Core.List.{List}
 use native.Mathlib.Omega.{arith}
@@ -13,7 +13,6 @@ use lib.Signed.{non_neg}
 use mir.Syntax.{w32}
 use mir.Val.{Fits, to_z, of_z}
 use Rattle.packed.specs.Packed.{count_of, job_in}
-use Rattle.seconds.specs.Signed.{read_back_lem}
 use Rattle.text.specs.Buffer.{Wrote}
 use Rattle.text.specs.BufferLaws.{wrote_none, wrote-more}
 use Rattle.fields.specs.Facts.{record-in}

@@ -12,5 +12,8 @@ unfolding kept_words
 returns c =
     let lost : After-put_figure = (goal.at.returns c).After-put_figure in
     let weight : After-put_figure-next-2 = (goal.at.After-put_figure lost).After-put_figure-next-2 in
-    let kept : After-put_figure-next = (goal.at.After-put_figure-next-2 weight).After-put_figure-next in (record { wrote = simp append_assoc at
-          (wrote-more (wrote-more kept.put_figure-next.ensures.wrote weight.put_figure-next-2.ensures.wrote) lost.put_figure.ensures.wrote); upper_bound = search rules })
+    let kept : After-put_figure-next = (goal.at.After-put_figure-next-2 weight).After-put_figure-next in (record {
+      wrote = simp append_assoc at
+          (wrote-more (wrote-more kept.put_figure-next.ensures.wrote weight.put_figure-next-2.ensures.wrote) lost.put_figure.ensures.wrote);
+      upper_bound = search rules;
+    })
