@@ -222,7 +222,8 @@ module _ (p : Part) (figures room piece : List ℕ) (at : ℕ) (work : List ℤ)
       }
     where
       stepped : byte (seen p figures room) (get_or piece at 0) ≡ seen begun figures' room
-      stepped = rw (at-known p figures room 1 e, c.more, ← h) (sym s.state)
+      stepped =
+          ap (λ s. byte s (get_or piece at 0)) (at-known p figures room 1 e) ∙ rw (c.more, ← h) (sym s.state)
 
   pub turn_more : p.known ≡ 2 → (n : ℕ) → n ≡ min (p.size - p.got) (length piece - at) → (room' : List ℕ) → Kept room p.got piece at n room'
       → (more : Part) (figures' : List ℕ) (work' : List ℤ) → Settles figures room' p.size (p.got + n) work more figures' work'

@@ -67,9 +67,9 @@ loop-at-preserved c =
       rest ∙ c.loop-at.invariant.3,
       t.ensures.behind ∙ c.loop-at.invariant.4,
       t.ensures.beyond ∙ c.loop-at.invariant.5,
-      t.auto.1.0 ∙ c.loop-at.invariant.6,
-      t.auto.1.1.0 ∙ c.loop-at.invariant.7,
-      t.auto.1.1.1.1.1.0 ∙ c.loop-at.invariant.8,
+      t.auto.figures ∙ c.loop-at.invariant.6,
+      t.auto.front ∙ c.loop-at.invariant.7,
+      t.auto.work ∙ c.loop-at.invariant.8,
     )
 
 pub shape_of-figures : goal.shape_of-figures

@@ -13,7 +13,11 @@ returns-then-got-ge-FRONT c =
 
 pub copy-requires : goal.copy-requires
 copy-requires c =
-    (c.requires.wide, (omega (arith, c.if-got-ge-FRONT.false, c.least-m.ensures), omega (arith, c.least-m.ensures, c.requires.has)))
+    record {
+      front_room_in_bounds = c.requires.wide;
+      n_bound = omega (arith, c.if-got-ge-FRONT.false, c.least-m.ensures);
+      n_in_bounds = omega (arith, c.least-m.ensures, c.requires.has);
+    }
 
 pub returns : goal.returns
 returns c =

@@ -48,7 +48,7 @@ settle-more-requires c =
     let left = c.requires.sound.inside (omega (arith, two)) in
     record {
       can = few-enough a.part a.figures.now a.front.now a.piece.now a.at a.work.now c.requires;
-      wide = omega (arith, c.requires.sound.wide, c.keep.auto.0);
+      wide = omega (arith, c.requires.sound.wide, c.keep.auto.front);
       most = c.requires.sound.most;
       come = omega (arith, c.least-n.ensures, left);
     }

@@ -11,7 +11,7 @@ pub returns-then-got-size : goal.returns-then-got-size
 returns-then-got-size c =
     settle-whole c.args.figures.now c.args.front.now c.args.size c.args.got c.args.work.now c.requires
     (omega (arith, c.if-got-size.true)) (c.least-kept.result - 0) (omega (arith, c.least-kept.ensures)) c.add_into.result c.add_into.new.figures
-    c.add_into.new.work c.add_into.auto.0 c.add_into.ensures
+    c.add_into.new.work c.add_into.auto.figures c.add_into.ensures
 
 pub returns : goal.returns
 returns c =

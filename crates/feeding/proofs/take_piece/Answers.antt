@@ -19,12 +19,12 @@ feed_piece-part-requires c =
 pub put_part-requires : goal.put_part-requires
 put_part-requires c =
     let f = c.feed_piece-part in
-    sound-put f.result f.new.figures f.new.front f.ensures.sound (omega (arith, c.requires.long, f.auto.1.0))
+    sound-put f.result f.new.figures f.new.front f.ensures.sound (omega (arith, c.requires.long, f.auto.figures))
 
 pub returns : goal.returns
 returns c =
     let a = c.args in
     taken-by a.feed.now a.front.now a.piece.now a.work.now c.requires.long c.part_in-begun.result c.part_in-begun.ensures
     c.feed_piece-part.result c.feed_piece-part.new.figures c.feed_piece-part.new.front c.feed_piece-part.new.work c.feed_piece-part.ensures
-    c.feed_piece-part.auto.1.0 c.is_over-many.result c.is_over-many.ensures c.put_part.new.feed c.put_part.ensures
+    c.feed_piece-part.auto.figures c.is_over-many.result c.is_over-many.ensures c.put_part.new.feed c.put_part.ensures
     c.clear.new.work c.clear.ensures c.refusal_if.result c.refusal_if.ensures
