@@ -25,4 +25,4 @@ returns c =
     let s : Start = (goal.at.Else-is_over o).Start in
     let few = sym o.is_over.ensures ∙ o.if-is_over.false in
     sheet-wrote s.args.figures.now s.args.out.now s.args.known s.requires few
-    (told_wrote s.args.figures.now _ s.args.out.now (few-sheet s.args.figures.now s.args.out.now s.args.known s.requires few) t.tell-told.ensures t.tell-told.auto.1.1.0)
+    (told_wrote s.args.figures.now _ s.args.out.now (few-sheet s.args.figures.now s.args.out.now s.args.known s.requires few) t.tell-told.ensures t.tell-told.auto.text)
