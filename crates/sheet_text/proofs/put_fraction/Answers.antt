@@ -18,5 +18,8 @@ returns c =
     let below : After-put_figure = (goal.at.returns c).After-put_figure in
     let above : After-put_figure-next = (goal.at.After-put_figure below).After-put_figure-next in
     let made : After-lowest_terms-fraction = (goal.at.After-put_figure-next above).After-lowest_terms-fraction in
-    let s : Start = (goal.at.After-lowest_terms-fraction made).Start in (record { wrote = rw (fraction-some s.args.upper s.args.lower made.lowest_terms-fraction.result made.lowest_terms-fraction.ensures (omega arith))
-          (wrote-more above.put_figure-next.ensures.wrote below.put_figure.ensures.wrote); upper_bound = search rules })
+    let s : Start = (goal.at.After-lowest_terms-fraction made).Start in (record {
+      wrote = rw (fraction-some s.args.upper s.args.lower made.lowest_terms-fraction.result made.lowest_terms-fraction.ensures (omega arith))
+          (wrote-more above.put_figure-next.ensures.wrote below.put_figure.ensures.wrote);
+      upper_bound = search rules;
+    })

@@ -17,5 +17,8 @@ pub returns : goal.returns
 returns c =
     let place : After-put_figure = (goal.at.returns c).After-put_figure in
     let total : After-put_figure-next = (goal.at.After-put_figure place).After-put_figure-next in
-    let s : Start = (goal.at.After-put_figure-next total).Start in (record { wrote = rw (top-some s.args.top s.args.place (omega arith))
-          (wrote-more total.put_figure-next.ensures.wrote place.put_figure.ensures.wrote); upper_bound = search rules })
+    let s : Start = (goal.at.After-put_figure-next total).Start in (record {
+      wrote = rw (top-some s.args.top s.args.place (omega arith))
+          (wrote-more total.put_figure-next.ensures.wrote place.put_figure.ensures.wrote);
+      upper_bound = search rules;
+    })
