@@ -72,8 +72,13 @@ fn answers(text: &[u8]) {
     }
 }
 
+// Room for the lines.
+fn room() -> [u8; 524_288] {
+    [0; 524_288]
+}
+
 fn main() {
-    let mut input = [0; 524_288];
+    let mut input = room();
     let n = io::read_full(0, &mut input);
     answers(front_bytes(&input, n));
 }
