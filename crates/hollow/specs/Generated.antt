@@ -2,7 +2,7 @@
 -- arguments, the answer and the parameters at exit is what the relation says. A contract that changes is refused here.
 use Rattle.std.specs.Prelude.{◌≡◌, refl, List, ℕ}
 use contract.Lifetimes.{Lfts}
-use Rattle.std.specs.Borrow.{MutBor}
+use Rattle.std.specs.Borrow.{Bor}
 use denote.Triple.Clauses.{AtExit}
 use denote.Triple.Entry.{Args}
 use Rattle.profiles.specs.declared.Finding.{Finding}
@@ -163,16 +163,16 @@ pub question-first-is : (κs : Lfts 3) (a : Args question-first.signature κs) (
     ≡ (asking to_first).allows (a.0.now, a.1.0.now, a.1.1.0, a.1.1.1.0.now) r x.1.1.1.0.now
 question-first-is κs a r x = refl
 
--- Of the choice the ghost name of the part is not seen: the relation holds wherever the contract does.
-pub choose-says : (κs : Lfts 2) (a : Args choose.signature κs) (r : MutBor (List ℕ)) (x : AtExit choose.ended κs)
+-- Of the choice the relation holds wherever the contract does.
+pub choose-says : (κs : Lfts 2) (a : Args choose.signature κs) (r : Bor (List ℕ)) (x : AtExit choose.ended κs)
     → choose-reads.Post κs a r x
     → (choosing sooner).allows (a.0, a.1.0, a.1.1.0, a.1.1.1.0.now) (r.now, r.ref_ptr) x.1.1.1.0.now
-choose-says κs a r x h = (r.ghost_name, h)
+choose-says κs a r x h = h
 
-pub choose-first-says : (κs : Lfts 2) (a : Args choose-first.signature κs) (r : MutBor (List ℕ)) (x : AtExit choose-first.ended κs)
+pub choose-first-says : (κs : Lfts 2) (a : Args choose-first.signature κs) (r : Bor (List ℕ)) (x : AtExit choose-first.ended κs)
     → choose-first-reads.Post κs a r x
     → (choosing to_first).allows (a.0, a.1.0, a.1.1.0, a.1.1.1.0.now) (r.now, r.ref_ptr) x.1.1.1.0.now
-choose-first-says κs a r x h = (r.ghost_name, h)
+choose-first-says κs a r x h = h
 
 pub legal-is : (κs : Lfts 2) (a : Args legal.signature κs) (r : Checked) (x : AtExit legal.ended κs)
     → legal-reads.Post κs a r x ≡ checking_legal.allows (a.0.now, a.1.0.now) r tt

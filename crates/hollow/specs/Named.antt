@@ -60,7 +60,7 @@ start = negsuc 599 ∷ pos 0 ∷ []
 
 -- Bytes that stand at the beginning of a block of memory.
 abbrev pub block : ℕ → List ℕ → Bor (List ℕ)
-block b bytes = record { ref_ptr = (b, 0); ghost_name = b; now = bytes }
+block b bytes = record { ref_ptr = (b, 0); now = bytes }
 
 -- A point record.
 abbrev point : ℕ → ℕ → Point

@@ -1,7 +1,7 @@
 -- The contract of each public call as a relation of its inputs and outcomes. Definitions only; that these relations are the
 -- contracts of the code is shown in Generated.
 use Rattle.std.specs.Prelude.{ℕ, ◌≡◌, refl, Bool, true, false, List, ◌++◌, eqb, ltb, ℤ, length, drop}
-use Rattle.std.specs.Borrow.{GName, Bor, MutBor}
+use Rattle.std.specs.Borrow.{Bor}
 use Rattle.profiles.specs.Answer.{lookup_of}
 use Rattle.profiles.specs.declared.Finding.{Finding}
 use Rattle.profiles.specs.declared.Finding.TheVariants as finding
@@ -314,18 +314,18 @@ asking rule =
       refusal = λ r. question_refused r.chosen;
     }
 
--- The same, with the orders where they stand. What is handed back is a part, by its bytes and its place, under whatever
--- ghost name; an empty one stands for a refusal.
-abbrev pub choosing : TieRule → Contract (MutBor (List ℕ) × MutBor (List ℕ) × ℤ × List ℤ) (List ℕ × (ℕ × ℕ)) (List ℤ)
+-- The same, with the orders where they stand. What is handed back is a part, by its bytes and its place; an empty one
+-- stands for a refusal.
+abbrev pub choosing : TieRule → Contract (Bor (List ℕ) × Bor (List ℕ) × ℤ × List ℤ) (List ℕ × (ℕ × ℕ)) (List ℤ)
 choosing rule =
     record {
-      allows = λ x r b. (n : GName) × Handed rule x.0 x.1 x.2 x.3 (record { ref_ptr = r.1; ghost_name = n; now = r.0 }) b;
+      allows = λ x r b. Handed rule x.0 x.1 x.2 x.3 (record { ref_ptr = r.1; now = r.0 }) b;
       answer = λ x.
           let c = chosen_of rule x.0.now x.1.now x.2 x.3 in
           (part_of c x.0.now x.1.now, place_of c x.0.ref_ptr x.1.ref_ptr);
       left = λ x. work_after rule x.0.now x.1.now x.2 x.3;
-      met = λ x. (x.0.name, record { bytes = refl; place = refl; area = refl });
-      only = λ x r b h. (λ i. (h.1.bytes i, h.1.place i), h.1.area);
+      met = λ x. record { bytes = refl; place = refl; area = refl };
+      only = λ x r b h. (λ i. (h.bytes i, h.place i), h.area);
       lent = λ x. x.3;
       refusal = λ r. eqb (length r.0) 0;
     }

@@ -5,7 +5,6 @@ use native.Mathlib.Omega.{arith}
 use Rattle.planner.specs.declared.Planned.TheVariants.{Made}
 use Rattle.halves.specs.Awaiting.{Light, seconds_added}
 use Rattle.halves.proofs.add_seconds.Goals as goal
-use Rattle.halves.proofs.add_seconds.Goals.{Start}
 
 pub overflow_mul-seconds : goal.overflow_mul-seconds
 overflow_mul-seconds c =

@@ -8,7 +8,7 @@ use lib.IntN.{ℤ}
 use lib.ListN.{length, take, drop}
 use Rattle.packed.specs.Layout.{encode, bytes_of, job_layout, record_bytes}
 use Rattle.packed.specs.Packed.{fields_at}
-use Rattle.pack.specs.WritingLaws.{none_written, written-length, one_more}
+use Rattle.pack.specs.WritingLaws.{none_written, one_more}
 use Rattle.frames.specs.Frames.{numbers_for, repeat_at, frame_numbers}
 use Rattle.frames.proofs.FrameLaws.{frame_at}
 use Rattle.picking.proofs.write_repeats.Goals as goal
@@ -21,14 +21,6 @@ loop-k-init c = (
   c.set_first.ensures,
   c.set_first.auto.next,
 )
-
--- The bytes stay as many.
-kept : (l : At-loop-k)
-    → length l.loop-k.order ≡ length l.args.order.now
-unfolding record_bytes
-kept l =
-    let room : 4 + 8 * l.loop-k.k ≤ length l.args.order.now = omega (arith, l.requires.room, l.requires.all) in
-    ap length l.loop-k.invariant.1 ∙ written-length 0 (frame_numbers l.args.numbers.now) l.args.order.now l.loop-k.k room
 
 pub loop-k-preserved : goal.loop-k-preserved
 unfolding record_bytes
