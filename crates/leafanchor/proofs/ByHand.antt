@@ -1,4 +1,4 @@
--- The lookup over records is proved by hand, and so its contract is not generated as a claim: it is written out here.
+-- The contract of the lookup over records, written out as a claim.
 use mathlib.Core.Path.{◌≡◌, refl}
 use seplogic.Ra.Ura.{Ura}
 use base.Logic.{SProp}

@@ -9,8 +9,7 @@ use Rattle.reader_struct.specs.declared.Reader.{Reader}
 use Rattle.reader_struct.specs.declared.Stepped.{Stepped}
 use Rattle.reader_struct.specs.declared.Reading.{Reading}
 
--- All that can be seen of a reader: where its bytes lie (block and offset), what they are, and its place. The name under which
--- the prover tracks a borrowed part is nothing in memory and is not seen.
+-- All that can be seen of a reader: where its bytes lie (block and offset), what they are, and its place.
 pub record Seen : Type 0 where
   pub memory : ℕ × ℕ
   pub bytes : List ℕ
