@@ -1,0 +1,3 @@
+-- The refusals' numbers and the fields' figures: the definitions, and that each is told back.
+pub mod Numbers
+pub mod NumbersLaws
