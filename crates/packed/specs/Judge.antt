@@ -1,7 +1,7 @@
 -- Judging. A check says whether it applies, and which refusal it then is: a number, a place and a field, as one value. Checks are
 -- judged in the sequence of their list, and the first that applies gives the verdict; every call's refusals are such a list.
 -- Definitions only.
-use Rattle.std.specs.Prelude.{ℕ, Bool, cond, List, [], ◌∷◌, ltb}
+use Rattle.std.specs.Prelude.{ℕ, Bool, cond, List, [], ◌∷◌, ltb, ⊤, Result, Ok, Err}
 use Rattle.packed.specs.declared.Refusal.{Refusal}
 
 -- ---- refusals
@@ -31,9 +31,14 @@ pub record Check : Type 0 where
   pub says : Refusal
 
 -- Not refused; or refused, with what the check says.
-pub data Verdict : Type 0 where
-  fine : Verdict
-  refused : Refusal → Verdict
+abbrev pub Verdict : Type 0
+Verdict = Result ⊤ Refusal
+
+pattern abbrev pub fine : Verdict
+fine = Ok tt
+
+pattern abbrev pub refused : Refusal → Verdict
+refused r = Err r
 
 -- The verdict of some checks: the first that applies, which in a list of rising numbers is the lowest.
 abbrev pub judge : List Check → Verdict
@@ -44,8 +49,8 @@ judge (c ∷ cs) =
 
 -- A verdict, or the next one where it is fine.
 abbrev pub or_else : Verdict → Verdict → Verdict
-or_else fine v = v
-or_else (refused r) v = refused r
+or_else (Ok u) v = v
+or_else (Err r) v = Err r
 
 -- A check that names no place; one that applies where a search stopped before its end, at that place; and one that names a field
 -- of the job there too.
