@@ -5,8 +5,10 @@ ghost use Rattle.std.specs.Prelude.{◌≡◌, cond};
 ghost use Rattle.seconds.specs.Ranges.{is_between, is_time};
 ghost use Rattle.packed.specs.Refusals.{weight_test, bad_field};
 ghost use Rattle.fields.specs.Fields.{fields_of};
+ghost use Rattle.refusals.specs.Numbers.{figure_of, figure_or_none};
 
 use fields::Job;
+use refusals::Field;
 
 // Whether a number lies from the least to the greatest.
 pub fn between(least: i32, greatest: i32, z: i32) -> bool
@@ -35,23 +37,23 @@ pub fn weight_within(critical: bool, weight: i32) -> bool
     between(1, 50, weight)
 }
 
-// A field by its figure where its test is not passed, else the one that is named of those behind it.
-fn field_or(passed: bool, field: u32, later: u32) -> u32
-    ensures { result ≡ cond passed later field }
+// A field where its test is not passed, else the one that is named of those behind it.
+fn field_or(passed: bool, field: Field, later: Option<Field>) -> Option<Field>
+    ensures { figure_or_none result ≡ cond passed (figure_or_none later) (figure_of field) }
 {
-    if passed { later } else { field }
+    if passed { later } else { Some(field) }
 }
 
-// The first number of a job that is out of range, 1 for its number to 7 for its deadline; 0 if none is. The last field is tested
-// first, so that the first that is out of range is named.
-pub fn bad_field(job: Job) -> u32
-    ensures { result ≡ bad_field (fields_of job) }
+// The first field of a job that is out of range, if one is. The last field is tested first, so that the first that is out of
+// range is named.
+pub fn bad_field(job: Job) -> Option<Field>
+    ensures { figure_or_none result ≡ bad_field (fields_of job) }
 {
-    let mut bad = field_or(is_time(job.deadline), 7, 0);
-    bad = field_or(between(1, 10000, job.length), 6, bad);
-    bad = field_or(is_time(job.ready), 5, bad);
-    bad = field_or(weight_within(job.critical == 1, job.weight), 4, bad);
-    bad = field_or(between(0, 1, job.critical), 3, bad);
-    bad = field_or(between(0, 255, job.pack), 2, bad);
-    field_or(between(0, 63, job.number), 1, bad)
+    let mut bad = field_or(is_time(job.deadline), Field::Deadline, None);
+    bad = field_or(between(1, 10000, job.length), Field::Length, bad);
+    bad = field_or(is_time(job.ready), Field::Ready, bad);
+    bad = field_or(weight_within(job.critical == 1, job.weight), Field::Weight, bad);
+    bad = field_or(between(0, 1, job.critical), Field::Critical, bad);
+    bad = field_or(between(0, 255, job.pack), Field::Pack, bad);
+    field_or(between(0, 63, job.number), Field::Number, bad)
 }
