@@ -1,5 +1,5 @@
 -- The search for the first pack, one step at a time: what is found is what is found from here on.
-use Rattle.std.specs.Prelude.{ℕ, ◌+◌, ◌*◌, ◌≤◌, ◌<◌, ◌≡◌, true, false, not, ◌≢◌, List, ℤ, pos, get_or, drop}
+use Rattle.std.specs.Prelude.{ℕ, ◌+◌, ◌*◌, ◌≤◌, ◌<◌, ◌≡◌, true, false, not, ◌≢◌, Some, None, List, ℤ, pos, get_or, drop}
 use Rattle.std.proofs.Common.{sym, ◌∙◌, arith, get_or-take, get_or-drop, SFits, of_z}
 use Rattle.std.proofs.Math.Path.{ap}
 use Rattle.std.specs.Int.{w32}
@@ -7,8 +7,8 @@ use borrow.Author.Tests.{lt-ltb, le-ltb}
 use Rattle.seconds.specs.Signed.{signed, same_bits}
 use Rattle.seconds.specs.Ranges.{same}
 use Rattle.seconds.specs.RangesLaws.{same-yes, same-no}
-use Rattle.packed.specs.Places.{part, first}
-use Rattle.packed.specs.PlacesLaws.{first_on, first-here, first-end}
+use Rattle.packed.specs.Places.{part, first, found_below}
+use Rattle.packed.specs.PlacesLaws.{first_on, first-here, first-end, found-there, found-none, found-is, none-is}
 use Rattle.packed.specs.Packed.{numbers_of, job_count, fields_at, job_fields, has_pack, the_pack, first_packed, kind_for}
 use Rattle.packed.proofs.PackedLaws.{numbers-count, fields-of-numbers, whole-count}
 use Rattle.fields.specs.Fields.{fields_of}
@@ -39,21 +39,25 @@ module _ (zs : List ℤ) (n : ℕ) (counted : n ≡ job_count zs) where
     search-on e =
         so_far ∙ first_on (λ i. has_pack (fields_at zs i)) k n more (ap (λ y. not (same y (pos 0))) its ∙ no-pack z fits e)
 
-    pub search-finds : of_z w32 z ≢ 0 → k ≡ first_packed zs
+    pub search-finds : of_z w32 z ≢ 0 → Some k ≡ found_below n (first_packed zs)
     search-finds e =
-        sym (so_far ∙ first-here (λ i. has_pack (fields_at zs i)) k n more (ap (λ y. not (same y (pos 0))) its ∙ some-pack z e))
+        let found : first_packed zs ≡ k =
+        so_far ∙ first-here (λ i. has_pack (fields_at zs i)) k n more (ap (λ y. not (same y (pos 0))) its ∙ some-pack z e) in
+        rw found (found-there n k more)
 
-  pub search-ends : (k : ℕ) → k ≡ n → first_packed zs ≡ from zs k n → n ≡ first_packed zs
-  search-ends k e so_far = sym (so_far ∙ ap (λ i. from zs i n) e ∙ first-end (λ i. has_pack (fields_at zs i)) n)
+  pub search-ends : (k : ℕ) → k ≡ n → first_packed zs ≡ from zs k n → None ≡ found_below n (first_packed zs)
+  search-ends k e so_far =
+      let found : first_packed zs ≡ n = so_far ∙ ap (λ i. from zs i n) e ∙ first-end (λ i. has_pack (fields_at zs i)) n in
+      rw found (found-none n n (omega arith))
 
-  -- The kind.
-  pub kind-one : first_packed zs < n → 1 ≡ kind_for zs
+  -- The kind, by what is found.
+  pub kind-one : {k : ℕ} → Some k ≡ found_below n (first_packed zs) → 1 ≡ kind_for zs
   unfolding kind_for
-  kind-one h = rw (← counted, lt-ltb (first_packed zs) n h)
+  kind-one {k} h = rw (← counted, lt-ltb (first_packed zs) n (found-is n (first_packed zs) h))
 
-  pub kind-none : n ≤ first_packed zs → 0 ≡ kind_for zs
+  pub kind-none : None ≡ found_below n (first_packed zs) → 0 ≡ kind_for zs
   unfolding kind_for
-  kind-none h = rw (← counted, le-ltb (first_packed zs) n h)
+  kind-none h = rw (← counted, le-ltb (first_packed zs) n (none-is n (first_packed zs) h))
 
 -- In bytes.
 pub counted-in : (bytes : List ℕ) (n : ℕ) → Records bytes n → n ≡ job_count (numbers_of bytes)

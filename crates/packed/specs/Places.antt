@@ -1,6 +1,6 @@
 -- Lists by places: the parts of a list, lists put together place by place, and the first place that passes a test.
 -- Definitions only.
-use Rattle.std.specs.Prelude.{ℕ, zero, suc, ◌*◌, ◌-◌, Bool, cond, List, [], ◌∷◌, ◌++◌, take, drop}
+use Rattle.std.specs.Prelude.{ℕ, zero, suc, ◌*◌, ◌-◌, Bool, cond, Option, Some, None, ltb, List, [], ◌∷◌, ◌++◌, take, drop}
 
 module _ {ℓ} {A : Type ℓ} where
   -- The part at a place, of a list of parts of w each.
@@ -31,3 +31,7 @@ first_of p at (suc m) =
 -- The first place, from a place on and below n, that passes a test; n if none does.
 unfoldable pub first : (ℕ → Bool) → ℕ → ℕ → ℕ
 first p at n = first_of p at (n - at)
+
+-- A place that is found below n; none where a search ended there.
+abbrev pub found_below : ℕ → ℕ → Option ℕ
+found_below n k = cond (ltb k n) (Some k) None

@@ -1,15 +1,15 @@
 -- The laws of lists by places: parts and what is put together of them, one for each place, and the first place that passes.
 use Prim.Native.Nat.{ℕ, zero, suc, ◌+◌, ◌*◌, ◌-◌, ◌≤◌, ◌<◌}
-use Rattle.std.specs.Prelude.{◌≡◌, Bool, true, false, List, [], ◌∷◌, ◌++◌, ltb, take, drop, get_or}
+use Rattle.std.specs.Prelude.{◌≡◌, Bool, true, false, Option, Some, None, List, [], ◌∷◌, ◌++◌, ltb, take, drop, get_or}
 use Rattle.std.proofs.Math.Path.{refl}
 use Rattle.std.proofs.Common.{sym, ap, ap₂, ◌∙◌, true≢false, mul-le-mul_left, zero-add, add-zero, length-append, take_all, take_at, drop-drop, ext_get_or, get_or-take, get_or-drop}
 use native.Mathlib.Omega.{arith}
 use Rattle.std.proofs.Math.ListN.{length, length-drop}
 use Rattle.std.proofs.lemmas.List.{take-append-le, drop-append-le}
 use Rattle.std.proofs.Math.Seq.{drop-append-add, take-add, drop_at, length-take-le}
-use borrow.Author.Tests.{ltb-true, ltb-false}
+use borrow.Author.Tests.{ltb-true, ltb-false, lt-ltb, le-ltb}
 use borrow.Table.Steps.{cases}
-use Rattle.packed.specs.Places.{part, flat, each_of, each, first_of, first}
+use Rattle.packed.specs.Places.{part, flat, each_of, each, first_of, first, found_below}
 
 -- The part at a place below n ends within n parts.
 pub part-below : (w : ℕ) {k n : ℕ} → k < n → w * k + w ≤ w * n
@@ -250,3 +250,24 @@ pub first-none : (p : ℕ → Bool) (at n : ℕ) → at ≤ n → ((k : ℕ) →
 first-none p at n h g =
     first-unique p at n (first p at n) n (first-is p at n h)
     (record { from = h; to = omega arith; passes = λ b. absurd (omega arith); before = g })
+
+-- What is found below n is there,
+pub found-there : (n k : ℕ) → k < n → Some k ≡ found_below n k
+found-there n k h = rw (lt-ltb k n h)
+
+-- and what is not is at the end.
+pub found-none : (n k : ℕ) → n ≤ k → None ≡ found_below n k
+found-none n k h = rw (le-ltb k n h)
+
+-- And back.
+pub found-is : (n k : ℕ) {j : ℕ} → Some j ≡ found_below n k → k < n
+found-is n k {j} e = cases (ltb k n) (λ t. ltb-true k n t) (λ t. absurd (some-none (rw t at e)))
+  where
+    some-none : ◌≡◌ {A = Option ℕ} (Some j) None → ⊥
+    some-none z = let w : ◌≡◌ {A = ℕ} 0 1 = cc in omega arith
+
+pub none-is : (n k : ℕ) → None ≡ found_below n k → n ≤ k
+none-is n k e = cases (ltb k n) (λ t. absurd (none-some (rw t at e))) (λ t. ltb-false k n t)
+  where
+    none-some : ◌≡◌ {A = Option ℕ} None (Some k) → ⊥
+    none-some z = let w : ◌≡◌ {A = ℕ} 0 1 = cc in omega arith

@@ -13,25 +13,23 @@ use Rattle.kinds.proofs.first_given.Goals as goal
 pub loop-k-init : goal.loop-k-init
 loop-k-init c =
     let zs = c.args.numbers.now in
-    (omega arith, search-starts zs c.args.count (counted-given zs c.args.count c.requires))
+    search-starts zs c.args.count (counted-given zs c.args.count c.requires)
 
-pub returns-then-pack-ne0 : goal.returns-then-pack-ne0
-returns-then-pack-ne0 c =
+pub returns-then-numbers-k-ne0 : goal.returns-then-numbers-k-ne0
+returns-then-numbers-k-ne0 c =
     let zs = c.args.numbers.now in
     let fits : SFits w32 (get_or c.args.numbers.now (7 * c.loop-k.k + 1) (pos 0)) = search rules in
-    search-finds zs c.args.count (counted-given zs c.args.count c.requires) c.loop-k.k c.loop-k-test.true c.loop-k.invariant.1
-    (get_or zs (7 * c.loop-k.k + 1) (pos 0)) (pack-given zs c.loop-k.k) fits c.if-pack-ne0.true
+    search-finds zs c.args.count (counted-given zs c.args.count c.requires) c.loop-k.k c.loop-k-test.true c.loop-k.invariant
+    (get_or zs (7 * c.loop-k.k + 1) (pos 0)) (pack-given zs c.loop-k.k) fits c.if-numbers-k-ne0.true
 
 pub loop-k-preserved : goal.loop-k-preserved
 loop-k-preserved c =
     let zs = c.args.numbers.now in
-    let fits : SFits w32 (get_or c.args.numbers.now (7 * c.loop-k.k + 1) (pos 0)) = search rules in (
-      omega arith,
-      search-on zs c.args.count (counted-given zs c.args.count c.requires) c.loop-k.k c.loop-k-test.true c.loop-k.invariant.1
-          (get_or zs (7 * c.loop-k.k + 1) (pos 0)) (pack-given zs c.loop-k.k) fits c.if-pack-ne0.false,
-    )
+    let fits : SFits w32 (get_or c.args.numbers.now (7 * c.loop-k.k + 1) (pos 0)) = search rules in
+    search-on zs c.args.count (counted-given zs c.args.count c.requires) c.loop-k.k c.loop-k-test.true c.loop-k.invariant
+    (get_or zs (7 * c.loop-k.k + 1) (pos 0)) (pack-given zs c.loop-k.k) fits c.if-numbers-k-ne0.false
 
 pub returns : goal.returns
 returns c =
     let zs = c.args.numbers.now in
-    search-ends zs c.args.count (counted-given zs c.args.count c.requires) c.loop-k.k (omega arith) c.loop-k.invariant.1
+    search-ends zs c.args.count (counted-given zs c.args.count c.requires) c.loop-k.k (omega arith) c.loop-k.invariant

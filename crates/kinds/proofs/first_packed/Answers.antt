@@ -10,26 +10,24 @@ use Rattle.kinds.proofs.first_packed.Goals as goal
 
 pub loop-k-init : goal.loop-k-init
 loop-k-init c =
-    (omega arith, search-starts (numbers_of c.args.bytes.now) c.args.count (counted-in c.args.bytes.now c.args.count c.requires))
+    search-starts (numbers_of c.args.bytes.now) c.args.count (counted-in c.args.bytes.now c.args.count c.requires)
 
-pub returns-then-pack-ne0 : goal.returns-then-pack-ne0
-returns-then-pack-ne0 c =
+pub returns-then-job-ne0 : goal.returns-then-job-ne0
+returns-then-job-ne0 c =
     let read = c.job_in-job in
     let bytes = c.args.bytes.now in
     let fits : SFits w32 c.job_in-job.result.pack = search rules in
-    search-finds (numbers_of bytes) c.args.count (counted-in bytes c.args.count c.requires) c.loop-k.k c.loop-k-test.true c.loop-k.invariant.1
-    read.result.pack (pack-in bytes c.args.count c.loop-k.k c.requires c.loop-k-test.true read.result read.ensures) fits c.if-pack-ne0.true
+    search-finds (numbers_of bytes) c.args.count (counted-in bytes c.args.count c.requires) c.loop-k.k c.loop-k-test.true c.loop-k.invariant
+    read.result.pack (pack-in bytes c.args.count c.loop-k.k c.requires c.loop-k-test.true read.result read.ensures) fits c.if-job-ne0.true
 
 pub loop-k-preserved : goal.loop-k-preserved
 loop-k-preserved c =
     let read = c.job_in-job in
     let bytes = c.args.bytes.now in
-    let fits : SFits w32 c.job_in-job.result.pack = search rules in (
-      omega arith,
-      search-on (numbers_of bytes) c.args.count (counted-in bytes c.args.count c.requires) c.loop-k.k c.loop-k-test.true c.loop-k.invariant.1
-          read.result.pack (pack-in bytes c.args.count c.loop-k.k c.requires c.loop-k-test.true read.result read.ensures) fits c.if-pack-ne0.false,
-    )
+    let fits : SFits w32 c.job_in-job.result.pack = search rules in
+    search-on (numbers_of bytes) c.args.count (counted-in bytes c.args.count c.requires) c.loop-k.k c.loop-k-test.true c.loop-k.invariant
+    read.result.pack (pack-in bytes c.args.count c.loop-k.k c.requires c.loop-k-test.true read.result read.ensures) fits c.if-job-ne0.false
 
 pub returns : goal.returns
 returns c =
-    search-ends (numbers_of c.args.bytes.now) c.args.count (counted-in c.args.bytes.now c.args.count c.requires) c.loop-k.k (omega arith) c.loop-k.invariant.1
+    search-ends (numbers_of c.args.bytes.now) c.args.count (counted-in c.args.bytes.now c.args.count c.requires) c.loop-k.k (omega arith) c.loop-k.invariant
