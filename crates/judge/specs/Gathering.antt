@@ -1,7 +1,7 @@
 -- The loop that gathers all jobs: the search for a job out of range, with the numbers and the weights of those before it.
 -- Over the numbers of all jobs, however a job is read.
-use Rattle.std.specs.Prelude.{ℕ, ◌+◌, ◌*◌, ◌-◌, ◌/◌, ◌^◌, ◌≤◌, ◌<◌, ◌≡◌, refl, true, false, not, List, T, ltb, ℤ, pos, nat_abs, length, take, drop, set}
-use Rattle.std.proofs.Common.{sym, ◌∙◌, arith, zero-add, length-set, get_or-set_same, get_or-set_other, to_z-of_z, ltb-true, ltb-false}
+use Rattle.std.specs.Prelude.{ℕ, ◌+◌, ◌*◌, ◌-◌, ◌/◌, ◌^◌, ◌≤◌, ◌<◌, ◌≡◌, refl, true, false, not, Result, Ok, Err, List, T, ltb, ℤ, pos, nat_abs, length, take, drop, set}
+use Rattle.std.proofs.Common.{sym, ◌∙◌, arith, zero-add, length-set, get_or-set_same, get_or-set_other, to_z-of_z, lt-ltb, ltb-true, ltb-false}
 use Rattle.std.proofs.Math.Path.{ap}
 use Rattle.std.proofs.Math.ListN.{get_or}
 use Rattle.std.specs.Int.Signed.{non_neg}
@@ -13,18 +13,19 @@ use Rattle.seconds.specs.Ranges.{Between}
 use Rattle.order.specs.Job.{weight_of}
 use Rattle.packed.specs.Places.{each, first}
 use Rattle.packed.specs.PlacesLaws.{each-end, first_on, first-here, first-end}
-use Rattle.packed.specs.Judge.{fine, judge}
+use Rattle.packed.specs.declared.Refusal.{Refusal}
+use Rattle.packed.specs.Judge.{in_field, fine, refused, judge}
 use Rattle.packed.specs.Packed.{job_fields, header_of, count_of, numbers_of, job_count, fields_at, the_weight, job_at, jobs_of}
 use Rattle.packed.proofs.PackedLaws.{numbers-count, fields-of-numbers, whole-count}
-use Rattle.packed.specs.Refusals.{header_checks, fields_within, bad_field, bad_at, first_bad, number_at}
+use Rattle.packed.specs.Refusals.{header_checks, job_checks, fields_within, bad_field, bad_at, first_bad, number_at}
 use Rattle.packed.proofs.RefusalLaws.{header-fine}
-use Rattle.packed.proofs.Steps.{bad-from-0, weights-on}
+use Rattle.packed.proofs.Steps.{jobs-judge, bad-from-0, weights-on}
 use Rattle.fields.specs.Fields.{fields_of, header_fields}
 use Rattle.fields.specs.Asked.{RecordIn}
 use Rattle.fields.specs.Facts.{job-facts, record-in, read-from, header_read}
 use Rattle.fields.specs.declared.Job.{Job}
 use Rattle.fields.specs.declared.Header.{Header}
-use Rattle.judge.specs.Verdicts.{AllGiven, taken_in, noted_in, CanTakeIn, Found}
+use Rattle.judge.specs.Verdicts.{AllGiven, taken_in, noted_in, AllIn}
 use Rattle.judge.specs.declared.Gathered.{Gathered}
 
 -- ---- a number of a job, from 0 to a greatest, as the code casts it
@@ -38,35 +39,47 @@ pub casts : (w : Width) (greatest : ℕ) (z : ℤ) → Between (pos 0) (pos grea
     → T (non_neg (to_z w32 (of_z w32 z))) × Fits w (nat_abs (to_z w32 (of_z w32 z)))
 casts w greatest z b l h = rw (kept greatest z b l) (omega (signed, abs_is z))
 
+-- ---- what taking in tells
+
+-- Taken in, a job is within its limits, and its weight is told.
+pub taken-ok : (j : Job) (k : ℕ) {w : ℕ} → taken_in j k ≡ Ok w → (fields_within (fields_of j) ≡ true) × (w ≡ nat_abs j.weight)
+taken-ok j k {w} e = cases (fields_within (fields_of j))
+    (λ t. (t, let s : ◌≡◌ {A = Result ℕ Refusal} (Ok (nat_abs j.weight)) (Ok w) = rw t at e in cc))
+    (λ t. let s : ◌≡◌ {A = Result ℕ Refusal} (Err (in_field 6 k (bad_field (fields_of j)))) (Ok w) = rw t at e in
+    let z : ◌≡◌ {A = ℕ} 0 1 = cc in
+    absurd (omega arith))
+
+-- Refused, it is out of range, and the refusal says where.
+pub taken-err : (j : Job) (k : ℕ) {r : Refusal} → taken_in j k ≡ Err r
+    → (fields_within (fields_of j) ≡ false) × (r ≡ in_field 6 k (bad_field (fields_of j)))
+taken-err j k {r} e = cases (fields_within (fields_of j))
+    (λ t. let s : ◌≡◌ {A = Result ℕ Refusal} (Ok (nat_abs j.weight)) (Err r) = rw t at e in
+    let z : ◌≡◌ {A = ℕ} 0 1 = cc in
+    absurd (omega arith))
+    (λ t. (t, let s : ◌≡◌ {A = Result ℕ Refusal} (Err (in_field 6 k (bad_field (fields_of j)))) (Err r) = rw t at e in cc))
+
 -- ---- on the way
 
--- No job before the place is out of range; their numbers are gathered, and their weights summed, at most 50 each. Where the search
--- has ended, the field is the first of the job there that is out of range.
-pub record Passing (zs : List ℤ) (numbers : List ℕ) (jobs : Gathered) : Type 0 where
-  pub counted : jobs.count ≡ job_count zs
-  pub room : jobs.count ≤ 48
-  pub going : jobs.place ≤ jobs.end
-  pub few : jobs.end ≤ jobs.count
+-- No job before the place is out of range; their numbers are gathered, and their weights summed, at most 50 each.
+pub record Passing (zs : List ℤ) (numbers : List ℕ) (count place weight : ℕ) : Type 0 where
+  pub counted : count ≡ job_count zs
+  pub room : count ≤ 48
   pub long : length numbers ≡ 48
-  pub search : first_bad zs ≡ first (bad_at zs) jobs.place jobs.end
-  pub named : jobs.end < jobs.count → jobs.field ≡ bad_field (fields_at zs jobs.end)
-  pub gathered : (i : ℕ) → i < jobs.place → number_at zs i ≡ pos (get_or numbers i 0)
-  pub light : jobs.weight ≤ 50 * jobs.place
-  pub sum : jobs.weight + weight_of (each (job_at zs) jobs.place jobs.count) ≡ weight_of (jobs_of zs)
+  pub search : first_bad zs ≡ first (bad_at zs) place count
+  pub gathered : (i : ℕ) → i < place → number_at zs i ≡ pos (get_or numbers i 0)
+  pub light : weight ≤ 50 * place
+  pub sum : weight + weight_of (each (job_at zs) place count) ≡ weight_of (jobs_of zs)
 
 -- From the first place.
 pub passing-starts : (zs : List ℤ) (count : ℕ) (numbers : List ℕ) → count ≡ job_count zs → count ≤ 48 → length numbers ≡ 48
-    → Passing zs numbers (record { count = count; place = 0; end = count; weight = 0; field = 0 })
+    → Passing zs numbers count 0 0
 unfolding jobs_of
 passing-starts zs count numbers c m l =
     record {
       counted = c;
       room = m;
-      going = omega arith;
-      few = omega arith;
       long = l;
       search = bad-from-0 zs ∙ ap (first (bad_at zs) 0) (sym c);
-      named = λ h. absurd (omega arith);
       gathered = λ i h. absurd (omega arith);
       light = omega arith;
       sum = rw c (zero-add (weight_of (each (job_at zs) 0 (job_count zs))));
@@ -81,111 +94,73 @@ noted-on Q numbers k v b e g i h = cases (ltb i k)
     (λ q. let s : i ≡ k = omega (arith, ltb-false i k q) in rw (s, get_or-set_same numbers k v 0 b) e)
 
 -- A turn: a job was read, and is the job at the place.
-pub record Turn (zs : List ℤ) (numbers : List ℕ) (jobs : Gathered) (j : Job) : Type 0 where
-  pub more : jobs.place < jobs.end
-  pub read : fields_of j ≡ fields_at zs jobs.place
-  pub before : Passing zs numbers jobs
+pub record Turn (zs : List ℤ) (numbers : List ℕ) (count place weight : ℕ) (j : Job) : Type 0 where
+  pub more : place < count
+  pub read : fields_of j ≡ fields_at zs place
+  pub before : Passing zs numbers count place weight
 
-module _ {zs : List ℤ} {numbers : List ℕ} {jobs : Gathered} {j : Job} (t : Turn zs numbers jobs j) where
-  -- The job can be taken in.
-  pub can-take-in : CanTakeIn jobs numbers
-  can-take-in =
-      record {
-        room = omega (arith, t.more, t.before.room, t.before.few, t.before.long);
-        few = t.before.long;
-        light = t.before.light;
-      }
+module _ {zs : List ℤ} {numbers : List ℕ} {count place weight : ℕ} {j : Job} (t : Turn zs numbers count place weight j) where
+  -- There is room for the job's number.
+  pub can-note : place < length numbers
+  can-note = omega (arith, t.more, t.before.room, t.before.long)
 
-  number-noted : fields_within (fields_of j) ≡ true → number_at zs jobs.place ≡ pos (nat_abs j.number)
+  number-noted : fields_within (fields_of j) ≡ true → number_at zs place ≡ pos (nat_abs j.number)
   unfolding number_at
   number-noted w =
       let f = (job-facts j).0 w in
-      let n : get_or (fields_at zs jobs.place) 0 (pos 0) ≡ j.number = ap (λ l. get_or l 0 (pos 0)) (sym t.read) in
+      let n : get_or (fields_at zs place) 0 (pos 0) ≡ j.number = ap (λ l. get_or l 0 (pos 0)) (sym t.read) in
       n ∙ omega (signed, f.number, abs_is j.number)
 
-  -- Within its limits: on to the next place.
-  goes_on : fields_within (fields_of j) ≡ true → Passing zs (set numbers jobs.place (nat_abs j.number))
-      (record {
-        count = jobs.count;
-        place = jobs.place + 1;
-        end = jobs.end;
-        weight = jobs.weight + nat_abs j.weight;
-        field = jobs.field;
-      })
-  goes_on w =
+  -- Within its limits: its weight is at most 50,
+  pub weight-light : {w : ℕ} → taken_in j place ≡ Ok w → w ≤ 50
+  weight-light {w} e =
+      let told = taken-ok j place e in
+      let f = (job-facts j).0 told.0 in
+      omega (signed, f.weight, abs_is j.weight, told.1)
+
+  -- and it is on to the next place.
+  pub passing-on : {w : ℕ} → taken_in j place ≡ Ok w → (noted : List ℕ) → noted ≡ noted_in j place numbers
+      → Passing zs noted count (place + 1) (weight + w)
+  passing-on {w} e noted notes =
+      let told = taken-ok j place e in
+      let within = told.0 in
       let b = t.before in
-      let f = (job-facts j).0 w in
-      let e : nat_abs (the_weight (fields_at zs jobs.place)) ≡ nat_abs j.weight =
+      let s : noted ≡ set numbers place (nat_abs j.number) = rw within at notes in
+      let its : nat_abs (the_weight (fields_at zs place)) ≡ nat_abs j.weight =
       ap (λ l. nat_abs (get_or l 3 (pos 0))) (sym t.read) in
       record {
         counted = b.counted;
         room = b.room;
-        going = omega (arith, t.more);
-        few = b.few;
-        long = length-set numbers jobs.place (nat_abs j.number) ∙ b.long;
-        search = b.search
-            ∙ first_on (bad_at zs) jobs.place jobs.end t.more (ap not (ap fields_within (sym t.read) ∙ w));
-        named = b.named;
+        long = rw s (length-set numbers place (nat_abs j.number) ∙ b.long);
+        search = b.search ∙ first_on (bad_at zs) place count t.more (ap not (ap fields_within (sym t.read) ∙ within));
         gathered =
-            noted-on (λ i n. number_at zs i ≡ pos n) numbers jobs.place (nat_abs j.number) can-take-in.room (number-noted w)
-            b.gathered;
-        light = omega (signed, b.light, f.weight, abs_is j.weight);
-        sum = omega (arith, weights-on zs jobs.place jobs.count (omega (arith, t.more, b.few)), e, b.sum);
+            rw s (noted-on (λ i n. number_at zs i ≡ pos n) numbers place (nat_abs j.number) can-note (number-noted within)
+            b.gathered);
+        light = omega (arith, b.light, weight-light e);
+        sum = omega (arith, weights-on zs place count t.more, its, b.sum, told.1);
       }
 
-  -- Out of range: the first such.
-  ends-here : fields_within (fields_of j) ≡ false
-      → Passing zs numbers
-      (record {
-        count = jobs.count;
-        place = jobs.place;
-        end = jobs.place;
-        weight = jobs.weight;
-        field = bad_field (fields_of j);
-      })
-  ends-here w =
+  -- Out of range: the first such, so refusal 6.
+  pub refused-here : {r : Refusal} → taken_in j place ≡ Err r → judge (job_checks zs) ≡ refused r
+  refused-here {r} e =
+      let told = taken-err j place e in
       let b = t.before in
-      let here = first-here (bad_at zs) jobs.place jobs.end t.more (ap not (ap fields_within (sym t.read) ∙ w)) in
-      record {
-        counted = b.counted;
-        room = b.room;
-        going = omega arith;
-        few = omega (arith, t.more, b.few);
-        long = b.long;
-        search = b.search ∙ here ∙ sym (first-end (bad_at zs) jobs.place);
-        named = λ h. ap bad_field t.read;
-        gathered = b.gathered;
-        light = b.light;
-        sum = b.sum;
-      }
-
-  -- Either way the turn is made, and less is to come.
-  module _ (next : Gathered) (goes : next ≡ taken_in j jobs) where
-    pub passing-on : (noted : List ℕ) → noted ≡ noted_in j jobs.place numbers → Passing zs noted next
-    passing-on noted notes = cases (fields_within (fields_of j))
-        (λ w. rw (goes, notes, w) (goes_on w))
-        (λ w. rw (goes, notes, w) (ends-here w))
-
-    pub passing-less : next.end - next.place < jobs.end - jobs.place
-    passing-less = cases (fields_within (fields_of j))
-        (λ w. rw (goes, w) (omega (arith, t.more)))
-        (λ w. rw (goes, w) (omega (arith, t.more)))
+      let here : first_bad zs ≡ place =
+      b.search ∙ first-here (bad_at zs) place count t.more (ap not (ap fields_within (sym t.read) ∙ told.0)) in
+      let there : place < job_count zs = omega (arith, t.more, b.counted) in
+      rw (jobs-judge zs, here, lt-ltb place (job_count zs) there, ← t.read, told.1)
 
 -- No job is left.
-pub passing-ends : (zs : List ℤ) (numbers : List ℕ) (jobs : Gathered) → jobs.end ≤ jobs.place → Passing zs numbers jobs
-    → Found zs numbers jobs
-passing-ends zs numbers jobs h p =
-    let e : jobs.end ≡ jobs.place = omega (arith, p.going) in
+pub passing-ends : (zs : List ℤ) (numbers : List ℕ) (count place weight : ℕ) → place ≡ count
+    → Passing zs numbers count place weight → AllIn zs numbers (record { count = count; weight = weight })
+passing-ends zs numbers count place weight e p =
     record {
       counted = p.counted;
       room = omega (arith, p.room, p.long);
-      first-bad = sym (p.search ∙ rw e (first-end (bad_at zs) jobs.place));
-      named = λ h. p.named (omega arith) ∙ ap (λ k. bad_field (fields_at zs k)) e;
-      gathered = p.gathered;
-      weighed = λ all.
-          let last : jobs.place ≡ jobs.count = omega (arith, p.few, p.going) in
-          let none : weight_of (each (job_at zs) jobs.place jobs.count) ≡ 0 =
-          rw last (ap weight_of (each-end (job_at zs) jobs.count)) in
+      none-bad = p.search ∙ rw e (first-end (bad_at zs) count) ∙ p.counted;
+      gathered = λ k h. p.gathered k (omega arith);
+      weighed =
+          let none : weight_of (each (job_at zs) place count) ≡ 0 = rw e (ap weight_of (each-end (job_at zs) count)) in
           omega (arith, p.sum, none);
     }
 
@@ -194,37 +169,36 @@ passing-ends zs numbers jobs h p =
 -- In bytes that have passed 1 to 5.
 module _ (bytes : List ℕ) {numbers : List ℕ} (passed : judge (header_checks bytes) ≡ fine) where
   pub there-starts : (h : Header) → header_fields h ≡ header_of bytes → length numbers ≡ 48
-      → Passing (numbers_of bytes) numbers (record { count = h.count; place = 0; end = h.count; weight = 0; field = 0 })
+      → Passing (numbers_of bytes) numbers h.count 0 0
   there-starts h e long =
       let f = (header-fine bytes).0 passed in
       let r = header_read bytes h e in
       passing-starts (numbers_of bytes) h.count numbers (r.count ∙ sym (numbers-count bytes)) (omega (arith, r.count, f.few)) long
 
   -- The job at the place is there, and read there it has its numbers.
-  module _ {jobs : Gathered} (more : jobs.place < jobs.end) (before : Passing (numbers_of bytes) numbers jobs) where
-    there : jobs.place < count_of bytes
-    there = omega (arith, numbers-count bytes, more, before.few, before.counted)
+  module _ {count place weight : ℕ} (more : place < count) (before : Passing (numbers_of bytes) numbers count place weight) where
+    there : place < count_of bytes
+    there = omega (arith, numbers-count bytes, more, before.counted)
 
-    pub there-room : RecordIn bytes jobs.place
-    there-room = record-in bytes jobs.place ((header-fine bytes).0 passed) there
+    pub there-room : RecordIn bytes place
+    there-room = record-in bytes place ((header-fine bytes).0 passed) there
 
-    pub there-turn : (j : Job) → fields_of j ≡ job_fields bytes jobs.place
-        → Turn (numbers_of bytes) numbers jobs j
+    pub there-turn : (j : Job) → fields_of j ≡ job_fields bytes place
+        → Turn (numbers_of bytes) numbers count place weight j
     there-turn j r =
-        record { more = more; read = r ∙ sym (fields-of-numbers bytes jobs.place there); before = before }
+        record { more = more; read = r ∙ sym (fields-of-numbers bytes place there); before = before }
 
 -- In numbers.
 given-count : (zs : List ℤ) → AllGiven zs (length zs / 7) → length zs / 7 ≡ job_count zs
 given-count zs all = sym (whole-count zs (length zs / 7) all.whole)
 
 module _ (zs : List ℤ) {numbers : List ℕ} (all : AllGiven zs (length zs / 7)) where
-  pub given-starts : length numbers ≡ 48
-      → Passing zs numbers (record { count = length zs / 7; place = 0; end = length zs / 7; weight = 0; field = 0 })
+  pub given-starts : length numbers ≡ 48 → Passing zs numbers (length zs / 7) 0 0
   given-starts long = passing-starts zs (length zs / 7) numbers (given-count zs all) all.few long
 
-  module _ {jobs : Gathered} (more : jobs.place < jobs.end) (before : Passing zs numbers jobs) where
-    pub given-room : 7 * jobs.place + 7 ≤ length zs
-    given-room = omega (arith, all.whole, given-count zs all, more, before.few, before.counted)
+  module _ {place weight : ℕ} (more : place < length zs / 7) (before : Passing zs numbers (length zs / 7) place weight) where
+    pub given-room : 7 * place + 7 ≤ length zs
+    given-room = omega (arith, all.whole, given-count zs all, more, before.counted)
 
-    pub given-turn : (j : Job) → fields_of j ≡ take 7 (drop (7 * jobs.place) zs) → Turn zs numbers jobs j
-    given-turn j r = record { more = more; read = read-from zs jobs.place (7 * jobs.place) j refl r; before = before }
+    pub given-turn : (j : Job) → fields_of j ≡ take 7 (drop (7 * place) zs) → Turn zs numbers (length zs / 7) place weight j
+    given-turn j r = record { more = more; read = read-from zs place (7 * place) j refl r; before = before }

@@ -1,7 +1,8 @@
 -- 19 by the first pack that is found.
-use Rattle.std.specs.Prelude.{ℕ, ◌≤◌, ◌<◌, ◌≡◌, cond, ◌≢◌, List, eqb}
+use Rattle.std.specs.Prelude.{ℕ, ◌≤◌, ◌<◌, ◌≡◌, cond, ◌≢◌, Some, None, List, eqb}
 use Rattle.std.proofs.Common.{sym, ◌∙◌, arith, ne_eqb}
 use Rattle.packed.specs.Layout.{record_bytes}
+use Rattle.packed.specs.Places.{found_below}
 use Rattle.packed.specs.PlacesLaws.{part-below}
 use Rattle.packed.specs.Judge.{plainly, fine, refused}
 use Rattle.packed.specs.Packed.{kind_of, numbers_of, first_packed, kind_for}
@@ -32,9 +33,9 @@ module _ (bytes : List ℕ) (kind count : ℕ) (k : Kinded bytes kind count) whe
   judged e m s = rw (sym k.kind-is ∙ e, ← s)
 
   -- kind 1 with a pack does,
-  pub kind-has : kind ≡ 1 → first_packed (numbers_of bytes) < count → fine ≡ kind_judged bytes
-  kind-has e h = sym (judged e 1 (kind-one (numbers_of bytes) count (counted-in bytes count records) h))
+  pub kind-has : kind ≡ 1 → {k : ℕ} → Some k ≡ found_below count (first_packed (numbers_of bytes)) → fine ≡ kind_judged bytes
+  kind-has e {k} h = sym (judged e 1 (kind-one (numbers_of bytes) count (counted-in bytes count records) h))
 
   -- and kind 1 without one does not.
-  pub kind-lacks : kind ≡ 1 → count ≤ first_packed (numbers_of bytes) → refused (plainly 19) ≡ kind_judged bytes
+  pub kind-lacks : kind ≡ 1 → None ≡ found_below count (first_packed (numbers_of bytes)) → refused (plainly 19) ≡ kind_judged bytes
   kind-lacks e h = sym (judged e 0 (kind-none (numbers_of bytes) count (counted-in bytes count records) h))

@@ -6,7 +6,7 @@ use Rattle.std.proofs.Common.{sym, ap, ◌∙◌, arith, length-take-le, get_or-
 use borrow.Table.Steps.{cases}
 use Rattle.seconds.specs.Ranges.{is_time}
 use Rattle.packed.specs.declared.Refusal.{Refusal}
-use Rattle.packed.specs.Judge.{in_field, plainly, Check, Verdict as Judged, fine, refused, judge, or_else, check}
+use Rattle.packed.specs.Judge.{in_field, plainly, Check, Verdict, fine, refused, judge, or_else, check}
 use Rattle.packed.specs.JudgeLaws.{judge-append, judge-tells}
 use Rattle.order.specs.Job.{weight_of}
 use Rattle.packed.specs.Layout.{record_bytes}
@@ -17,11 +17,10 @@ use Rattle.packed.proofs.RefusalPlaces.{has_place, RefusalIs, nowhere, unpack-re
 use Rattle.packed.proofs.Steps.{header-judge, jobs-judge}
 use Rattle.fields.specs.Facts.{HeaderRead}
 use Rattle.fields.specs.declared.Header.{Header}
-use Rattle.judge.specs.Verdicts.{kind_judged, verdict_of, AllGiven, Found, found_in, sum_judged}
+use Rattle.judge.specs.Verdicts.{kind_judged, AllGiven, AllIn, repeats_judged, sum_judged}
 use Rattle.repeats.specs.Repeats.{first_again}
 use Rattle.repeats.specs.RepeatLaws.{repeat-again}
 use Rattle.judge.specs.declared.Gathered.{Gathered}
-use Rattle.judge.specs.declared.Verdict.TheVariants.{Fine, Refused}
 
 -- ---- the header
 
@@ -39,32 +38,7 @@ pub given-told : (t0 : ℤ) (zs : List ℤ) → judge (list_checks t0 zs) ≡ fi
 unfolding job_count
 given-told t0 zs passed = let f = (list-fine t0 zs).0 passed in record { few = f.few; whole = f.whole }
 
--- ---- stages, as a match takes them
-
--- Fine.
-pub fine-told : (v : Judged) → verdict_of v ≡ Fine → v ≡ fine
-fine-told fine h = refl
-fine-told (refused r) h = let z : ◌≡◌ {A = ℕ} 0 1 = cc in absurd (omega arith)
-
-pub told-fine : (cs : List Check) → verdict_of (judge cs) ≡ Fine → judge cs ≡ fine
-told-fine cs e = fine-told (judge cs) e
-
--- Refused.
-pub refusal-told : (v : Judged) (r : Refusal) → verdict_of v ≡ Refused r → v ≡ refused r
-refusal-told fine r e = let z : ◌≡◌ {A = ℕ} 0 1 = cc in absurd (omega arith)
-refusal-told (refused s) r e = cc
-
--- Refused by the first of two stages.
-pub else-refused : (v w : Judged) (r : Refusal) → verdict_of v ≡ Refused r → verdict_of (or_else v w) ≡ Refused r
-else-refused v w r e = ap verdict_of (ap (λ (u : Judged). or_else u w) (refusal-told v r e))
-
-pub told-refused : (cs ds : List Check) (r : Refusal) → verdict_of (judge cs) ≡ Refused r → verdict_of (judge (cs ++ ds)) ≡ Refused r
-told-refused cs ds r e = ap verdict_of (judge-append cs ds) ∙ else-refused (judge cs) (judge ds) r e
-
--- Of three.
-pub first-refused : (cs ds es : List Check) (r : Refusal) → verdict_of (judge cs) ≡ Refused r
-    → verdict_of (judge (cs ++ ds ++ es)) ≡ Refused r
-first-refused cs ds es r e = told-refused (cs ++ ds) es r (told-refused cs ds r e)
+-- ---- stages
 
 -- Past the first of two stages, the second tells.
 pub told-next : (cs ds : List Check) → judge cs ≡ fine → judge (cs ++ ds) ≡ judge ds
@@ -76,45 +50,51 @@ stays cs ds e = rw (judge-append cs ds, e)
 
 -- ---- 6, 7 and 9
 
--- The jobs are gathered.
-module _ (zs : List ℤ) (numbers : List ℕ) (jobs : Gathered) (found : Found zs numbers jobs) where
-  repeat-is : jobs.count ≤ jobs.place → first_repeat zs ≡ first_again (take jobs.count numbers)
-  repeat-is passed =
-      let long : length (take jobs.count numbers) ≡ jobs.count = length-take-le jobs.count numbers found.room in
-      repeat-again zs (take jobs.count numbers) (long ∙ found.counted)
+-- None is out of range, and the jobs are gathered.
+module _ (zs : List ℤ) (numbers : List ℕ) (jobs : Gathered) (all : AllIn zs numbers jobs) where
+  repeat-is : first_repeat zs ≡ first_again (take jobs.count numbers)
+  repeat-is =
+      let long : length (take jobs.count numbers) ≡ jobs.count = length-take-le jobs.count numbers all.room in
+      repeat-again zs (take jobs.count numbers) (long ∙ all.counted)
       (λ k h. let b : k < jobs.count = omega arith in
-      found.gathered k (omega arith) ∙ ap pos (sym (get_or-take jobs.count numbers k 0 b)))
+      all.gathered k b ∙ ap pos (sym (get_or-take jobs.count numbers k 0 b)))
 
-  -- 6 and 7 are judged by what was found.
-  pub jobs-told : judge (job_checks zs) ≡ found_in numbers jobs
-  jobs-told = cases (ltb jobs.place jobs.count)
-      (λ e. rw (jobs-judge zs, ← found.first-bad, ← found.counted, e, found.named (ltb-true jobs.place jobs.count e)))
-      (λ e. rw (jobs-judge zs, ← found.first-bad, ← found.counted, e, repeat-is (ltb-false jobs.place jobs.count e)))
+  -- 6 and 7 are judged by the numbers that were gathered,
+  pub jobs-told : judge (job_checks zs) ≡ repeats_judged numbers jobs.count
+  jobs-told =
+      let least : job_count zs ≤ job_count zs = omega arith in
+      rw (jobs-judge zs, all.none-bad, le-ltb (job_count zs) (job_count zs) least, repeat-is, ← all.counted)
 
-  -- So is 9, past them;
-  pub weight-told : (before : ℕ) → judge (job_checks zs) ≡ fine → judge (weight_checks before zs) ≡ sum_judged before jobs.weight
+  -- and 9 by their weight.
+  pub weight-told : (before : ℕ) → judge (weight_checks before zs) ≡ sum_judged before jobs.weight
   unfolding weight_checks
-  weight-told before j = cases (ltb jobs.place jobs.count)
-      (λ e.
-      let odd : refused (in_field 6 jobs.place jobs.field) ≡ fine = rw e at (sym jobs-told ∙ j) in
-      let z : ◌≡◌ {A = ℕ} 0 1 = cc in
-      absurd (omega arith))
-      (λ e.
-      let all : jobs.weight ≡ weight_of (jobs_of zs) = found.weighed (ltb-false jobs.place jobs.count e) in
-      rw all)
+  weight-told before = rw all.weighed
 
-  -- and all three, past the checks before them.
-  pub rest-told : (cs : List Check) (before : ℕ) → judge cs ≡ fine
-      → judge (cs ++ job_checks zs ++ weight_checks before zs) ≡ or_else (found_in numbers jobs) (sum_judged before jobs.weight)
-  rest-told cs before e =
-      judge-append (cs ++ job_checks zs) (weight_checks before zs)
-      ∙ ap (λ (v : Judged). or_else v (judge (weight_checks before zs))) (told-next cs (job_checks zs) e)
-      ∙ go (judge (job_checks zs)) refl
-    where
-      go : (v : Judged) → judge (job_checks zs) ≡ v
-          → or_else v (judge (weight_checks before zs)) ≡ or_else (found_in numbers jobs) (sum_judged before jobs.weight)
-      go fine d = weight-told before d ∙ ap (λ (v : Judged). or_else v (sum_judged before jobs.weight)) (sym d ∙ jobs-told)
-      go (refused r) d = ap (λ (v : Judged). or_else v (sum_judged before jobs.weight)) (sym d ∙ jobs-told)
+-- The stages of an order: what is judged first, 6 and 7, and 9.
+module _ (cs : List Check) (zs : List ℤ) (before : ℕ) where
+  abbrev pub three : List Check
+  three = cs ++ job_checks zs ++ weight_checks before zs
+
+  -- Refused at first,
+  pub first-refused : {r : Refusal} → judge cs ≡ refused r → judge three ≡ refused r
+  first-refused e = stays (cs ++ job_checks zs) (weight_checks before zs) (stays cs (job_checks zs) e)
+
+  module _ (passed : judge cs ≡ fine) where
+    -- by 6,
+    pub jobs-refused : {r : Refusal} → judge (job_checks zs) ≡ refused r → judge three ≡ refused r
+    jobs-refused e = stays (cs ++ job_checks zs) (weight_checks before zs) (told-next cs (job_checks zs) passed ∙ e)
+
+    module _ (numbers : List ℕ) (jobs : Gathered) (all : AllIn zs numbers jobs) where
+      -- by 7,
+      pub repeats-refused : {r : Refusal} → repeats_judged numbers jobs.count ≡ refused r → judge three ≡ refused r
+      repeats-refused e = jobs-refused (jobs-told zs numbers jobs all ∙ e)
+
+      -- and past 7 by 9 alone.
+      pub sum-left : repeats_judged numbers jobs.count ≡ fine → judge three ≡ sum_judged before jobs.weight
+      sum-left e =
+          told-next (cs ++ job_checks zs) (weight_checks before zs)
+          (told-next cs (job_checks zs) passed ∙ jobs-told zs numbers jobs all ∙ e)
+          ∙ weight-told zs numbers jobs all before
 
 -- The last two stages, of any call: there is not enough room in the first buffer, or in the second, or there is in both.
 module _ (cs : List Check) (passed : judge cs ≡ fine) (need room more space : ℕ) where
@@ -146,7 +126,7 @@ Holds P cs = (r : Refusal) → judge cs ≡ refused r → P r
 pub holds-behind : (P : Refusal → Type 0) (cs ds : List Check) → Holds P cs → Holds P ds → Holds P (cs ++ ds)
 holds-behind P cs ds first second r e = go (judge cs) refl (sym (judge-append cs ds) ∙ e)
   where
-    go : (v : Judged) → judge cs ≡ v → or_else v (judge ds) ≡ refused r → P r
+    go : (v : Verdict) → judge cs ≡ v → or_else v (judge ds) ≡ refused r → P r
     go fine d f = second r f
     go (refused s) d f = first r (d ∙ f)
 

@@ -1,23 +1,17 @@
--- The answer of the judging calls, what they ask of their callers, and what is gathered of the jobs on the way.
+-- What the judging calls ask of their callers, and what is gathered of the jobs on the way.
 -- Definitions only.
-use Rattle.std.specs.Prelude.{ℕ, ◌+◌, ◌*◌, ◌≤◌, ◌<◌, ◌≡◌, cond, ◌&&◌, List, [], ◌∷◌, ltb, eqb, ℤ, pos, nat_abs, length, get_or, take, set}
+use Rattle.std.specs.Prelude.{ℕ, ◌+◌, ◌*◌, ◌≤◌, ◌<◌, ◌≡◌, cond, ◌&&◌, List, [], ◌∷◌, ltb, eqb, ℤ, pos, nat_abs, length, get_or, take, set, Result, Ok, Err}
 use Rattle.seconds.specs.Limits.{most_weight}
 use Rattle.order.specs.Job.{weight_of}
-use Rattle.packed.specs.Judge.{plainly, Verdict as Judged, fine, refused, judge, check, check_at, check_field}
+use Rattle.packed.specs.declared.Refusal.{Refusal}
+use Rattle.packed.specs.Judge.{in_field, plainly, Verdict, fine, refused, judge, check, check_at}
 use Rattle.packed.specs.Layout.{record_bytes}
-use Rattle.packed.specs.Packed.{kind_of, count_of, numbers_of, kind_for, job_count, fields_at, jobs_of}
-use Rattle.packed.specs.Refusals.{fields_within, bad_field, number_at, first_bad}
+use Rattle.packed.specs.Packed.{kind_of, count_of, numbers_of, kind_for, job_count, jobs_of}
+use Rattle.packed.specs.Refusals.{fields_within, bad_field, number_at, first_bad, job_checks}
 use Rattle.fields.specs.Fields.{fields_of}
 use Rattle.fields.specs.declared.Job.{Job}
 use Rattle.repeats.specs.Repeats.{first_again}
 use Rattle.judge.specs.declared.Gathered.{Gathered}
-use Rattle.judge.specs.declared.Verdict.{Verdict}
-use Rattle.judge.specs.declared.Verdict.TheVariants.{Fine, Refused}
-
--- What the code answers for a verdict.
-abbrev pub verdict_of : Judged → Verdict
-verdict_of fine = Fine
-verdict_of (refused r) = Refused r
 
 -- The numbers are those of so many jobs, at most 48.
 pub record AllGiven (zs : List ℤ) (count : ℕ) : Type 0 where
@@ -27,7 +21,7 @@ pub record AllGiven (zs : List ℤ) (count : ℕ) : Type 0 where
 -- ---- the kind
 
 -- 19 alone.
-abbrev pub kind_judged : List ℕ → Judged
+abbrev pub kind_judged : List ℕ → Verdict
 kind_judged bytes = cond (eqb (kind_of bytes) 1 && eqb (kind_for (numbers_of bytes)) 0) (refused (plainly 19)) fine
 
 -- Bytes of a kind and a count that have passed 1 to 4.
@@ -40,56 +34,36 @@ pub record Kinded (bytes : List ℕ) (kind count : ℕ) : Type 0 where
 
 -- ---- what is gathered of the jobs
 
--- A job within its limits is gathered, and the search goes on behind it; else it ends before it, and its bad field is named.
-abbrev pub taken_in : Job → Gathered → Gathered
-taken_in j jobs = cond (fields_within (fields_of j))
-    (record {
-      count = jobs.count;
-      place = jobs.place + 1;
-      end = jobs.end;
-      weight = jobs.weight + nat_abs j.weight;
-      field = jobs.field;
-    })
-    (record {
-      count = jobs.count;
-      place = jobs.place;
-      end = jobs.place;
-      weight = jobs.weight;
-      field = bad_field (fields_of j);
-    })
+-- A job within its limits is taken in, and its weight told; else it is refused at its place, and its bad field is named.
+abbrev pub taken_in : Job → ℕ → Result ℕ Refusal
+taken_in j place = cond (fields_within (fields_of j)) (Ok (nat_abs j.weight)) (Err (in_field 6 place (bad_field (fields_of j))))
 
--- The number of a gathered job is noted at its place.
+-- The number of a job that is taken in is noted at its place.
 abbrev pub noted_in : Job → ℕ → List ℕ → List ℕ
 noted_in j place numbers = cond (fields_within (fields_of j)) (set numbers place (nat_abs j.number)) numbers
-
--- There is room for one job more: for its number, and for its weight beside those of the jobs before it.
-pub record CanTakeIn (jobs : Gathered) (numbers : List ℕ) : Type 0 where
-  pub room : jobs.place < length numbers
-  pub few : length numbers ≡ 48
-  pub light : jobs.weight ≤ 50 * jobs.place
 
 -- All jobs are at hand, and there is room for their numbers.
 pub record CanGather (There : Type 0) (numbers : List ℕ) : Type 0 where
   pub there : There
   pub room : length numbers ≡ 48
 
--- All jobs were counted, the first out of range stands at the place, the field is its first that is, the numbers of those before
--- it are gathered, and so are the weights where none is out of range.
-pub record Found (zs : List ℤ) (numbers : List ℕ) (jobs : Gathered) : Type 0 where
+-- All jobs were counted, none is out of range, and their numbers and weights are gathered.
+pub record AllIn (zs : List ℤ) (numbers : List ℕ) (jobs : Gathered) : Type 0 where
   pub counted : jobs.count ≡ job_count zs
   pub room : jobs.count ≤ length numbers
-  pub first-bad : jobs.place ≡ first_bad zs
-  pub named : jobs.place < jobs.count → jobs.field ≡ bad_field (fields_at zs jobs.place)
-  pub gathered : (k : ℕ) → k < jobs.place → number_at zs k ≡ pos (get_or numbers k 0)
-  pub weighed : jobs.count ≤ jobs.place → jobs.weight ≡ weight_of (jobs_of zs)
+  pub none-bad : first_bad zs ≡ job_count zs
+  pub gathered : (k : ℕ) → k < jobs.count → number_at zs k ≡ pos (get_or numbers k 0)
+  pub weighed : jobs.weight ≡ weight_of (jobs_of zs)
 
--- 6 and 7 of gathered jobs.
-abbrev pub found_in : List ℕ → Gathered → Judged
-found_in numbers jobs =
-    judge (check_field 6 jobs.place jobs.count jobs.field
-    ∷ check_at 7 (first_again (take jobs.count numbers)) jobs.count
-    ∷ [])
+-- That, or refusal 6 as it is judged.
+abbrev pub Gathers : List ℤ → List ℕ → Result Gathered Refusal → Type 0
+Gathers zs numbers (Ok jobs) = AllIn zs numbers jobs
+Gathers zs numbers (Err r) = judge (job_checks zs) ≡ refused r
+
+-- 7 of gathered numbers.
+abbrev pub repeats_judged : List ℕ → ℕ → Verdict
+repeats_judged numbers count = judge (check_at 7 (first_again (take count numbers)) count ∷ [])
 
 -- 9 of a weight that is there before, and the weight of all jobs.
-abbrev pub sum_judged : ℕ → ℕ → Judged
+abbrev pub sum_judged : ℕ → ℕ → Verdict
 sum_judged before weight = judge (check 9 (ltb most_weight (before + weight)) ∷ [])

@@ -52,7 +52,11 @@ pub fn bad_field(job: Job) -> Option<Field>
     let mut bad = field_or(is_time(job.deadline), Field::Deadline, None);
     bad = field_or(between(1, 10000, job.length), Field::Length, bad);
     bad = field_or(is_time(job.ready), Field::Ready, bad);
-    bad = field_or(weight_within(job.critical == 1, job.weight), Field::Weight, bad);
+    bad = field_or(
+        weight_within(job.critical == 1, job.weight),
+        Field::Weight,
+        bad,
+    );
     bad = field_or(between(0, 1, job.critical), Field::Critical, bad);
     bad = field_or(between(0, 255, job.pack), Field::Pack, bad);
     field_or(between(0, 63, job.number), Field::Number, bad)

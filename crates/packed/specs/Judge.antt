@@ -47,6 +47,11 @@ judge (c ∷ cs) =
     let later = judge cs in
     cond c.applies (refused c.says) later
 
+-- The refusal of a call's answer, as it stands in the answer's numbers.
+abbrev pub refusal_of : {T : Type 0} → Result T Refusal → Refusal
+refusal_of (Ok x) = no_refusal
+refusal_of (Err r) = r
+
 -- A verdict, or the next one where it is fine.
 abbrev pub or_else : Verdict → Verdict → Verdict
 or_else (Ok u) v = v

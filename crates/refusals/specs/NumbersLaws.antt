@@ -9,7 +9,7 @@ use Rattle.refusals.specs.declared.Reason.TheVariants.{PlanWrongLength, PlanStra
 use Rattle.refusals.specs.declared.Reason.TheVariants.{NoSheet, EveryPackZero}
 use Rattle.refusals.specs.declared.Field.{Field}
 use Rattle.refusals.specs.declared.Field.TheVariants.{Number, Pack, Critical, Weight, Ready, Length, Deadline}
-use Rattle.refusals.specs.Numbers.{number_of, reason_of, figure_or_none, field_of}
+use Rattle.refusals.specs.Numbers.{number_of, reason_of, figure_of, figure_or_none, field_of}
 
 -- A reason by its number,
 pub told-back : (r : Reason) → reason_of (number_of r) ≡ r
@@ -76,7 +76,16 @@ number-high FrameTooLong = omega arith
 number-high NoSheet = omega arith
 number-high EveryPackZero = omega arith
 
--- a field by its figure,
+-- a field by its figure, which is not 0,
+pub figure-low : (f : Field) → 1 ≤ figure_of f
+figure-low Number = omega arith
+figure-low Pack = omega arith
+figure-low Critical = omega arith
+figure-low Weight = omega arith
+figure-low Ready = omega arith
+figure-low Length = omega arith
+figure-low Deadline = omega arith
+
 pub field-told-back : (f : Option Field) → field_of (figure_or_none f) ≡ f
 field-told-back None = refl
 field-told-back (Some Number) = refl

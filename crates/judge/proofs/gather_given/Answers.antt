@@ -1,32 +1,34 @@
--- `judge::gather_given` meets its contract. The loop's invariant: no job before the place is out of range, and they are gathered.
+-- `judge::gather_given` meets its contract: a turn takes one job in.
 -- Assumes nothing.
-use Rattle.judge.specs.Gathering.{can-take-in, passing-on, passing-less, passing-ends}
-use Rattle.judge.specs.Gathering.{given-starts, given-room, given-turn}
+use mathlib.Core.Path.{◌≡◌, sym, ◌∙◌, subst}
+use native.Mathlib.Omega.{arith}
+use Prim.Native.Nat.{◌/◌}
+use lib.ListN.{length}
+use borrow.Author.Rules.{rules}
+use Rattle.std.proofs.Common.{Err}
+use Rattle.judge.specs.Verdicts.{Gathers}
+use Rattle.judge.specs.Gathering.{given-starts, given-room, given-turn, can-note, weight-light, passing-on, refused-here, passing-ends}
 use Rattle.judge.proofs.gather_given.Goals as goal
 
-pub loop-jobs-init : goal.loop-jobs-init
-loop-jobs-init c = given-starts c.args.given.now c.requires.there c.requires.room
-
-pub job_from-job-requires : goal.job_from-job-requires
-job_from-job-requires c = given-room c.args.given.now c.requires.there c.loop-jobs-test.true c.loop-jobs.invariant
+pub loop-place-init : goal.loop-place-init
+loop-place-init c = given-starts c.args.given.now c.requires.there c.requires.room
 
 -- The job that was read is the job at the place.
-pub take_in-jobs-requires : goal.take_in-jobs-requires
-take_in-jobs-requires c =
-    can-take-in
-    (given-turn c.args.given.now c.requires.there c.loop-jobs-test.true c.loop-jobs.invariant c.job_from-job.result c.job_from-job.ensures)
+pub returns-in_err-weight : goal.returns-in_err-weight
+returns-in_err-weight c =
+    let e : c.from_residual.result ≡ Err c.in_err-weight.field-0.0 = search rules in
+    let turn = given-turn c.args.given.now c.requires.there c.loop-place-test.true c.loop-place.invariant
+    c.job_from-job.result c.job_from-job.ensures in
+    subst (λ r. Gathers c.args.given.now c.take_in.new.numbers r) (sym e)
+    (refused-here turn (sym c.take_in.ensures.goes ∙ c.in_err-weight.was))
 
-pub loop-jobs-smaller : goal.loop-jobs-smaller
-loop-jobs-smaller c =
-    passing-less
-    (given-turn c.args.given.now c.requires.there c.loop-jobs-test.true c.loop-jobs.invariant c.job_from-job.result c.job_from-job.ensures)
-    c.take_in-jobs.result c.take_in-jobs.ensures.goes
-
-pub loop-jobs-preserved : goal.loop-jobs-preserved
-loop-jobs-preserved c =
-    passing-on
-    (given-turn c.args.given.now c.requires.there c.loop-jobs-test.true c.loop-jobs.invariant c.job_from-job.result c.job_from-job.ensures)
-    c.take_in-jobs.result c.take_in-jobs.ensures.goes c.take_in-jobs.new.numbers c.take_in-jobs.ensures.notes
+pub loop-place-preserved : goal.loop-place-preserved
+loop-place-preserved c =
+    let turn = given-turn c.args.given.now c.requires.there c.loop-place-test.true c.loop-place.invariant
+    c.job_from-job.result c.job_from-job.ensures in
+    passing-on turn (sym c.take_in.ensures.goes ∙ c.in_ok-weight.was) c.take_in.new.numbers c.take_in.ensures.notes
 
 pub returns : goal.returns
-returns c = passing-ends c.args.given.now c.loop-jobs.numbers c.loop-jobs.jobs c.loop-jobs-test.false c.loop-jobs.invariant
+returns c =
+    passing-ends c.args.given.now c.loop-place.numbers (length c.args.given.now / 7) c.loop-place.place c.loop-place.weight (omega arith)
+    c.loop-place.invariant

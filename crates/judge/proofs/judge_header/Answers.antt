@@ -30,29 +30,29 @@ use Rattle.judge.proofs.judge_header.Goals as goal
 pub returns-then-bytes-lt4 : goal.returns-then-bytes-lt4
 returns-then-bytes-lt4 c =
     let bytes = c.args.bytes.now in
-    rw (c.plainly.ensures, header-judge bytes, lt-ltb (length bytes) 4 c.if-bytes-lt4.true)
+    rw (c.into.ensures, header-judge bytes, lt-ltb (length bytes) 4 c.if-bytes-lt4.true)
 
-pub returns-then-kind-gt1 : goal.returns-then-kind-gt1
-returns-then-kind-gt1 c =
+pub returns-then-header-gt1 : goal.returns-then-header-gt1
+returns-then-header-gt1 c =
     let bytes = c.args.bytes.now in
     let header = c.header_at-header.result in
     rw (
-      c.plainly-then-kind-gt1.ensures,
+      c.into-then-header-gt1.ensures,
       header-told bytes header (header_read bytes header c.header_at-header.ensures),
       le-ltb (length bytes) 4 c.if-bytes-lt4.false,
-      lt-ltb 1 header.kind c.if-kind-gt1.true,
+      lt-ltb 1 header.kind c.if-header-gt1.true,
     )
 
-pub returns-then-count-gt-MOST_JOBS : goal.returns-then-count-gt-MOST_JOBS
-returns-then-count-gt-MOST_JOBS c =
+pub returns-then-header-gt-MOST_JOBS : goal.returns-then-header-gt-MOST_JOBS
+returns-then-header-gt-MOST_JOBS c =
     let bytes = c.args.bytes.now in
     let header = c.header_at-header.result in
     rw (
-      c.plainly-then-count-gt-MOST_JOBS.ensures,
+      c.into-then-header-gt-MOST_JOBS.ensures,
       header-told bytes header (header_read bytes header c.header_at-header.ensures),
       le-ltb (length bytes) 4 c.if-bytes-lt4.false,
-      le-ltb 1 header.kind c.if-kind-gt1.false,
-      lt-ltb 48 header.count c.if-count-gt-MOST_JOBS.true,
+      le-ltb 1 header.kind c.if-header-gt1.false,
+      lt-ltb 48 header.count c.if-header-gt-MOST_JOBS.true,
     )
 
 -- The length that the header asks for.
@@ -71,13 +71,13 @@ module _ (long size kind count : ℕ) (sized : size ≡ record_bytes kind) where
 pub overflow_mul-record_bytes : goal.overflow_mul-record_bytes
 overflow_mul-record_bytes c =
     let header = c.header_at-header.result in
-    let h = few 0 c.record_bytes.result header.kind header.count c.record_bytes.ensures c.if-count-gt-MOST_JOBS.false in
+    let h = few 0 c.record_bytes.result header.kind header.count c.record_bytes.ensures c.if-header-gt-MOST_JOBS.false in
     omega (arith, h)
 
 pub overflow_add-record_bytes : goal.overflow_add-record_bytes
 overflow_add-record_bytes c =
     let header = c.header_at-header.result in
-    let h = few 0 c.record_bytes.result header.kind header.count c.record_bytes.ensures c.if-count-gt-MOST_JOBS.false in
+    let h = few 0 c.record_bytes.result header.kind header.count c.record_bytes.ensures c.if-header-gt-MOST_JOBS.false in
     omega (arith, h)
 
 pub returns-then-bytes-record_bytes : goal.returns-then-bytes-record_bytes
@@ -85,11 +85,11 @@ returns-then-bytes-record_bytes c =
     let bytes = c.args.bytes.now in
     let header = c.header_at-header.result in
     rw (
-      c.plainly-then-bytes-record_bytes.ensures,
+      c.into-then-bytes-record_bytes.ensures,
       header-told bytes header (header_read bytes header c.header_at-header.ensures),
       le-ltb (length bytes) 4 c.if-bytes-lt4.false,
-      le-ltb 1 header.kind c.if-kind-gt1.false,
-      le-ltb 48 header.count c.if-count-gt-MOST_JOBS.false,
+      le-ltb 1 header.kind c.if-header-gt1.false,
+      le-ltb 48 header.count c.if-header-gt-MOST_JOBS.false,
       ne_eqb (length bytes) (4 + record_bytes header.kind * header.count)
           (other (length bytes) c.record_bytes.result header.kind header.count c.record_bytes.ensures c.if-bytes-record_bytes.true),
     )
@@ -113,8 +113,8 @@ pub returns-then-not-is_time : goal.returns-then-not-is_time
 returns-then-not-is_time c =
     let fits : SFits w32 c.header_at-header.result.t0 = search rules in
     let l = left c.args.bytes.now c.header_at-header.result c.record_bytes.result c.is_time.result c.header_at-header.ensures fits
-    c.if-bytes-lt4.false c.if-kind-gt1.false c.if-count-gt-MOST_JOBS.false c.record_bytes.ensures c.if-bytes-record_bytes.false c.is_time.ensures in
-    rw (c.plainly-then-not-is_time.ensures, l, c.if-not-is_time.true)
+    c.if-bytes-lt4.false c.if-header-gt1.false c.if-header-gt-MOST_JOBS.false c.record_bytes.ensures c.if-bytes-record_bytes.false c.is_time.ensures in
+    rw (c.into-then-not-is_time.ensures, l, c.if-not-is_time.true)
 
 pub judge_kind-requires : goal.judge_kind-requires
 judge_kind-requires c =
@@ -124,8 +124,8 @@ judge_kind-requires c =
     record {
       kind-is = r.kind;
       count-is = r.count;
-      known = c.if-kind-gt1.false;
-      few = c.if-count-gt-MOST_JOBS.false;
+      known = c.if-header-gt1.false;
+      few = c.if-header-gt-MOST_JOBS.false;
       whole = rw (← r.kind, ← r.count)
           (whole (length bytes) c.record_bytes.result header.kind header.count c.record_bytes.ensures c.if-bytes-record_bytes.false);
     }
@@ -134,5 +134,5 @@ pub returns : goal.returns
 returns c =
     let fits : SFits w32 c.header_at-header.result.t0 = search rules in
     let l = left c.args.bytes.now c.header_at-header.result c.record_bytes.result c.is_time.result c.header_at-header.ensures fits
-    c.if-bytes-lt4.false c.if-kind-gt1.false c.if-count-gt-MOST_JOBS.false c.record_bytes.ensures c.if-bytes-record_bytes.false c.is_time.ensures in
+    c.if-bytes-lt4.false c.if-header-gt1.false c.if-header-gt-MOST_JOBS.false c.record_bytes.ensures c.if-bytes-record_bytes.false c.is_time.ensures in
     rw (c.judge_kind.ensures, l, c.if-not-is_time.false)

@@ -19,13 +19,13 @@ use Rattle.judge.proofs.judge_list.Goals as goal
 pub returns-then-given : goal.returns-then-given
 returns-then-given c =
     let zs = c.args.given.now in
-    rw (c.plainly.ensures, list-judge c.args.t0 zs, lt-ltb 336 (length zs) c.if-given.true)
+    rw (c.into.ensures, list-judge c.args.t0 zs, lt-ltb 336 (length zs) c.if-given.true)
 
 pub returns-then-given-ne0 : goal.returns-then-given-ne0
 returns-then-given-ne0 c =
     let zs = c.args.given.now in
     rw (
-      c.plainly-then-given-ne0.ensures,
+      c.into-then-given-ne0.ensures,
       list-judge c.args.t0 zs,
       le-ltb 336 (length zs) c.if-given.false,
       ne_eqb (length zs % 7) 0 c.if-given-ne0.true,
@@ -46,7 +46,7 @@ left t0 zs timely fits few whole time =
 pub returns-then-not-is_time : goal.returns-then-not-is_time
 returns-then-not-is_time c =
     let l = left c.args.t0 c.args.given.now c.is_time.result c.ranges.t0 c.if-given.false c.if-given-ne0.false c.is_time.ensures in
-    rw (c.plainly-then-not-is_time.ensures, l, c.if-not-is_time.true)
+    rw (c.into-then-not-is_time.ensures, l, c.if-not-is_time.true)
 
 pub returns : goal.returns
 returns c =

@@ -6,37 +6,49 @@ use lib.IntN.{ℤ}
 use mir.Syntax.{w32}
 use mir.Val.{SFits, to_z, of_z}
 use mir.Facts.{to_z-of_z}
-use Rattle.packed.specs.Judge.{judge}
-use Rattle.packed.specs.Refusals.{list_checks, job_checks, weight_checks}
-use Rattle.judge.specs.declared.Verdict.{Verdict}
-use Rattle.judge.specs.Verdicts.{verdict_of}
-use Rattle.judge.specs.Told.{given-told, told-fine, first-refused, rest-told}
+use borrow.Author.Rules.{rules}
+use Rattle.std.proofs.Common.{Err}
+use Rattle.packed.specs.Judge.{Verdict, judge}
+use Rattle.packed.specs.Refusals.{list_checks}
+use Rattle.judge.specs.Told.{given-told, first-refused, jobs-refused, repeats-refused, sum-left}
 use Rattle.judge.proofs.judge_numbers.Goals as goal
 
 -- The verdict of 3 to 5.
-list-says : (t0 : ℤ) (zs : List ℤ) (v : Verdict) → SFits w32 t0 → v ≡ verdict_of (judge (list_checks (to_z w32 (of_z w32 t0)) zs))
-    → v ≡ verdict_of (judge (list_checks t0 zs))
-list-says t0 zs v fits e = e ∙ ap (λ t. verdict_of (judge (list_checks t zs))) (to_z-of_z fits)
+list-says : (t0 : ℤ) (zs : List ℤ) {v w : Verdict} → SFits w32 t0 → v ≡ judge (list_checks (to_z w32 (of_z w32 t0)) zs) → v ≡ w
+    → judge (list_checks t0 zs) ≡ w
+list-says t0 zs fits e is = sym (e ∙ ap (λ t. judge (list_checks t zs)) (to_z-of_z fits)) ∙ is
 
-pub gather_given-jobs-requires : goal.gather_given-jobs-requires
-gather_given-jobs-requires c =
-    let t0 = c.args.t0 in
+pub returns-in_err-judge_list : goal.returns-in_err-judge_list
+returns-in_err-judge_list c =
+    let e : c.from_residual.result ≡ Err c.in_err-judge_list.field-0.0 = search rules in
     let zs = c.args.given.now in
-    let told = list-says t0 zs c.judge_list.result c.ranges.t0 c.judge_list.ensures in
-    record { there = given-told t0 zs (told-fine (list_checks t0 zs) (sym told ∙ c.in-Fine.is)); room = refl }
+    e ∙ sym (first-refused (list_checks c.args.t0 zs) zs 0 (list-says c.args.t0 zs c.ranges.t0 c.judge_list.ensures c.in_err-judge_list.was))
 
-pub returns-in-Refused : goal.returns-in-Refused
-returns-in-Refused c =
-    let t0 = c.args.t0 in
+pub gather_given-requires : goal.gather_given-requires
+gather_given-requires c =
     let zs = c.args.given.now in
-    let told = list-says t0 zs c.judge_list.result c.ranges.t0 c.judge_list.ensures in
-    sym (first-refused (list_checks t0 zs) (job_checks zs) (weight_checks 0 zs) c.in-Refused.refusal (sym told ∙ c.in-Refused.is))
+    let passed = list-says c.args.t0 zs c.ranges.t0 c.judge_list.ensures c.in_ok-judge_list.was in
+    record { there = given-told c.args.t0 zs passed; room = refl }
 
-pub returns-in-Fine : goal.returns-in-Fine
-returns-in-Fine c =
-    let t0 = c.args.t0 in
+pub returns-in_err-jobs : goal.returns-in_err-jobs
+returns-in_err-jobs c =
+    let e : c.from_residual-in_err-jobs.result ≡ Err c.in_err-jobs.field-0.0 = search rules in
     let zs = c.args.given.now in
-    let told = list-says t0 zs c.judge_list.result c.ranges.t0 c.judge_list.ensures in
-    c.judge_gathered.ensures
-    ∙ sym (ap verdict_of (rest-told zs c.gather_given-jobs.new.numbers c.gather_given-jobs.result c.gather_given-jobs.ensures
-    (list_checks t0 zs) 0 (told-fine (list_checks t0 zs) (sym told ∙ c.in-Fine.is))))
+    let passed = list-says c.args.t0 zs c.ranges.t0 c.judge_list.ensures c.in_ok-judge_list.was in
+    e ∙ sym (jobs-refused (list_checks c.args.t0 zs) zs 0 passed c.in_err-jobs.ensures)
+
+pub returns-in_err-judge_repeats : goal.returns-in_err-judge_repeats
+returns-in_err-judge_repeats c =
+    let e : c.from_residual-in_err-judge_repeats.result ≡ Err c.in_err-judge_repeats.field-0.0 = search rules in
+    let zs = c.args.given.now in
+    let passed = list-says c.args.t0 zs c.ranges.t0 c.judge_list.ensures c.in_ok-judge_list.was in
+    e ∙ sym (repeats-refused (list_checks c.args.t0 zs) zs 0 passed c.gather_given.new.numbers c.in_ok-jobs.jobs c.in_ok-jobs.ensures
+    (sym c.judge_repeats.ensures ∙ c.in_err-judge_repeats.was))
+
+pub returns : goal.returns
+returns c =
+    let zs = c.args.given.now in
+    let passed = list-says c.args.t0 zs c.ranges.t0 c.judge_list.ensures c.in_ok-judge_list.was in
+    c.judge_sum.ensures
+    ∙ sym (sum-left (list_checks c.args.t0 zs) zs 0 passed c.gather_given.new.numbers c.in_ok-jobs.jobs c.in_ok-jobs.ensures
+    (sym c.judge_repeats.ensures ∙ c.in_ok-judge_repeats.was))
