@@ -1,5 +1,5 @@
 // Choices of an order run one by one: what a choice comes to, the best of them, and its figures.
-use careful::{more, plus};
+use careful::{Job, jobs_of, more, plus};
 use std::cmp::Ordering;
 
 // The most jobs of an order.
@@ -10,42 +10,6 @@ pub const REST: i32 = 15;
 
 // What stands for the start of a job that is left out.
 pub const LEFT_OUT: i32 = 200_000;
-
-// A job of an order. Its pack is not read.
-#[derive(Clone, Copy, Default)]
-pub struct Job {
-    pub number: i32,
-    pub critical: bool,
-    pub weight: i32,
-    pub ready: i32,
-    pub length: i32,
-    pub deadline: i32,
-}
-
-impl Job {
-    // The job of seven numbers.
-    pub fn of(numbers: &[i32; 7]) -> Job {
-        let [number, _, critical, weight, ready, length, deadline] = *numbers;
-        Job {
-            number,
-            critical: critical == 1,
-            weight,
-            ready,
-            length,
-            deadline,
-        }
-    }
-}
-
-// The numbers of an order, job by job.
-pub fn jobs_of(numbers: &[i32]) -> &[[i32; 7]] {
-    numbers.as_chunks().0
-}
-
-// The job at a place of an order; past the end one of zeros.
-pub fn job_at(numbers: &[i32], place: usize) -> Job {
-    jobs_of(numbers).get(place).map(Job::of).unwrap_or_default()
-}
 
 // What running a choice comes to: whether it may be run at all, when the bus is free after it, and the
 // weight kept.
@@ -131,7 +95,7 @@ pub fn run(jobs: &[[i32; 7]], from: i32, choice: u32) -> Outcome {
     };
     let mut left = choice;
     for numbers in jobs {
-        let job = Job::of(numbers);
+        let job = Job::from(*numbers);
         outcome = if left % 2 == 1 {
             outcome.keep(job)
         } else {
@@ -179,7 +143,7 @@ pub fn write_starts(numbers: &[i32], t0: i32, choice: u32, starts: &mut [i32]) {
     let mut free = t0;
     let mut left = choice;
     for (start, numbers) in starts.iter_mut().zip(jobs_of(numbers)) {
-        let job = Job::of(numbers);
+        let job = Job::from(*numbers);
         *start = LEFT_OUT;
         if left % 2 == 1 {
             *start = free.max(job.ready);
@@ -203,7 +167,7 @@ pub fn tally_of(numbers: &[i32], choice: u32) -> Tally {
         tally = if left % 2 == 1 {
             tally.keep(bit)
         } else {
-            tally.leave(Job::of(numbers))
+            tally.leave(Job::from(*numbers))
         };
         bit /= 2;
         left /= 2;

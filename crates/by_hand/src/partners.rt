@@ -1,6 +1,5 @@
 // Orders of halves: which job offends, found by asking every earlier job whether it is the partner.
-use crate::choices::{Job, jobs_of};
-use careful::{count_of, is_count, plus};
+use careful::{Job, count_of, is_count, jobs_of, plus};
 
 // The highest number of a critical half, and how far above it its optional half's number lies.
 const HIGHEST_HALF: i32 = 31;
@@ -25,7 +24,7 @@ fn offends(earlier: &[[i32; 7]], job: Job) -> bool {
     if job.critical {
         return job.number > HIGHEST_HALF;
     }
-    let mut partners = earlier.iter().map(Job::of);
+    let mut partners = earlier.iter().copied().map(Job::from);
     !is_optional_length(job.length, job.weight)
         || !partners.any(|half| is_partner(half, job.number))
 }
@@ -34,7 +33,7 @@ fn offends(earlier: &[[i32; 7]], job: Job) -> bool {
 pub fn first_offending(numbers: &[i32]) -> Option<usize> {
     let jobs = jobs_of(numbers);
     for place in 0..jobs.len() {
-        if offends(&jobs[..place], Job::of(&jobs[place])) {
+        if offends(&jobs[..place], Job::from(jobs[place])) {
             return Some(place);
         }
     }

@@ -2,8 +2,8 @@
 // latest of the rests before it; and the plan of starts is packed bit by bit.
 ghost use Rattle.std.specs.Prelude.{◌≤◌};
 
-use crate::choices::{Job, LEFT_OUT, REST, jobs_of};
-use careful::{at, count_of, plus};
+use crate::choices::{LEFT_OUT, REST};
+use careful::{Job, at, count_of, jobs_of, plus};
 use refusals::Reason;
 
 // The bits of a mask, the bits of a start and the numbers that they tell apart, and the bytes of the
@@ -145,7 +145,7 @@ pub fn judge_plan(numbers: &[i32], t0: i32, plan: &[u8]) -> Result<Judged, Reaso
         over: LONG_AGO,
     };
     for (place, numbers) in jobs.iter().enumerate() {
-        let job = Job::of(numbers);
+        let job = Job::from(*numbers);
         judged = match start_in(plan, place) {
             Some(start) => judged.keep(job, t0, start),
             None => judged.leave(job),

@@ -3,8 +3,8 @@
 // time and its weight.
 ghost use Rattle.std.specs.Prelude.{◌≤◌};
 
-use crate::choices::{choices, jobs_of, run, tally_of};
-use careful::{front, more, plus, put};
+use crate::choices::{choices, run, tally_of};
+use careful::{front, jobs_of, more, plus, put};
 
 // The most outcomes of a profile's extension, of two profiles' points and of an order's choices: those of four
 // points and ten jobs, of 301 points twice, and of ten jobs.

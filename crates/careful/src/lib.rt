@@ -89,3 +89,60 @@ pub fn more(count: u64, by: u64) -> u64 {
     }
     count + by
 }
+
+// A job of an order of numbers, which has seven for each.
+#[derive(Clone, Copy, Default)]
+pub struct Job {
+    pub number: i32,
+    pub pack: i32,
+    pub critical: bool,
+    pub weight: i32,
+    pub ready: i32,
+    pub length: i32,
+    pub deadline: i32,
+}
+
+impl From<[i32; 7]> for Job {
+    fn from([number, pack, critical, weight, ready, length, deadline]: [i32; 7]) -> Job {
+        Job {
+            number,
+            pack,
+            critical: critical == 1,
+            weight,
+            ready,
+            length,
+            deadline,
+        }
+    }
+}
+
+impl From<Job> for [i32; 7] {
+    fn from(job: Job) -> [i32; 7] {
+        [
+            job.number,
+            job.pack,
+            job.critical as i32,
+            job.weight,
+            job.ready,
+            job.length,
+            job.deadline,
+        ]
+    }
+}
+
+// The numbers of an order, job by job.
+pub fn jobs_of(numbers: &[i32]) -> &[[i32; 7]] {
+    numbers.as_chunks().0
+}
+
+// The job at a place of an order; past the end one of zeros.
+pub fn job_at(numbers: &[i32], place: usize) -> Job {
+    jobs_of(numbers).get(place).copied().map(Job::from).unwrap_or_default()
+}
+
+// Puts a job at a place; past the end nothing is written.
+pub fn put_job(numbers: &mut [i32], place: usize, job: Job) {
+    if let Some(slot) = numbers.as_chunks_mut().0.get_mut(place) {
+        *slot = job.into();
+    }
+}
