@@ -2,7 +2,7 @@
 // trial programs carry no bounds of their own. Every function is safe and ends. Assumes nothing.
 #![tactic(auto)]
 
-ghost use Rattle.std.specs.Prelude.{◌≤◌};
+ghost use Rattle.std.specs.Prelude.{◌≤◌, ◌<◌, length, IfSome};
 
 // The numbers of a sum are no less than the first and no greater than the second.
 const LOW: i32 = -1_000_000;
@@ -35,16 +35,17 @@ pub fn lend<T>(items: &mut [T], many: usize) -> &mut [T] {
     &mut items[..end]
 }
 
-// The first place, from a place on, that holds another number than one; none is past the end.
-pub fn first_other(numbers: &[i32], number: i32, from: usize) -> usize
-    ensures { from ≤ result }
+// The first place, from a place on, that holds another number than one.
+pub fn first_other(numbers: &[i32], number: i32, from: usize) -> Option<usize>
+    ensures behind { IfSome result (λ place. from ≤ place) }
+    ensures within { IfSome result (λ place. place < length numbers.now) }
 {
-    for i in from..numbers.len() {
-        if numbers[i] != number {
-            return i;
+    for place in from..numbers.len() {
+        if numbers[place] != number {
+            return Some(place);
         }
     }
-    from.max(numbers.len())
+    None
 }
 
 // Whether all numbers are one number. There is no way out but the end, so that it is compiled to vectors:
@@ -137,7 +138,11 @@ pub fn jobs_of(numbers: &[i32]) -> &[[i32; 7]] {
 
 // The job at a place of an order; past the end one of zeros.
 pub fn job_at(numbers: &[i32], place: usize) -> Job {
-    jobs_of(numbers).get(place).copied().map(Job::from).unwrap_or_default()
+    jobs_of(numbers)
+        .get(place)
+        .copied()
+        .map(Job::from)
+        .unwrap_or_default()
 }
 
 // Puts a job at a place; past the end nothing is written.

@@ -10,7 +10,8 @@ use refusals::Reason;
 use ties::Chosen;
 
 // Which of two openings of the same weight must win: the one that reaches it sooner, of both at once the
-// first; or always the first.
+// first; or always the first. It is matched where it is asked, and no closure is handed down: one would bring a
+// `requires` to every function on the way.
 #[derive(Clone, Copy)]
 enum Rule {
     Sooner,
@@ -71,15 +72,14 @@ fn hand<'a>(rule: Rule, first: &'a [u8], second: &'a [u8], t: i32, work: &mut [i
 
 // Whether an answer names the opening that must win, and the kind of its records.
 fn is_answer(answer: Answer, first: &[u8], second: &[u8], won: Option<Winner>) -> bool {
+    let kind = answer.kind;
     match answer.chosen {
         Chosen::Refused(refusal) => {
             let number = Reason::NoFeasibleChoice.number();
-            won.is_none() && answer.kind == 0 && says(refusal, number, 0)
+            won.is_none() && kind == 0 && says(refusal, number, 0)
         }
-        Chosen::First => { won == Some(Winner::First) && answer.kind == records_kind(first) as u32 }
-        Chosen::Second => {
-            won == Some(Winner::Second) && answer.kind == records_kind(second) as u32
-        }
+        Chosen::First => won == Some(Winner::First) && kind == records_kind(first) as u32,
+        Chosen::Second => won == Some(Winner::Second) && kind == records_kind(second) as u32,
     }
 }
 

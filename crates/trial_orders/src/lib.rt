@@ -15,8 +15,7 @@ pub use damages::draw_damage;
 pub use easing::{Change, change_of, ease};
 use jobs::draw_job;
 pub use kinds::{HALVES_KINDS, KINDS, Kind, halves_kind_of, kind_of};
-use seeds::Seed;
-pub use seeds::{drawn, drawn_byte, drawn_from, next};
+pub use seeds::{Seed, drawn, drawn_byte, drawn_from, next};
 
 // The first and the last second that a job may be ready at or due by.
 const EARLIEST: i32 = -100_000;
