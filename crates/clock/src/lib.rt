@@ -11,14 +11,14 @@ use profiles::REST;
 pub fn lesser(a: i32, b: i32) -> i32
     ensures { result ≡ min_z a b }
 {
-    if a <= b { a } else { b }
+    a.min(b)
 }
 
 // The greater of two times.
 pub fn greater(a: i32, b: i32) -> i32
     ensures { result ≡ max_z a b }
 {
-    if a <= b { b } else { a }
+    a.max(b)
 }
 
 // When the bus is free again after a finish.

@@ -15,28 +15,30 @@ use profiles::LATEST;
 // The first second that a point may have.
 const EARLIEST: i32 = -100_000;
 
-// What a search of a list finds: nothing, or a point, its weight and time.
+// A point that was found: its weight and its time.
 #[derive(Clone, Copy)]
-pub enum Found {
-    Nothing,
-    At(usize, i32),
+pub struct Found {
+    pub weight: usize,
+    pub time: i32,
 }
 
 // The last point at or before a time. Every time is asked for one that a point may have.
-pub fn last_by(work: &[i32], place: usize, count: usize, by: i32) -> Found
+pub fn last_by(work: &[i32], place: usize, count: usize, by: i32) -> Option<Found>
     requires { Stands work.now place count }
     ensures { result ≡ found (lookup (list_at work.now place count) by) }
 {
     if by < EARLIEST {
-        return Found::Nothing;
+        return None;
     }
-    let limit = limit_by(lesser(by, LATEST));
-    let end = after(work, place, place + count, limit);
+    let end = after(work, place, place + count, limit_by(lesser(by, LATEST)));
     if end == place {
-        return Found::Nothing;
+        return None;
     }
     let code = work[end - 1];
-    Found::At(weight_in(code), time_in(code))
+    Some(Found {
+        weight: weight_in(code),
+        time: time_in(code),
+    })
 }
 
 // The two numbers of the point at a place.
@@ -53,10 +55,8 @@ pub fn write_list(work: &[i32], place: usize, count: usize, out: &mut [i32])
     requires { CanWrite work.now place count out.old }
     ensures { out.new ≡ written_over (alternating (list_at work.now place count)) out.old }
 {
-    let mut k = 0;
-    while k < count {
+    for k in 0..count {
         let code = work[place + k];
         put_point(out, k, time_in(code), weight_in(code) as i32);
-        k += 1;
     }
 }
