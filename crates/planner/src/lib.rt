@@ -8,6 +8,7 @@ ghost use Rattle.planner.specs.Calls.{PlanCall};
 ghost use Rattle.planner.specs.Planning.{CanPlan, CanPlanOver, CanMake, MadeIn};
 
 use area::{AREA, clear};
+use codes::Prefix;
 use fields::{Header, header_at};
 use filling::{Totals, fill_lists, notes, start_at};
 use judge::{Verdict, judge_order};
@@ -68,25 +69,23 @@ fn plan_by_lists(
     header: Header,
     starts: &mut [i32],
     work: &mut [i32],
-    places: &mut [usize],
-    counts: &mut [usize],
+    notes: &mut [Prefix],
 ) -> Planned
-    requires { CanPlanOver bytes.now header starts.old work.old places.old counts.old }
+    requires { CanPlanOver bytes.now header starts.old work.old notes.old }
     ensures { MadeIn bytes.now starts.old result starts.new }
 {
     let n = header.count;
     start_at(work, header.t0);
-    let totals = fill_lists(work, bytes, n, places, counts);
-    let place = places[n];
-    let count = counts[n];
-    match last_by(work, place, count, LATEST) {
+    let totals = fill_lists(work, bytes, n, notes);
+    let last = notes[n];
+    match last_by(work, last.place, last.count, LATEST) {
         Found::Nothing => Planned::Refused(plainly(11)),
         Found::At(weight, finish) => {
             let end = End {
                 weight: weight,
                 finish: finish,
             };
-            let mask = walk(work, bytes, n, places, counts, end);
+            let mask = walk(work, bytes, n, notes, end);
             make_plan(bytes, header, mask, totals, end, starts)
         }
     }
@@ -97,11 +96,8 @@ fn plan_within(bytes: &[u8], header: Header, starts: &mut [i32], work: &mut [i32
     requires { CanPlan bytes.now header starts.old work.old }
     ensures { MadeIn bytes.now starts.old result starts.new }
 {
-    let mut places = notes();
-    let mut counts = notes();
-    places[0] = 0;
-    counts[0] = 1;
-    plan_by_lists(bytes, header, starts, work, &mut places, &mut counts)
+    let mut noted = notes(1);
+    plan_by_lists(bytes, header, starts, work, &mut noted)
 }
 
 // Planning an order that has passed its checks: the room is judged, and the work area is cleared behind.

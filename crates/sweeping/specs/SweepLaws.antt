@@ -179,15 +179,15 @@ module _ {job : Terms} {rate : Rate} {list : Prefix} {points : ℕ} {work pushed
     }
       where
         stretch : Bool → Prefix
-        stretch c = record { place = (left c (end_of list) list points).place; count = (left c (end_of list) list points).count }
+        stretch c = (left c (end_of list) list points).list
 
-        ends : (c : Bool) → (end_of list ≤ (left c (end_of list) list points).place + (left c (end_of list) list points).count)
-            × ((left c (end_of list) list points).place + (left c (end_of list) list points).count ≤ end_of list + (left c (end_of list) list points).count)
+        ends : (c : Bool) → (end_of list ≤ end_of (left c (end_of list) list points).list)
+            × (end_of (left c (end_of list) list points).list ≤ end_of list + (left c (end_of list) list points).list.count)
         ends true = omega arith
         ends false = omega arith
 
         by : (c : Bool) {ps : List Point} → Carried ps list points work row → Cells row' (cond c [] ps)
-            → Carried (cond c [] ps) (record { place = (left c (end_of list) list points).place; count = (left c (end_of list) list points).count })
+            → Carried (cond c [] ps) ((left c (end_of list) list points).list)
             (left c (end_of list) list points).points work row'
         by true c cells = record {
           rises = rising_none;

@@ -7,11 +7,12 @@ ghost use Rattle.std.proofs.Math.Option.{some};
 ghost use Rattle.seconds.specs.Limits.{most_jobs};
 ghost use Rattle.packed.specs.Packed.{t0_of, jobs_in};
 ghost use Rattle.fields.specs.Fields.{as_job};
-ghost use Rattle.codes.specs.Code.{list_at};
+ghost use Rattle.codes.specs.Code.{points_at};
 ghost use Rattle.reading.specs.Reading.{Stands};
 ghost use Rattle.walking.specs.Trail.{leaves_out, Timely, last_start_of, StepsBack, step_back, Walks, walk_mask};
 
 use clock::{lesser, rested};
+use codes::Prefix;
 use fields::{Job, job_in};
 use reading::{Found, last_by};
 
@@ -41,14 +42,14 @@ fn bit_at(place: usize) -> u64
 
 // Whether a job is left out: it is not critical, and the list before it gives exactly the weight by the time. No greater weight
 // can be there: it would make a heavier plan.
-fn leaves(work: &[i32], place: usize, count: usize, critical: bool, weight: usize, by: i32) -> bool
-    requires { Stands work.now place count }
-    ensures { result ≡ leaves_out critical (list_at work.now place count) weight by }
+fn leaves(work: &[i32], list: Prefix, critical: bool, weight: usize, by: i32) -> bool
+    requires { Stands work.now list.place list.count }
+    ensures { result ≡ leaves_out critical (points_at work.now list) weight by }
 {
     if critical {
         return false;
     }
-    match last_by(work, place, count, by) {
+    match last_by(work, list.place, list.count, by) {
         Found::Nothing => false,
         Found::At(found, _) => found == weight,
     }
@@ -86,13 +87,13 @@ fn no_bit_if(so: bool, bit: u64) -> u64
 }
 
 // One job back: it is left out where the list before it gives the weight in time, else it is kept. No branch tells which.
-fn step_back(work: &[i32], place: usize, count: usize, bit: u64, job: Job, trail: Trail) -> Trail
-    requires { StepsBack work.now place count bit job trail }
-    ensures { some result ≡ step_back (as_job job) bit (list_at work.now place count) trail }
+fn step_back(work: &[i32], list: Prefix, bit: u64, job: Job, trail: Trail) -> Trail
+    requires { StepsBack work.now list bit job trail }
+    ensures { some result ≡ step_back (as_job job) bit (points_at work.now list) trail }
 {
     let by = trail.by;
     let weight = trail.weight;
-    let left = leaves(work, place, count, job.critical == 1, weight, by);
+    let left = leaves(work, list, job.critical == 1, weight, by);
     let last = last_start(job.length, job.deadline, by);
     let gain = no_weight_if(left, job.weight as usize);
     let worth = no_bit_if(left, bit);
@@ -104,15 +105,8 @@ fn step_back(work: &[i32], place: usize, count: usize, bit: u64, job: Job, trail
 }
 
 // The mask of the choice that ends so, from the last job to the first.
-pub fn walk(
-    work: &[i32],
-    bytes: &[u8],
-    n: usize,
-    places: &[usize],
-    counts: &[usize],
-    end: End,
-) -> u64
-    requires { Walks work.now bytes.now n places.now counts.now end }
+pub fn walk(work: &[i32], bytes: &[u8], n: usize, notes: &[Prefix], end: End) -> u64
+    requires { Walks work.now bytes.now n notes.now end }
     ensures { some result ≡ walk_mask (t0_of bytes.now) (jobs_in bytes.now) end.weight end.finish }
 {
     let mut trail = Trail {
@@ -124,9 +118,7 @@ pub fn walk(
     while k > 0 {
         k -= 1;
         let job = job_in(bytes, k);
-        let place = places[k];
-        let count = counts[k];
-        trail = step_back(work, place, count, bit_at(k), job, trail);
+        trail = step_back(work, notes[k], bit_at(k), job, trail);
     }
     trail.mask
 }

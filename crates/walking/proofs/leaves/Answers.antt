@@ -10,7 +10,7 @@ use lib.IntN.{ℤ}
 use mir.Facts.{to_z-of_z}
 use Rattle.order.specs.Job.{Point}
 use Rattle.profile.specs.Profile.{lookup}
-use Rattle.codes.specs.Code.{list_at}
+use Rattle.codes.specs.Code.{points_at}
 use Rattle.reading.specs.declared.Found.TheVariants.{Nothing, At}
 use Rattle.reading.specs.Reading.{found}
 use Rattle.reading.specs.ReadingLaws.{found_nothing, found_at}
@@ -38,7 +38,7 @@ module _ (c : After-last_by) where
   s = (goal.at.After-last_by c).Start
 
   abbrev list : List Point
-  list = list_at s.args.work.now s.args.place s.args.count
+  list = points_at s.args.work.now s.args.list
 
   finds : c.last_by.result ≡ found (lookup list s.args.by)
   finds = c.last_by.ensures ∙ ap (λ (t : ℤ). found (lookup list t)) (to_z-of_z s.ranges.by)

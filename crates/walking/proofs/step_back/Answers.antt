@@ -16,7 +16,7 @@ use Rattle.order.specs.Job.{Point}
 use Rattle.packed.specs.Packed.{is_critical}
 use Rattle.fields.specs.Fields.{fields_of, as_job}
 use Rattle.fields.specs.Facts.{JobFacts, job-facts, JobFits, facts-fit, mark-bits}
-use Rattle.codes.specs.Code.{list_at}
+use Rattle.codes.specs.Code.{points_at}
 use Rattle.walking.specs.declared.Trail.{Trail}
 use Rattle.walking.specs.Trail.{leaves_out, last_start_of, step_back}
 use Rattle.walking.specs.Sources.{step-either}
@@ -41,7 +41,7 @@ module _ (s : Start) where
 
   -- The list before the job.
   abbrev list : List Point
-  list = list_at s.args.work.now s.args.place s.args.count
+  list = points_at s.args.work.now s.args.list
 
   -- The last start of the job.
   abbrev last : ℤ

@@ -4,13 +4,13 @@ use Prim.Native.Nat.{ℕ, suc, ◌-◌, ◌<◌}
 use mathlib.Core.Path.{◌≡◌, subst}
 use mathlib.Core.List.{List}
 use native.Mathlib.Omega.{arith}
-use lib.ListN.{get_or}
 use mir.Syntax.{w32}
 use mir.Val.{to_z, of_z}
 use mir.Facts.{to_z-of_z}
 use Rattle.seconds.specs.RangesLaws.{free-fits}
 use Rattle.fields.specs.Places.{jobs-count}
 use Rattle.fields.specs.Facts.{record-in}
+use Rattle.filling.specs.Lists.{noted}
 use Rattle.walking.specs.declared.Trail.{Trail}
 use Rattle.walking.specs.declared.End.{End}
 use Rattle.walking.specs.Trail.{Walks}
@@ -29,7 +29,7 @@ module _ (s : Start) where
   finish-back : end.finish ≡ s.args.end.finish
   finish-back = to_z-of_z (free-fits s.requires.free)
 
-  walks : Walks s.args.work.now bytes s.args.n s.args.places.now s.args.counts.now end
+  walks : Walks s.args.work.now bytes s.args.n s.args.notes.now end
   walks = rw finish-back s.requires
 
 -- A turn, seen from where its job is read.
@@ -55,21 +55,13 @@ job_in-job-requires c =
     let s = at-start c in
     record-in s.args.bytes.now _ s.requires.order.header (omega (arith, place-below c, s.requires.count))
 
-pub offset_bounds-places-k : goal.offset_bounds-places-k
-offset_bounds-places-k c = omega (arith, place-few (goal.at.offset_bounds-places-k c).In-loop-k)
+pub offset_bounds-notes-k : goal.offset_bounds-notes-k
+offset_bounds-notes-k c = omega (arith, place-few (goal.at.offset_bounds-notes-k c).In-loop-k)
 
-pub bounds-places-k : goal.bounds-places-k
-bounds-places-k c =
-    let turn : In-loop-k = (goal.at.bounds-places-k c).In-loop-k in
-    omega (arith, place-below turn, (at-start turn).requires.room_places)
-
-pub offset_bounds-counts-k : goal.offset_bounds-counts-k
-offset_bounds-counts-k c = omega (arith, place-few (goal.at.offset_bounds-counts-k c).In-loop-k)
-
-pub bounds-counts-k : goal.bounds-counts-k
-bounds-counts-k c =
-    let turn : In-loop-k = (goal.at.bounds-counts-k c).In-loop-k in
-    omega (arith, place-below turn, (at-start turn).requires.room_counts)
+pub bounds-notes-k : goal.bounds-notes-k
+bounds-notes-k c =
+    let turn : In-loop-k = (goal.at.bounds-notes-k c).In-loop-k in
+    omega (arith, place-below turn, (at-start turn).requires.room_notes)
 
 pub bit_at-requires : goal.bit_at-requires
 bit_at-requires c = let turn : In-loop-k = (goal.at.bit_at-requires c).In-loop-k in omega (arith, place-few turn)
@@ -93,8 +85,7 @@ module _ (c : After-job_in-job) where
       let e : turn.loop-k.k ≡ suc k = omega arith in
       subst (λ (i : ℕ). Trails (bytes entry) (end entry).weight (end entry).finish i trail) e turn.loop-k.invariant
 
-  step : CanStep entry.args.work.now (bytes entry) (get_or entry.args.places.now k 0)
-      (get_or entry.args.counts.now k 0) (end entry).weight (end entry).finish k c.job_in-job.result trail
+  step : CanStep entry.args.work.now (bytes entry) (noted entry.args.notes.now k) (end entry).weight (end entry).finish k c.job_in-job.result trail
   step = can-step (walks entry) k trail on c.job_in-job.result c.job_in-job.ensures
 
 pub step_back-trail-requires : goal.step_back-trail-requires
