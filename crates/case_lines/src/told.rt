@@ -57,7 +57,7 @@ fn put_run(numbers: &[i32], place: usize) -> usize
     ensures { place < result }
 {
     let number = at(numbers, place);
-    let end = first_other(numbers, number, place + 1);
+    let end = first_other(numbers, number, place + 1).unwrap_or(numbers.len());
     put(number);
     if end - place < 10 {
         return place + 1;

@@ -4,7 +4,7 @@ use crate::counts::{Run, counted, expect};
 use crate::extended::{Seen, compare_extended, numbers_of};
 use crate::plans::{plan_of, with_plans};
 use better::Joined;
-use careful::{front, front_bytes, more};
+use careful::{front, more};
 use comparing::{MARK, pack_order, records_kind};
 use trial_orders::{Change, Kind, change_of, draw_profile};
 
@@ -127,9 +127,9 @@ pub fn compare_orders(
     compare_packed(
         with_pair(run, change_of(old, old_t0, new, new_t0)),
         kind,
-        front_bytes(&first, size),
+        front(&first, size),
         old_t0,
-        front_bytes(&second, new_size),
+        front(&second, new_size),
         new_t0,
     )
 }

@@ -3,7 +3,7 @@
 use crate::counts::{Run, new_run};
 use crate::pairs::compare_orders;
 use crate::plans::plan_of;
-use careful::{count_of, front_bytes, number_of, put};
+use careful::{count_of, front, number_of, put};
 use comparing::{pack_order, write_count, write_figure};
 use planner::Figures;
 use trial_orders::kind_of;
@@ -46,7 +46,7 @@ pub fn write_morning(length: u64) {
     let jobs = morning(length);
     let mut space = [0; 94];
     let size = pack_order(FREE, &jobs, &mut space);
-    let made = plan_of(front_bytes(&space, size));
+    let made = plan_of(front(&space, size));
     write_line(length, made.figures);
 }
 

@@ -11,7 +11,7 @@ mod plans;
 mod point_calls;
 mod readers;
 
-use careful::front_bytes;
+use careful::front;
 use case_lines::{between, call_of, is_case, make_order, part, past, place_of, put_name, put_word};
 use check::same;
 
@@ -47,8 +47,8 @@ fn run_case(line: &[u8]) -> bool {
     let other_size = make_order(part(line, 2), &mut other);
     run(
         line,
-        front_bytes(&one, size),
-        front_bytes(&other, other_size),
+        front(&one, size),
+        front(&other, other_size),
     )
 }
 
@@ -80,5 +80,5 @@ fn room() -> [u8; 524_288] {
 fn main() {
     let mut input = room();
     let n = io::read_full(0, &mut input);
-    answers(front_bytes(&input, n));
+    answers(front(&input, n));
 }

@@ -1,6 +1,6 @@
 // Packed orders and heat-up: unpacking, packing, the order of a frame, and the length for a sampler's byte.
 use crate::{BYTE_MARK, MARK, calls};
-use careful::{front, lend, lend_bytes};
+use careful::{front, lend};
 use case_lines::{
     count_setting, part, put, put_buffer, put_bytes, put_count, put_refusal, put_refused,
     read_numbers, setting,
@@ -42,7 +42,7 @@ fn pack(line: &[u8]) {
     let mut numbers = [0; 350];
     let many = read_numbers(part(line, 1), &mut numbers);
     let mut space = [BYTE_MARK; 450];
-    let bytes = lend_bytes(&mut space, count_setting(line, b'm'));
+    let bytes = lend(&mut space, count_setting(line, b'm'));
     put_packed(pack::pack(setting(line, b'f'), front(&numbers, many), bytes));
     put_bytes(bytes);
 }
@@ -63,7 +63,7 @@ fn frame(line: &[u8]) {
     let mut numbers = [0; 300];
     let many = read_numbers(part(line, 1), &mut numbers);
     let mut space = [BYTE_MARK; 400];
-    let bytes = lend_bytes(&mut space, count_setting(line, b'm'));
+    let bytes = lend(&mut space, count_setting(line, b'm'));
     put_framed(framing::frame(front(&numbers, many), bytes));
     put_bytes(bytes);
 }

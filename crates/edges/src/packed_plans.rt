@@ -1,7 +1,7 @@
 // Packed plans: whether one is legal and whether it is best for an order, and the order's own plan written.
 use crate::orders::put_packed;
 use crate::{BYTE_MARK, WORK_MARK, calls};
-use careful::{front_bytes, lend, lend_bytes};
+use careful::{front, lend};
 use case_lines::{count_setting, put_buffer, put_bytes, put_refusal, put_word};
 use checking::Checked;
 
@@ -30,7 +30,7 @@ fn legal(order: &[u8], plan: &[u8]) {
 fn legal_cut(order: &[u8], plan: &[u8]) {
     let mut many = 0;
     while many <= plan.len() {
-        legal(order, front_bytes(plan, many));
+        legal(order, front(plan, many));
         many += 1;
     }
 }
@@ -47,7 +47,7 @@ fn best(line: &[u8], order: &[u8], plan: &[u8]) {
 fn write_plan(line: &[u8], order: &[u8]) {
     let mut out = [BYTE_MARK; 130];
     let mut space = [WORK_MARK; 15_000];
-    let plan = lend_bytes(&mut out, count_setting(line, b'm'));
+    let plan = lend(&mut out, count_setting(line, b'm'));
     let work = lend(&mut space, count_setting(line, b'k'));
     put_packed(plan_writer::write_plan(order, plan, work));
     put_bytes(plan);

@@ -1,6 +1,6 @@
 // Plans: of an order, of an order of halves, and the text that the program prints for an order.
 use crate::{MARK, WORK_MARK, calls};
-use careful::{front_bytes, lend};
+use careful::{front, lend};
 use case_lines::{count_setting, put, put_buffer, put_count, put_refusal, put_word};
 use halves::HalvesPlanned;
 use planner::{Figures, Planned};
@@ -62,7 +62,7 @@ fn report(bytes: &[u8]) {
     let mut text = [0; report::ROOM];
     let end = report::report(bytes, &mut text);
     put_word(b"\n");
-    put_word(front_bytes(&text, end));
+    put_word(front(&text, end));
 }
 
 // Runs a case that is for one of these calls; false for any other.

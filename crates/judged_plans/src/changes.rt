@@ -1,8 +1,8 @@
 // Plans drawn for an order: the starts of a choice moved, dropped or added, and their bytes flipped, cut
 // off or added. What is changed, and to what, is worked out as values; a way that changes nothing puts back what
 // stands, or puts it past the end.
-use by_hand::{Best, DEADLINE, LEFT_OUT, LENGTH, READY, field, flip_bit, pack_plan, write_starts};
-use careful::{at, count_of, first_other, number_of, plus, put};
+use by_hand::{Best, LEFT_OUT, flip_bit, pack_plan, write_starts};
+use careful::{Job, at, count_of, first_other, job_at, number_of, plus, put};
 use trial_orders::{drawn, drawn_byte, next};
 
 // How many ways there are to draw a plan. In the first so many a start is moved by a second; in the first
@@ -26,21 +26,20 @@ pub struct Plan {
 }
 
 // The choice that a plan begins with: the best, where the way is one of ours and there is one.
-fn drawn_choice(seed: u64, way: u8, best: Best) -> u32 {
-    if best.found & (way < OUR_WAYS) {
-        return best.choice;
+fn drawn_choice(seed: u64, way: u8, best: Option<Best>) -> u32 {
+    match best {
+        Some(best) if way < OUR_WAYS => best.choice,
+        _ => (drawn(seed, 1_024) % 1_024) as u32,
     }
-    (drawn(seed, 1_024) % 1_024) as u32
 }
 
 // The place of a kept job drawn: the first from a drawn place on, or the first of all; past the end where
 // none is kept.
 fn drawn_kept(seed: u64, jobs: u64, starts: &[i32]) -> usize {
     let place = first_other(starts, LEFT_OUT, drawn(seed, jobs) as usize);
-    if place < starts.len() {
-        return place;
-    }
-    first_other(starts, LEFT_OUT, 0)
+    place
+        .or(first_other(starts, LEFT_OUT, 0))
+        .unwrap_or(starts.len())
 }
 
 // A job's start moved by so many seconds; a job left out stays out.
@@ -69,9 +68,9 @@ fn put_off_by(way: u8, drawn: u64) -> i32 {
 }
 
 // A job's last start by its deadline: so much later than that of the longest job as it is shorter.
-fn last_start(numbers: &[i32], place: usize) -> i32 {
-    let length = count_of(field(numbers, place, LENGTH));
-    let first = plus(field(numbers, place, DEADLINE), -10_000);
+fn last_start(job: Job) -> i32 {
+    let length = count_of(job.length);
+    let first = plus(job.deadline, -10_000);
     if length > 10_000 {
         return first;
     }
@@ -90,8 +89,8 @@ fn one_of(which: u64, first: i32, second: i32, third: i32) -> i32 {
 // A start at t0, at the job's ready time or at its last start, or a second before or after, drawn by a seed
 // and the next.
 fn drawn_edge(seed: u64, numbers: &[i32], t0: i32, place: usize) -> i32 {
-    let ready = field(numbers, place, READY);
-    let edge = one_of(drawn(seed, 3), t0, ready, last_start(numbers, place));
+    let job = job_at(numbers, place);
+    let edge = one_of(drawn(seed, 3), t0, job.ready, last_start(job));
     plus(plus(edge, number_of(drawn(next(seed), 3))), -1)
 }
 
@@ -118,7 +117,7 @@ fn changed_start(way: u8, start: i32, edge: i32, ready: i32) -> i32 {
 // The start at a place changed in a way, to an edge drawn from a seed on where it is one.
 fn change_start(seed: u64, way: u8, numbers: &[i32], t0: i32, starts: &mut [i32], place: usize) {
     let edge = drawn_edge(seed, numbers, t0, place);
-    let ready = field(numbers, place, READY);
+    let ready = job_at(numbers, place).ready;
     let start = changed_start(way, at(starts, place), edge, ready);
     put(starts, place, start);
 }
@@ -228,7 +227,14 @@ fn changed_size(seed: u64, way: u8, size: usize) -> usize {
 }
 
 // The starts of a choice drawn from a seed on, changed in a way and packed. Returns how many bytes.
-fn pack_starts(seed: u64, way: u8, numbers: &[i32], t0: i32, best: Best, plan: &mut [u8]) -> usize {
+fn pack_starts(
+    seed: u64,
+    way: u8,
+    numbers: &[i32],
+    t0: i32,
+    best: Option<Best>,
+    plan: &mut [u8],
+) -> usize {
     let mut starts = [LEFT_OUT; 48];
     write_starts(numbers, t0, drawn_choice(seed, way, best), &mut starts);
     change_starts(next(seed), way, numbers, t0, &mut starts);
@@ -241,7 +247,7 @@ pub fn draw_plan(
     way: u8,
     numbers: &[i32],
     t0: i32,
-    best: Best,
+    best: Option<Best>,
     plan: &mut [u8],
 ) -> Plan {
     let choice_seed = next(seed);

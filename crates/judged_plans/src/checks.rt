@@ -2,10 +2,11 @@
 // wrote no more.
 use crate::counts::{Run, expect, is_legal, with_plan};
 use by_hand::{Best, Judged, LEFT_OUT};
-use careful::{all_are, front_bytes, more};
+use careful::{all_are, front, more};
 use checking::Checked;
 use comparing::{MARK, held_after, leaves, no_choice, says};
 use pack::Packed;
+use refusals::Reason;
 
 // What lent bytes hold before a call, so that every byte written shows.
 const MARK_BYTE: u8 = 0xA5;
@@ -26,22 +27,28 @@ fn best_agrees(order: &[u8], plan: &[u8], refusal: u32, verdict: bool) -> bool {
 }
 
 // A plan for an order whose best choice is known, held by the calls to what it was judged to be by trial.
-pub fn check_plan(so_far: Run, order: &[u8], best: Best, plan: &[u8], judged: Judged) -> Run {
+pub fn check_plan(
+    so_far: Run,
+    order: &[u8],
+    best: Option<Best>,
+    plan: &[u8],
+    judged: Result<Judged, Reason>,
+) -> Run {
     let legal = is_legal(judged);
-    let is_best = legal & (best.weight <= judged.weight);
-    let as_legal = answers(checking::legal(order, plan), judged.refusal, legal);
-    let as_best = best_agrees(order, plan, judged.refusal, is_best);
+    let weight = judged.map_or(0, |plan| plan.weight);
+    let is_best = legal && best.is_some_and(|best| best.weight <= weight);
+    let refusal = judged.err().map_or(0, |reason| reason.number());
+    let as_legal = answers(checking::legal(order, plan), refusal, legal);
+    let as_best = best_agrees(order, plan, refusal, is_best);
     with_plan(expect(expect(so_far, as_legal), as_best), judged, is_best)
 }
 
 // The plan that must be written: none where there is no choice. Returns how many bytes it has.
-fn expect_plan(numbers: &[i32], t0: i32, best: Best, plan: &mut [u8]) -> usize {
+fn expect_plan(numbers: &[i32], t0: i32, best: Option<Best>, plan: &mut [u8]) -> usize {
+    let Some(best) = best else { return 0 };
     let mut starts = [LEFT_OUT; 48];
     by_hand::write_starts(numbers, t0, best.choice, &mut starts);
-    if best.found {
-        return by_hand::pack_plan(&starts, plan);
-    }
-    0
+    by_hand::pack_plan(&starts, plan)
 }
 
 // Whether writing a plan is refused as expected, or where that is 0 answers so many bytes.
@@ -86,23 +93,33 @@ fn writes(order: &[u8], found: bool, size: usize, expected: &[u8], out: &mut [u8
 }
 
 // What was written for an order, judged as any plan; it must be legal and best.
-fn check_ours(so_far: Run, order: &[u8], best: Best, plan: &[u8], judged: Judged) -> Run {
-    let wanted = is_legal(judged) & (judged.weight == best.weight);
-    let mut run = check_plan(expect(so_far, wanted), order, best, plan, judged);
+fn check_ours(
+    so_far: Run,
+    order: &[u8],
+    best: Best,
+    plan: &[u8],
+    judged: Result<Judged, Reason>,
+) -> Run {
+    let wanted = is_legal(judged) && judged.is_ok_and(|plan| plan.weight == best.weight);
+    let mut run = check_plan(expect(so_far, wanted), order, Some(best), plan, judged);
     run.ours = more(run.ours, 1);
     run
 }
 
 // Our own plan of an order: written as it is packed by trial, and judged.
-pub fn check_written(so_far: Run, order: &[u8], numbers: &[i32], t0: i32, best: Best) -> Run {
+pub fn check_written(
+    so_far: Run,
+    order: &[u8],
+    numbers: &[i32],
+    t0: i32,
+    best: Option<Best>,
+) -> Run {
     let mut expected = [MARK_BYTE; 116];
     let size = expect_plan(numbers, t0, best, &mut expected);
     let mut out = [MARK_BYTE; 116];
-    let agrees = writes(order, best.found, size, &expected, &mut out);
+    let agrees = writes(order, best.is_some(), size, &expected, &mut out);
     let run = expect(so_far, agrees);
-    if !best.found {
-        return run;
-    }
-    let judged = by_hand::judge_plan(numbers, t0, front_bytes(&out, size));
-    check_ours(run, order, best, front_bytes(&out, size), judged)
+    let Some(best) = best else { return run };
+    let judged = by_hand::judge_plan(numbers, t0, front(&out, size));
+    check_ours(run, order, best, front(&out, size), judged)
 }

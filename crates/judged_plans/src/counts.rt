@@ -1,8 +1,9 @@
 // A run so far: the seed, what was judged, what it was, and how often an answer differed. It is a value that
 // every trial takes and gives back.
-use by_hand::{BEFORE_FREE, BEFORE_READY, BEFORE_RESTED, Judged, PAST_DEADLINE};
+use by_hand::{Judged, Rule};
 use careful::more;
 use comparing::write_count;
+use refusals::Reason;
 
 // How a run stands: orders; plans of ours and all plans; those refused by their length or their bits, and accepted;
 // the legal and the best of these, and those that let the bus wait; and plans of ours with one start a second
@@ -59,36 +60,44 @@ pub fn expect(so_far: Run, agrees: bool) -> Run {
 }
 
 // Whether a plan that was judged is legal.
-pub fn is_legal(judged: Judged) -> bool {
-    (judged.refusal == 0) & (judged.broken == 0)
+pub fn is_legal(judged: Result<Judged, Reason>) -> bool {
+    judged.is_ok_and(|plan| plan.broken.is_none())
+}
+
+// Whether a plan that was judged is refused for a reason.
+fn is_refused(judged: Result<Judged, Reason>, reason: Reason) -> bool {
+    judged.is_err_and(|told| told == reason)
 }
 
 // Counts a plan by what it was judged to be, and whether it is best.
-pub fn with_plan(so_far: Run, judged: Judged, best: bool) -> Run {
+pub fn with_plan(so_far: Run, judged: Result<Judged, Reason>, best: bool) -> Run {
     let legal = is_legal(judged);
+    let idle = judged.is_ok_and(|plan| plan.idle);
+    let length = is_refused(judged, Reason::PlanWrongLength);
+    let bits = is_refused(judged, Reason::PlanStrayBits);
     let mut run = so_far;
     run.plans = more(run.plans, 1);
-    run.wrong_length = more(run.wrong_length, (judged.refusal == 14) as u64);
-    run.wrong_bits = more(run.wrong_bits, (judged.refusal == 15) as u64);
-    run.accepted = more(run.accepted, (judged.refusal == 0) as u64);
+    run.wrong_length = more(run.wrong_length, length as u64);
+    run.wrong_bits = more(run.wrong_bits, bits as u64);
+    run.accepted = more(run.accepted, judged.is_ok() as u64);
     run.legal = more(run.legal, legal as u64);
     run.best = more(run.best, best as u64);
-    run.idle_best = more(run.idle_best, (best & judged.idle) as u64);
-    run.idle_not_best = more(run.idle_not_best, (legal & !best & judged.idle) as u64);
+    run.idle_best = more(run.idle_best, (best & idle) as u64);
+    run.idle_not_best = more(run.idle_not_best, (legal & !best & idle) as u64);
     run
 }
 
-// Counts a plan of ours with one start a second off, where it is one, by the rule that it breaks.
-pub fn with_second(so_far: Run, is_one: bool, broken: usize) -> Run {
+// Counts a plan of ours with one start a second off by the rule that it breaks.
+pub fn with_second(so_far: Run, broken: Option<Rule>) -> Run {
     let mut run = so_far;
-    run.off_legal = more(run.off_legal, (is_one & (broken == 0)) as u64);
-    run.off_free = more(run.off_free, (is_one & (broken == BEFORE_FREE)) as u64);
-    run.off_ready = more(run.off_ready, (is_one & (broken == BEFORE_READY)) as u64);
-    run.off_rested = more(run.off_rested, (is_one & (broken == BEFORE_RESTED)) as u64);
-    run.off_deadline = more(
-        run.off_deadline,
-        (is_one & (broken == PAST_DEADLINE)) as u64,
-    );
+    match broken {
+        None => run.off_legal = more(run.off_legal, 1),
+        Some(Rule::BeforeFree) => run.off_free = more(run.off_free, 1),
+        Some(Rule::BeforeReady) => run.off_ready = more(run.off_ready, 1),
+        Some(Rule::BeforeRested) => run.off_rested = more(run.off_rested, 1),
+        Some(Rule::PastDeadline) => run.off_deadline = more(run.off_deadline, 1),
+        Some(Rule::CriticalOut) => {}
+    }
     run
 }
 

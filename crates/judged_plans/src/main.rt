@@ -7,7 +7,7 @@ mod checks;
 mod counts;
 
 use by_hand::Best;
-use careful::{front, front_bytes, more};
+use careful::{front, more};
 use changes::{SECOND_WAYS, WAYS, draw_plan};
 use checks::{check_plan, check_written};
 use comparing::pack_order;
@@ -30,17 +30,26 @@ fn with_seed(so_far: Run, seed: u64) -> Run {
 }
 
 // A plan for an order drawn in a way, and judged.
-fn try_plan(so_far: Run, way: u8, order: &[u8], numbers: &[i32], t0: i32, best: Best) -> Run {
+fn try_plan(
+    so_far: Run,
+    way: u8,
+    order: &[u8],
+    numbers: &[i32],
+    t0: i32,
+    best: Option<Best>,
+) -> Run {
     let mut space = [0; 116];
     let drawn = draw_plan(so_far.seed, way, numbers, t0, best, &mut space);
-    let judged = by_hand::judge_plan(numbers, t0, front_bytes(&space, drawn.size));
-    let is_one = best.found & (way < SECOND_WAYS) & (drawn.size > EMPTY);
-    let run = with_second(with_seed(so_far, drawn.seed), is_one, judged.broken);
-    check_plan(run, order, best, front_bytes(&space, drawn.size), judged)
+    let judged = by_hand::judge_plan(numbers, t0, front(&space, drawn.size));
+    let mut run = with_seed(so_far, drawn.seed);
+    if best.is_some() && way < SECOND_WAYS && drawn.size > EMPTY {
+        run = with_second(run, judged.ok().and_then(|plan| plan.broken));
+    }
+    check_plan(run, order, best, front(&space, drawn.size), judged)
 }
 
 // Plans for an order drawn in every way.
-fn try_plans(so_far: Run, order: &[u8], numbers: &[i32], t0: i32, best: Best) -> Run {
+fn try_plans(so_far: Run, order: &[u8], numbers: &[i32], t0: i32, best: Option<Best>) -> Run {
     let mut run = so_far;
     let mut way = 0;
     while way < WAYS {
@@ -61,7 +70,7 @@ fn judge_plans(run: Run, order: &[u8], numbers: &[i32], t0: i32) -> Run {
 fn pack_and_judge(so_far: Run, numbers: &[i32], t0: i32) -> Run {
     let mut space = [0; 94];
     let size = pack_order(t0, numbers, &mut space);
-    let mut run = judge_plans(so_far, front_bytes(&space, size), numbers, t0);
+    let mut run = judge_plans(so_far, front(&space, size), numbers, t0);
     run.orders = more(run.orders, 1);
     run
 }

@@ -1,14 +1,14 @@
 // The calls on sheets: one order more, two sheets joined, a stream fed in pieces, and a sheet's text.
 use crate::lend_figures;
 use crate::told::{put_answer, put_told};
-use careful::front_bytes;
+use careful::front;
 use case_lines::{count_setting, make_order, part, read_bytes, read_sizes};
 
 // `sheet_add`: a sheet and an order.
 pub fn add(line: &[u8], figures: &mut [u32], work: &mut [i32]) {
     let mut order = [0; 450];
     let size = make_order(part(line, 2), &mut order);
-    put_answer(adding::add(figures, front_bytes(&order, size), work));
+    put_answer(adding::add(figures, front(&order, size), work));
 }
 
 // `sheet_join`: two sheets.
@@ -23,7 +23,7 @@ pub fn join(line: &[u8], figures: &mut [u32]) {
 fn feed_piece(part: &[u8], held: &mut [u32], first: &mut [u8], work: &mut [i32]) {
     let mut piece = [0; 450];
     let size = read_bytes(part, &mut piece);
-    put_answer(feeding::feed(held, first, front_bytes(&piece, size), work));
+    put_answer(feeding::feed(held, first, front(&piece, size), work));
 }
 
 // `sheet_feed`: what is held of a stream and its next pieces, the parts of the case behind its first.

@@ -5,7 +5,7 @@
 mod calls;
 mod told;
 
-use careful::{front_bytes, lend, lend_bytes};
+use careful::{front, lend};
 use case_lines::{
     between, call_of, count_setting, is_case, part, past, place_of, put_buffer, put_name, put_word,
     read_sizes,
@@ -52,7 +52,7 @@ fn run_case(line: &[u8]) {
     let mut out = [BYTE_MARK; 450];
     let mut space = [WORK_MARK; 15_000];
     let figures = lend_figures(&mut numbers, many);
-    let bytes = lend_bytes(&mut out, count_setting(line, b'm'));
+    let bytes = lend(&mut out, count_setting(line, b'm'));
     let work = lend(&mut space, count_setting(line, b'k'));
     run(line, figures, bytes, work);
     put_figures(figures);
@@ -81,5 +81,5 @@ fn answers(text: &[u8]) {
 fn main() {
     let mut input = [0; 65_536];
     let n = io::read_full(0, &mut input);
-    answers(front_bytes(&input, n));
+    answers(front(&input, n));
 }
