@@ -26,9 +26,9 @@ use Rattle.points.proofs.PrefixLaws.{Singles, list-is}
 use Rattle.points.specs.Walk.{source_in, fold_lists, walk_lists}
 use Rattle.points.proofs.WalkLaws.{fold-lists-is}
 use Rattle.codes.specs.Code.{list_at}
+use Rattle.reading.specs.declared.Found.{Found}
 use Rattle.filling.specs.ListsLaws.{jobs-single, lists-stand}
 use Rattle.walking.specs.declared.Trail.{Trail}
-use Rattle.walking.specs.declared.End.{End}
 use Rattle.walking.specs.Trail.{StepsBack, trail_before, step_back, Walks, walk_mask}
 use Rattle.walking.specs.Sources.{source-same, source-in-range}
 
@@ -198,12 +198,12 @@ pub record CanStep (work : List ℤ) (bytes : List ℕ) (place count weight : �
   pub keeps : (r : Trail) → some r ≡ step_back (as_job job) (2 ^ (63 - k)) (list_at work place count) trail
       → Trails bytes weight by k r
 
-module _ {work : List ℤ} {bytes : List ℕ} {n : ℕ} {places counts : List ℕ} {end : End} (w : Walks work bytes n places counts end) where
+module _ {work : List ℤ} {bytes : List ℕ} {n : ℕ} {places counts : List ℕ} {end : Found} (w : Walks work bytes n places counts end) where
   abbrev weight : ℕ
   weight = end.weight
 
   abbrev by : ℤ
-  by = end.finish
+  by = end.time
 
   abbrev js : List Job
   js = jobs_in bytes
