@@ -39,13 +39,7 @@ fn leaves(work: &[i32], place: usize, count: usize, critical: bool, weight: usiz
     requires { Stands work.now place count }
     ensures { result ≡ leaves_out critical (list_at work.now place count) weight by }
 {
-    if critical {
-        return false;
-    }
-    match last_by(work, place, count, by) {
-        None => false,
-        Some(found) => found.weight == weight,
-    }
+    !critical && last_by(work, place, count, by).is_some_and(|found| found.weight == weight)
 }
 
 // The last start of a job that leaves the bus free by a time: it ends by its deadline, and a rest before that time. What is
