@@ -7,11 +7,12 @@ ghost use Rattle.std.proofs.Math.Option.{some};
 ghost use Rattle.seconds.specs.Limits.{most_jobs};
 ghost use Rattle.packed.specs.Packed.{t0_of, jobs_in};
 ghost use Rattle.fields.specs.Fields.{as_job};
-ghost use Rattle.codes.specs.Code.{list_at};
+ghost use Rattle.codes.specs.Code.{points_at};
 ghost use Rattle.reading.specs.Reading.{Stands};
 ghost use Rattle.walking.specs.Trail.{leaves_out, Timely, last_start_of, StepsBack, step_back, Walks, walk_mask};
 
 use clock::{lesser, rested};
+use codes::Prefix;
 use fields::{Job, job_in};
 use reading::{Found, last_by};
 use std::hint::select_unpredictable;
@@ -35,11 +36,11 @@ fn bit_at(place: usize) -> u64
 
 // Whether a job is left out: it is not critical, and the list before it gives exactly the weight by the time. No greater weight
 // can be there: it would make a heavier plan.
-fn leaves(work: &[i32], place: usize, count: usize, critical: bool, weight: usize, by: i32) -> bool
-    requires { Stands work.now place count }
-    ensures { result ≡ leaves_out critical (list_at work.now place count) weight by }
+fn leaves(work: &[i32], list: Prefix, critical: bool, weight: usize, by: i32) -> bool
+    requires { Stands work.now list.place list.count }
+    ensures { result ≡ leaves_out critical (points_at work.now list) weight by }
 {
-    !critical && last_by(work, place, count, by).is_some_and(|found| found.weight == weight)
+    !critical && last_by(work, list, by).is_some_and(|found| found.weight == weight)
 }
 
 // The last start of a job that leaves the bus free by a time: it ends by its deadline, and a rest before that time. What is
@@ -53,12 +54,12 @@ fn last_start(long: i32, deadline: i32, by: i32) -> i32
 }
 
 // One job back: it is left out where the list before it gives the weight in time, else it is kept. No branch tells which.
-fn step_back(work: &[i32], place: usize, count: usize, bit: u64, job: Job, trail: Trail) -> Trail
-    requires { StepsBack work.now place count bit job trail }
-    ensures { some result ≡ step_back (as_job job) bit (list_at work.now place count) trail }
+fn step_back(work: &[i32], list: Prefix, bit: u64, job: Job, trail: Trail) -> Trail
+    requires { StepsBack work.now list.place list.count bit job trail }
+    ensures { some result ≡ step_back (as_job job) bit (points_at work.now list) trail }
 {
     let Trail { mask, weight, by } = trail;
-    let left = leaves(work, place, count, job.critical == 1, weight, by);
+    let left = leaves(work, list, job.critical == 1, weight, by);
     let last = last_start(job.length, job.deadline, by);
     let gain = select_unpredictable(left, 0, job.weight as usize);
     let worth = select_unpredictable(left, 0, bit);
@@ -88,7 +89,11 @@ pub fn walk(
     };
     for k in (0..n).rev() {
         let job = job_in(bytes, k);
-        trail = step_back(work, places[k], counts[k], bit_at(k), job, trail);
+        let list = Prefix {
+            place: places[k],
+            count: counts[k],
+        };
+        trail = step_back(work, list, bit_at(k), job, trail);
     }
     trail.mask
 }

@@ -20,5 +20,5 @@ pub fn weigh(bytes: &[u8], t: i32, work: &mut [i32]) -> Option<Found>
     let header = header_at(bytes);
     start_at(work, header.t0);
     let last = fill_last(work, bytes, header.count, 1);
-    last_by(work, last.place, last.count, t)
+    last_by(work, last, t)
 }

@@ -10,7 +10,7 @@ use Rattle.order.specs.Job.{Point}
 use Rattle.packed.specs.Packed.{is_critical}
 use Rattle.fields.specs.Fields.{fields_of, as_job}
 use Rattle.fields.specs.Facts.{JobFacts, job-facts, JobFits, facts-fit, mark-bits}
-use Rattle.codes.specs.Code.{list_at}
+use Rattle.codes.specs.Code.{points_at}
 use Rattle.walking.specs.Trail.{leaves_out, last_start_of, step_back}
 use Rattle.walking.specs.Sources.{step-either}
 use Rattle.walking.proofs.step_back.Goals as goal
@@ -31,7 +31,7 @@ module _ (c : After-leaves-left) where
   by-back = to_z-of_z (free-fits c.requires.free)
 
   abbrev list : List Point
-  list = list_at c.args.work.now c.args.place c.args.count
+  list = points_at c.args.work.now c.args.list
 
   abbrev last : ℤ
   last = last_start_of c.args.job.length c.args.job.deadline c.args.trail.by
