@@ -5,11 +5,11 @@
 ghost use Rattle.std.specs.Prelude.{◌≡◌, ◌+◌, ◌*◌, ◌<◌, length, set};
 ghost use Rattle.profile.specs.Profile.{lookup};
 ghost use Rattle.profiles.specs.Numbers.{alternating, written_over};
-ghost use Rattle.codes.specs.Code.{list_at};
+ghost use Rattle.codes.specs.Code.{points_at};
 ghost use Rattle.reading.specs.Reading.{Stands, found, CanWrite};
 
 use clock::lesser;
-use codes::{after, limit_by, time_in, weight_in};
+use codes::{Prefix, after, limit_by, time_in, weight_in};
 use profiles::LATEST;
 
 // The first second that a point may have.
@@ -23,14 +23,15 @@ pub struct Found {
 }
 
 // The last point at or before a time. Every time is asked for one that a point may have.
-pub fn last_by(work: &[i32], place: usize, count: usize, by: i32) -> Option<Found>
-    requires { Stands work.now place count }
-    ensures { result ≡ found (lookup (list_at work.now place count) by) }
+pub fn last_by(work: &[i32], list: Prefix, by: i32) -> Option<Found>
+    requires { Stands work.now list.place list.count }
+    ensures { result ≡ found (lookup (points_at work.now list) by) }
 {
     if by < EARLIEST {
         return None;
     }
-    let end = after(work, place, place + count, limit_by(lesser(by, LATEST)));
+    let place = list.place;
+    let end = after(work, place, list.end(), limit_by(lesser(by, LATEST)));
     if end == place {
         return None;
     }
@@ -51,12 +52,12 @@ fn put_point(out: &mut [i32], place: usize, time: i32, weight: i32)
 }
 
 // A list written to the front of `out` as alternating numbers.
-pub fn write_list(work: &[i32], place: usize, count: usize, out: &mut [i32])
-    requires { CanWrite work.now place count out.old }
-    ensures { out.new ≡ written_over (alternating (list_at work.now place count)) out.old }
+pub fn write_list(work: &[i32], list: Prefix, out: &mut [i32])
+    requires { CanWrite work.now list.place list.count out.old }
+    ensures { out.new ≡ written_over (alternating (points_at work.now list)) out.old }
 {
-    for k in 0..count {
-        let code = work[place + k];
+    for k in 0..list.count {
+        let code = work[list.place + k];
         put_point(out, k, time_in(code), weight_in(code) as i32);
     }
 }

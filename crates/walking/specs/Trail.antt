@@ -18,10 +18,10 @@ use Rattle.fields.specs.declared.Job.{Job as Numbers}
 use Rattle.fields.specs.Fields.{fields_of, as_job}
 use Rattle.codes.specs.declared.Prefix.{Prefix}
 use Rattle.codes.specs.Code.{points_at}
+use Rattle.reading.specs.declared.Found.{Found}
 use Rattle.reading.specs.Reading.{Stands}
 use Rattle.filling.specs.Lists.{Lists}
 use Rattle.walking.specs.declared.Trail.{Trail}
-use Rattle.walking.specs.declared.End.{End}
 
 -- ---- one job back
 
@@ -61,16 +61,16 @@ pub record StepsBack (work : List ℤ) (list : Prefix) (bit : ℕ) (job : Number
 -- ---- all jobs
 
 -- The walk can be made: the bytes are an order, the lists of all its prefixes stand, and the walk from the end gives a choice.
-pub record Walks (work : List ℤ) (bytes : List ℕ) (n : ℕ) (notes : List Prefix) (end : End) : Type 0 where
+pub record Walks (work : List ℤ) (bytes : List ℕ) (n : ℕ) (notes : List Prefix) (end : Found) : Type 0 where
   pub order : OrderFine bytes
   pub count : n ≡ count_of bytes
   pub used : ℕ
   pub lists : Lists (start_point (t0_of bytes) ∷ []) (jobs_in bytes) n notes used work
   pub room : used ≤ length work
   pub room_notes : n < length notes
-  pub free : InFree end.finish
+  pub free : InFree end.time
   pub choice : Choice
-  pub walked : walk_lists (reverse (jobs_in bytes)) (start_point (t0_of bytes) ∷ []) end.weight end.finish [] ≡ some choice
+  pub walked : walk_lists (reverse (jobs_in bytes)) (start_point (t0_of bytes) ∷ []) end.weight end.time [] ≡ some choice
 
 -- The mask of the choice that the walk back over some jobs gives.
 abbrev pub walk_mask : ℤ → List Job → ℕ → ℤ → Option ℕ

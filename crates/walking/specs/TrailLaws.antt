@@ -28,9 +28,9 @@ use Rattle.points.proofs.WalkLaws.{fold-lists-is}
 use Rattle.codes.specs.declared.Prefix.{Prefix}
 use Rattle.codes.specs.Code.{points_at}
 use Rattle.filling.specs.Lists.{noted}
+use Rattle.reading.specs.declared.Found.{Found}
 use Rattle.filling.specs.ListsLaws.{jobs-single, lists-stand}
 use Rattle.walking.specs.declared.Trail.{Trail}
-use Rattle.walking.specs.declared.End.{End}
 use Rattle.walking.specs.Trail.{StepsBack, trail_before, step_back, Walks, walk_mask}
 use Rattle.walking.specs.Sources.{source-same, source-in-range}
 
@@ -200,12 +200,12 @@ pub record CanStep (work : List ℤ) (bytes : List ℕ) (list : Prefix) (weight 
   pub keeps : (r : Trail) → some r ≡ step_back (as_job job) (2 ^ (63 - k)) (points_at work list) trail
       → Trails bytes weight by k r
 
-module _ {work : List ℤ} {bytes : List ℕ} {n : ℕ} {notes : List Prefix} {end : End} (w : Walks work bytes n notes end) where
+module _ {work : List ℤ} {bytes : List ℕ} {n : ℕ} {notes : List Prefix} {end : Found} (w : Walks work bytes n notes end) where
   abbrev weight : ℕ
   weight = end.weight
 
   abbrev by : ℤ
-  by = end.finish
+  by = end.time
 
   abbrev js : List Job
   js = jobs_in bytes

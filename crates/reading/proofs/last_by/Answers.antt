@@ -36,12 +36,12 @@ limit_by-requires c =
     rw (is-asked l) (asked-free (late l))
 
 -- The search found the place behind the points up to the time asked for.
-searched : (c : After-after-end) → After c.args.work.now c.args.place (c.args.place + c.args.count) (limit_of (asked c.args.by)) c.after-end.result
+searched : (c : After-after-end) → After c.args.work.now c.args.list.place (c.args.list.place + c.args.list.count) (limit_of (asked c.args.by)) c.after-end.result
 searched c =
     let l = (goal.at.After-after-end c).After-lesser in
     let g : SFits w32 c.limit_by.result = search rules in
     let limit = to_z-of_z g ∙ c.limit_by.ensures ∙ ap limit_of (is-asked l) in
-    rw limit at c.after-end.ensures
+    rw (c.end.ensures, limit) at c.after-end.ensures
 
 pub returns-then-end-place : goal.returns-then-end-place
 returns-then-end-place c =
@@ -60,7 +60,7 @@ module _ (c : Else-end-place) where
   abbrev number : ℤ
   number = at0 c.args.work.now (c.after-end.result - 1)
 
-  more : c.args.place < c.after-end.result
+  more : c.args.list.place < c.after-end.result
   more = omega (arith, (searched a).low)
 
   there : pos 0 ≤ℤ number

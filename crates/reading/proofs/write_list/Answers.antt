@@ -12,19 +12,19 @@ use Rattle.reading.proofs.write_list.Goals.{In-loop-k}
 -- The number that a turn reads is a point's.
 module _ (c : In-loop-k) where
   abbrev number : ℤ
-  number = at0 c.args.work.now (c.args.place + c.loop-k.k)
+  number = at0 c.args.work.now (c.args.list.place + c.loop-k.k)
 
   there : pos 0 ≤ℤ number
-  there = number-there c.args.count c.requires.held c.loop-k.k c.loop-k-test.true
+  there = number-there c.args.list.count c.requires.held c.loop-k.k c.loop-k-test.true
 
 pub time_in-requires : goal.time_in-requires
 time_in-requires c =
-    let f : SFits w32 (at0 c.args.work.now (c.args.place + c.loop-k.k)) = search rules in
+    let f : SFits w32 (at0 c.args.work.now (c.args.list.place + c.loop-k.k)) = search rules in
     rw (to_z-of_z f) (there (goal.at.time_in-requires c).In-loop-k)
 
 pub weight_in-requires : goal.weight_in-requires
 weight_in-requires c =
-    let f : SFits w32 (at0 c.args.work.now (c.args.place + c.loop-k.k)) = search rules in
+    let f : SFits w32 (at0 c.args.work.now (c.args.list.place + c.loop-k.k)) = search rules in
     rw (to_z-of_z f) (there (goal.at.weight_in-requires c).In-loop-k)
 
 pub overflow_cast-weight_in : goal.overflow_cast-weight_in
@@ -39,7 +39,7 @@ loop-k-preserved c =
     let l = c.loop-k in
     let p = point_of (number (goal.at.loop-k-preserved c).In-loop-k) in
     let f : SFits w32 c.time_in.result = search rules in
-    let n : SFits w32 (at0 c.args.work.now (c.args.place + c.loop-k.k)) = search rules in
+    let n : SFits w32 (at0 c.args.work.now (c.args.list.place + c.loop-k.k)) = search rules in
     let x = to_z w32 (of_z w32 c.time_in.result) in
     let y = to_z w32 c.weight_in.result in
     let time : x ≡ p.time = to_z-of_z f ∙ c.time_in.ensures ∙ ap (λ (z : ℤ). (point_of z).time) (to_z-of_z n) in
