@@ -55,11 +55,8 @@ pub fn word_at(bytes: &[u8], at: usize, count: usize) -> u64
     ensures { WordIs bytes.now at count result }
 {
     let mut word: u64 = 0;
-    let mut i = 0;
-    while i < count {
-        let byte = bytes[at + i] as u64;
-        word = word * 256 + byte;
-        i += 1;
+    for byte in &bytes[at..at + count] {
+        word = word * 256 + *byte as u64;
     }
     word
 }
@@ -115,9 +112,9 @@ pub fn job_by_kind(bytes: &[u8], kind: usize, place: usize) -> Job
         pack: pack as i32,
         critical: (past_head / CRITICAL) as i32,
         weight: (past_critical / WEIGHT) as i32,
-        ready: ready,
+        ready,
         length: (back / LENGTH) as i32,
-        deadline: deadline,
+        deadline,
     }
 }
 
@@ -140,7 +137,7 @@ pub fn header_at(bytes: &[u8]) -> Header
     let t0 = time_of(past_count / T0);
     Header {
         count: (word / COUNT) as usize,
-        t0: t0,
+        t0,
         kind: (past_count % T0) as usize,
     }
 }
@@ -162,9 +159,7 @@ pub fn put_word(bytes: &mut [u8], at: usize, count: usize, word: u64)
     ensures { bytes.new ≡ take at bytes.old ++ bytes_of count word ++ drop (at + count) bytes.old }
 {
     let mut left = word;
-    let mut i = count;
-    while i > 0 {
-        i -= 1;
+    for i in (0..count).rev() {
         bytes[at + i] = (left % 256) as u8;
         left /= 256;
     }
