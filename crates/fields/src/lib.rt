@@ -264,23 +264,16 @@ pub fn job_from(numbers: &[i32], at: usize) -> Job
     }
 }
 
-// A job's seven numbers, written at a place.
+// A job's seven numbers, written at a place. Tried: `copy_from_slice` of an array of them takes the way over the stack.
 pub fn put_numbers(numbers: &mut [i32], at: usize, job: Job)
     requires { at + 7 ≤ length numbers.old }
     ensures { numbers.new ≡ take at numbers.old ++ fields_of job ++ drop (at + 7) numbers.old }
 {
-    let number = job.number;
-    let pack = job.pack;
-    let critical = job.critical;
-    let weight = job.weight;
-    let ready = job.ready;
-    let length = job.length;
-    let deadline = job.deadline;
-    numbers[at] = number;
-    numbers[at + 1] = pack;
-    numbers[at + 2] = critical;
-    numbers[at + 3] = weight;
-    numbers[at + 4] = ready;
-    numbers[at + 5] = length;
-    numbers[at + 6] = deadline;
+    numbers[at] = job.number;
+    numbers[at + 1] = job.pack;
+    numbers[at + 2] = job.critical;
+    numbers[at + 3] = job.weight;
+    numbers[at + 4] = job.ready;
+    numbers[at + 5] = job.length;
+    numbers[at + 6] = job.deadline;
 }
