@@ -7,7 +7,7 @@ ghost use Rattle.std.specs.Prelude.{◌≡◌, ◌≤◌, min, take};
 ghost use Rattle.profiles.specs.Answer.{lookup_of};
 ghost use Rattle.point_records.specs.Records.{most_read, most_passed, flattened};
 
-use profiles::Finding;
+use refusals::Reason;
 
 // A point of a profile. Its layout is C's, so that a list of them can be lent from outside.
 #[repr(C)]
@@ -34,7 +34,7 @@ fn blank_records() -> [Point; MOST_READ] {
 }
 
 // The lookup over the first so many records of a copy: it lays them out as alternating numbers.
-fn lookup_copied(records: [Point; MOST_READ], count: usize, t: i32) -> Finding
+fn lookup_copied(records: [Point; MOST_READ], count: usize, t: i32) -> Result<Option<u32>, Reason>
     requires { count ≤ most_read }
     ensures { result ≡ lookup_of (flattened (take count records)) t }
 {
@@ -54,7 +54,7 @@ fn lookup_copied(records: [Point; MOST_READ], count: usize, t: i32) -> Finding
 
 // The weight of the last point at or before t. It does only what needs the slice of structs: it copies as
 // many records as are read.
-pub fn lookup_records(points: &[Point], t: i32) -> Finding
+pub fn lookup_records(points: &[Point], t: i32) -> Result<Option<u32>, Reason>
     ensures { result ≡ lookup_of (flattened points.now) t }
 {
     let count = to_read(points.len());
@@ -83,7 +83,7 @@ fn among(count: usize) -> usize
 
 // The lookup over the first so many of a few records that are passed by value, for callers that lend no
 // slice of structs themselves.
-pub fn lookup_among(points: [Point; MOST_PASSED], count: usize, t: i32) -> Finding
+pub fn lookup_among(points: [Point; MOST_PASSED], count: usize, t: i32) -> Result<Option<u32>, Reason>
     ensures { result ≡ lookup_of (flattened (take count points)) t }
 {
     let few = among(count);

@@ -8,13 +8,7 @@ ghost use Rattle.profiles.specs.Numbers.{holds_profile};
 ghost use Rattle.profiles.specs.Answer.{lookup_of};
 ghost use Rattle.profiles.specs.ByTime.{count_by};
 
-// What a lookup gives: no valid profile (refusal 8), the weight found, or no point by that time.
-#[derive(Clone, Copy)]
-pub enum Finding {
-    NotValid,
-    Found(u32),
-    NotFound,
-}
+use refusals::Reason;
 
 // The seconds that the bus rests after every job.
 pub const REST: i32 = 15;
@@ -70,16 +64,16 @@ fn count_by(numbers: &[i32], t: i32) -> usize
     i
 }
 
-// The weight of the last point at or before t.
-pub fn lookup(numbers: &[i32], t: i32) -> Finding
+// The weight of the last point at or before t, if there is one.
+pub fn lookup(numbers: &[i32], t: i32) -> Result<Option<u32>, Reason>
     ensures { result ≡ lookup_of numbers.now t }
 {
     if !valid(numbers) {
-        return Finding::NotValid;
+        return Err(Reason::ProfileNotValid);
     }
     let end = count_by(numbers, t);
     if end == 0 {
-        return Finding::NotFound;
+        return Ok(None);
     }
-    Finding::Found(numbers[end - 1] as u32)
+    Ok(Some(numbers[end - 1] as u32))
 }
