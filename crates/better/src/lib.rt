@@ -40,9 +40,10 @@ fn merge(p: &[i32], q: &[i32], out: &mut [i32]) -> usize
     let mut j = 0;
     let mut n = 0;
     let mut last = BELOW_ALL;
+    // By turns from either profile, so no `for` fits.
     while i < p.len() || j < q.len() {
-        let mut time = 0;
-        let mut weight = 0;
+        let time;
+        let weight;
         if first_goes(p, i, q, j) {
             time = p[i];
             weight = p[i + 1];
