@@ -36,6 +36,7 @@ pub fn valid(numbers: &[i32]) -> bool
     }
     let mut time = BEFORE_ALL;
     let mut weight = BELOW_ALL;
+    // Two numbers a turn, by a count: `(0..n).step_by(2)` tests twice in each turn whether the end is reached.
     let mut i = 0;
     while i < n {
         let t = numbers[i];
@@ -54,6 +55,7 @@ pub fn valid(numbers: &[i32]) -> bool
 fn count_by(numbers: &[i32], t: i32) -> usize
     ensures { result ≡ count_by t numbers.now }
 {
+    // By a count for the same reason; and it is the answer.
     let mut i = 0;
     while i + 1 < numbers.len() {
         if t < numbers[i] {
