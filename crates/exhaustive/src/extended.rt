@@ -3,11 +3,9 @@ ghost use Rattle.std.specs.Prelude.{◌≤◌, IfOk, IfSome};
 
 use crate::counts::Run;
 use crate::orders::{Order, packed};
-use better::Joined;
 use careful::{front, is_count, more, plus};
 use comparing::{MARK, leaves, says};
 use extending::Extended;
-use profiles::Finding;
 use refusals::Reason;
 
 // What extending must answer: how many points it writes, or why it is refused.
@@ -77,9 +75,8 @@ fn expect_joined(one: &[i32], other: &[i32], out: &mut [i32]) -> Option<usize>
 fn join_agrees(one: &[i32], other: &[i32], wanted: Option<usize>, expected: &[i32]) -> bool {
     let mut out = [MARK; 604];
     let agrees = match better::better_of(one, other, &mut out) {
-        Joined::NotValid => wanted.is_none(),
-        Joined::NoRoom => false,
-        Joined::Points(many) => wanted == Some(many),
+        Err(reason) => reason == Reason::ProfileNotValid && wanted.is_none(),
+        Ok(many) => wanted == Some(many),
     };
     agrees && out.as_slice() == expected
 }
@@ -93,12 +90,11 @@ pub fn check_join(run: &mut Run, one: &[i32], other: &[i32]) {
 }
 
 // Whether an answer to a lookup is the weight expected, if any.
-fn is_found(finding: Finding, valid: bool, weight: Option<i32>) -> bool {
+fn is_found(finding: Result<Option<u32>, Reason>, valid: bool, weight: Option<i32>) -> bool {
     match finding {
-        Finding::NotValid => !valid,
-        Finding::Found(found) => valid
-            && weight.is_some_and(|weight| is_count(found as u64, weight)),
-        Finding::NotFound => valid && weight.is_none(),
+        Err(_) => !valid,
+        Ok(Some(found)) => valid && weight.is_some_and(|weight| is_count(found as u64, weight)),
+        Ok(None) => valid && weight.is_none(),
     }
 }
 
