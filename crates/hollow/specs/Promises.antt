@@ -52,7 +52,6 @@ use Rattle.sheet.specs.Sheet.{join_refusal, joined_after as sheet_after, JoinCal
 use Rattle.adding.specs.Calls.{add_refusal, add_after, add_work_after, AddCall}
 use Rattle.feeding.specs.Calls.{feed_refusal, feed_after, front_after, feed_work_after, FeedCall}
 use Rattle.sheet_text.specs.SheetText.{told_of, text_after, TellCall}
-use Rattle.sheet_text.specs.declared.Told.{Told}
 use Rattle.hollow.specs.Contract.{Contract, answering, writing, over}
 
 -- ---- which answers are refusals
@@ -325,12 +324,12 @@ choosing rule =
 
 -- ---- sheets
 
--- Of each the answer is a refusal's number, 0 for none.
-abbrev numbered : ℕ → Bool
-numbered r = ltb 0 r
+-- Of each the answer is a Result, refused with a reason.
+abbrev refused_with : {A : Type 0} → Result A Reason → Bool
+refused_with r = is_err r
 
 -- Joining two sheets is given both. Of the first, what it leaves.
-abbrev pub joining_sheets : Contract (List ℕ × List ℕ) ℕ (List ℕ)
+abbrev pub joining_sheets : Contract (List ℕ × List ℕ) (Result ⊤ Reason) (List ℕ)
 joining_sheets =
     record {
       allows = λ x r b. JoinCall x.0 x.1 r b;
@@ -339,14 +338,14 @@ joining_sheets =
       met = λ x. record { answer = refl; lent = refl };
       only = λ x r b h. (h.answer, h.lent);
       lent = λ x. x.0;
-      refusal = numbered;
+      refusal = refused_with;
     }
 
 -- One order more is given a sheet, the order's bytes and the work area. Of the first and the last, what it leaves.
 abbrev pub AddInput : Type 0
 AddInput = List ℕ × List ℕ × List ℤ
 
-abbrev pub adding : Contract AddInput ℕ (List ℕ × List ℤ)
+abbrev pub adding : Contract AddInput (Result ⊤ Reason) (List ℕ × List ℤ)
 adding =
     record {
       allows = λ x r b. AddCall x.0 x.1 x.2 r b.0 b.1;
@@ -355,14 +354,14 @@ adding =
       met = λ x. record { answer = refl; lent = refl; area = refl };
       only = λ x r b h. (h.answer, λ i. (h.lent i, h.area i));
       lent = λ x. (x.0, x.2);
-      refusal = numbered;
+      refusal = refused_with;
     }
 
 -- Feeding is given the numbers and the front that are held of a stream, a piece, and the work area. Of all but the piece, what it leaves.
 abbrev pub FeedInput : Type 0
 FeedInput = List ℕ × List ℕ × List ℕ × List ℤ
 
-abbrev pub feeding : Contract FeedInput ℕ (List ℕ × List ℕ × List ℤ)
+abbrev pub feeding : Contract FeedInput (Result ⊤ Reason) (List ℕ × List ℕ × List ℤ)
 feeding =
     record {
       allows = λ x r b. FeedCall x.0 x.1 x.2 x.3 r b.0 b.1 b.2;
@@ -375,21 +374,21 @@ feeding =
       met = λ x. record { answer = refl; numbers = refl; room = refl; cleaned = refl };
       only = λ x r b h. (h.answer, λ i. (h.numbers i, h.room i, h.cleaned i));
       lent = λ x. (x.0, x.1, x.3);
-      refusal = numbered;
+      refusal = refused_with;
     }
 
 -- Telling a sheet is given it, whether its stream is cut, and bytes to write the text to.
 abbrev pub TellInput : Type 0
 TellInput = List ℕ × Bool × List ℕ
 
-abbrev pub telling : Contract TellInput Told (List ℕ)
+abbrev pub telling : Contract TellInput (Result ℕ Reason) (List ℕ)
 telling =
     record {
       allows = λ x r b. TellCall x.0 x.1 x.2 r b;
       answer = λ x. told_of x.0 x.1 x.2;
       left = λ x. text_after x.0 x.1 x.2;
-      met = λ x. record { refusal = refl; bytes = refl; text = refl };
-      only = λ x r b h. (λ i. record { refusal = h.refusal i; bytes = h.bytes i }, h.text);
+      met = λ x. record { answer = refl; text = refl };
+      only = λ x r b h. (h.answer, h.text);
       lent = λ x. x.2;
-      refusal = λ r. numbered r.refusal;
+      refusal = refused_with;
     }

@@ -1,22 +1,22 @@
 // Writes what the calls answered, and the buffers that are no numbers with sign.
 use careful::{front, put};
 use case_lines::{put_buffer, put_count, put_refused, put_word};
-use sheet_text::Told;
+use refusals::Reason;
 
 // What a call that counts answered.
-pub fn put_answer(refusal: u32) {
-    if refusal != 0 {
-        return put_refused(refusal);
+pub fn put_answer(done: Result<(), Reason>) {
+    match done {
+        Ok(()) => put_word(b" counted"),
+        Err(reason) => put_refused(reason.number()),
     }
-    put_word(b" counted")
 }
 
 // What telling answered.
-pub fn put_told(told: Told) {
-    if told.refusal != 0 {
-        return put_refused(told.refusal);
+pub fn put_told(told: Result<usize, Reason>) {
+    match told {
+        Ok(bytes) => put_count(bytes as u64),
+        Err(reason) => put_refused(reason.number()),
     }
-    put_count(told.bytes as u64)
 }
 
 // A figure.

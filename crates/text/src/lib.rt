@@ -2,7 +2,7 @@
 // place behind what it wrote. Assumes nothing.
 #![tactic(auto)]
 
-ghost use Rattle.std.specs.Prelude.{◌≡◌, [], ◌∷◌, ◌++◌, ◌+◌, ◌≤◌, nat_abs, length};
+ghost use Rattle.std.specs.Prelude.{◌≡◌, [], ◌∷◌, ◌++◌, ◌+◌, ◌≤◌, length};
 ghost use Rattle.text.specs.Decimal.{digits, figure};
 ghost use Rattle.text.specs.Buffer.{Room, Wrote};
 
@@ -17,12 +17,13 @@ pub fn put_byte(out: &mut [u8], at: usize, b: u8) -> usize
 
 // How many figures a number has.
 fn figure_count(value: u32) -> usize
-    ensures { result ≡ length (digits value) }
+    ensures count { result ≡ length (digits value) }
+    ensures upper_bound { result ≤ 10 }
 {
     let mut rest = value;
     let mut count: usize = 1;
     while rest > 9 {
-        rest = rest / 10;
+        rest /= 10;
         count += 1;
     }
     count
@@ -35,14 +36,11 @@ pub fn put_count(out: &mut [u8], at: usize, value: u32) -> usize
     ensures upper_bound { result ≤ at + 10 }
 {
     let next = at + figure_count(value);
-    let mut place = next - 1;
     let mut left = value;
-    while left > 9 {
-        out[place] = 48 + (left % 10) as u8;
-        place -= 1;
-        left = left / 10;
+    for place in (at..next).rev() {
+        out[place] = b'0' + (left % 10) as u8;
+        left /= 10;
     }
-    out[place] = 48 + left as u8;
     next
 }
 
@@ -56,26 +54,15 @@ pub fn put_figure(out: &mut [u8], at: usize, value: u32, behind: u8) -> usize
     put_byte(out, next, behind)
 }
 
-// A number without its sign; -1 - value is one less than it, and fits for every value below zero.
-fn without_sign(value: i32) -> u32
-    ensures { result ≡ nat_abs value }
-{
-    if value < 0 {
-        (-1 - value) as u32 + 1
-    } else {
-        value as u32
-    }
-}
-
 // A signed number, at most eleven bytes: its figures, a minus sign before them where it is below zero.
 pub fn put_number(out: &mut [u8], at: usize, value: i32) -> usize
     requires { Room 11 out.old at }
     ensures wrote { Wrote out.old at (figure value) out.new result }
     ensures upper_bound { result ≤ at + 11 }
 {
-    let size = without_sign(value);
+    let size = value.unsigned_abs();
     if value < 0 {
-        let next = put_byte(out, at, 45);
+        let next = put_byte(out, at, b'-');
         return put_count(out, next, size);
     }
     put_count(out, at, size)

@@ -1,10 +1,8 @@
--- `text::put_count` meets its contract: the figures still to be put are those of what is left.
+-- `text::put_count` meets its contract: from the last to the first, the figures up to the place are still to be put.
 -- Assumes nothing.
+use Prim.Native.Nat.{◌-◌}
 use Rattle.text.specs.Buffer.{Filling}
 use Rattle.text.proofs.put_count.Given as goal
 
-abbrev pub invariant-loop-left : goal.invariant-loop-left
-invariant-loop-left l = Filling l.initial.out l.at l.value l.out l.place l.left
-
-abbrev pub decreases-loop-left : goal.decreases-loop-left
-decreases-loop-left l = l.left
+abbrev pub invariant-loop-place : goal.invariant-loop-place
+invariant-loop-place l = Filling l.initial.out l.at l.value l.out (l.place - l.at) l.left
