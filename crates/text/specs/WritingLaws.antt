@@ -1,7 +1,9 @@
 -- Laws of writing through a writer: two writings one after the other are one.
-use Rattle.std.specs.Prelude.{ℕ, ◌+◌, ◌≤◌, List, ◌++◌}
-use Rattle.std.proofs.Common.{◌∙◌, arith}
-use Rattle.text.specs.BufferLaws.{wrote-more}
+use Rattle.std.specs.Prelude.{ℕ, ◌+◌, ◌≤◌, ◌≡◌, refl, List, [], ◌++◌, length, ℤ}
+use Rattle.std.proofs.Common.{◌∙◌, arith, SFits, to_z, of_z, to_z-of_z}
+use Rattle.std.specs.Int.{w32}
+use Rattle.text.specs.Decimal.{figure}
+use Rattle.text.specs.BufferLaws.{wrote_none, wrote-more}
 use Rattle.text.specs.Writing.{Writes}
 use Rattle.text.specs.declared.Writer.{Writer}
 
@@ -12,3 +14,11 @@ writes-more w v = record { wrote = wrote-more w.wrote v.wrote; few = omega (arit
 -- Text of at most so many bytes is of at most more.
 pub writes-wider : {text : List ℕ} {few most : ℕ} {a b : Writer} → few ≤ most → Writes text few a b → Writes text most a b
 writes-wider h w = record { wrote = w.wrote; few = omega (arith, w.few); same = w.same }
+
+-- No text yet.
+pub writes-none : {w : Writer} → w.at ≤ length w.out.now → Writes [] 0 w w
+writes-none h = record { wrote = wrote_none h; few = omega arith; same = refl }
+
+-- A caller hears of a signed number through its bits: here of the number itself.
+pub writes-number : {most : ℕ} {z : ℤ} {a b : Writer} → SFits w32 z → Writes (figure (to_z w32 (of_z w32 z))) most a b → Writes (figure z) most a b
+writes-number f w = rw (to_z-of_z f) at w
