@@ -37,6 +37,16 @@ impl<'a> Writer<'a> {
         self.at += 1;
     }
 
+    // Bytes as they stand.
+    pub fn bytes(&mut self, bytes: &[u8])
+        requires { Room (length bytes.now) self.old }
+        ensures { Writes bytes.now (length bytes.now) self.old self.new }
+    {
+        let end = self.at + bytes.len();
+        self.out[self.at..end].copy_from_slice(bytes);
+        self.at = end;
+    }
+
     // A number from zero up, at most ten bytes: its figures are put from the last to the first.
     pub fn count(&mut self, value: u32)
         requires { Room 10 self.old }
