@@ -1,23 +1,26 @@
 // The text of a sheet over orders, written into a lent buffer. Any numbers and any buffer have an answer. Assumes nothing.
 #![tactic(auto)]
 
-ghost use Rattle.std.specs.Prelude.{◌+◌, ◌≤◌, length, take};
-ghost use Rattle.text.specs.Buffer.{Room, Wrote};
+ghost use Rattle.std.specs.Prelude.{take};
+ghost use Rattle.text.specs.Buffer.{Wrote};
+ghost use Rattle.text.specs.Writing.{Room, Writes};
 ghost use Rattle.sheet.specs.Sheet.{sum_count, sheet_in};
-ghost use Rattle.sheet_text.specs.SheetText.{lines, none_line, top_line, fraction_line, last_line, sheet_text, TellCall};
+ghost use Rattle.sheet_text.specs.SheetText.{lines, top_line, fraction_line, last_line, sheet_text, TellCall};
 ghost use Rattle.sheet_text.specs.Writing.{CanList, CanPut};
 
 use fractions::lowest_terms;
 use refusals::Reason;
 use sheet::{FEASIBLE, FIGURES, KEPT, OFFERED, PLACE, SUMS, TOP, is_sheet};
-use text::put_figure;
+use text::Writer;
 
-// The bytes between the figures of a line and at its end, and the one where there is nothing to tell.
+// The bytes between the figures of a line and at its end, and the line where there is nothing to tell.
 const SPACE: u8 = b' ';
 
 const SLASH: u8 = b'/';
 
 const NEWLINE: u8 = b'\n';
+
+const NOTHING: &[u8] = b"-\n";
 
 // The refusal of an order that has no plan.
 const NO_PLAN: usize = 11;
@@ -25,74 +28,52 @@ const NO_PLAN: usize = 11;
 // The room that is wanted for a text, in bytes.
 pub const ROOM: usize = 336;
 
-// The sums, one a line, at the front: at most eleven bytes each.
-fn put_sums(out: &mut [u8], figures: &[u32]) -> usize
-    requires { CanList figures.now out.old }
-    ensures wrote { Wrote out.old 0 (lines (take sum_count figures.now)) out.new result }
-    ensures upper_bound { result ≤ 264 }
+// The sums, one a line: at most eleven bytes each.
+fn put_sums(text: &mut Writer, figures: &[u32])
+    requires { CanList figures.now text.old }
+    ensures { Writes (lines (take sum_count figures.now)) 264 text.old text.new }
 {
-    let mut next = 0;
     for value in &figures[..SUMS] {
-        next = put_figure(out, next, *value, NEWLINE);
+        text.figure(*value, NEWLINE);
     }
-    next
-}
-
-// Bytes as they stand.
-fn put_bytes(out: &mut [u8], at: usize, bytes: &[u8]) -> usize
-    requires { Room (length bytes.now) out.old at }
-    ensures { Wrote out.old at bytes.now out.new result }
-{
-    let next = at + bytes.len();
-    out[at..next].copy_from_slice(bytes);
-    next
-}
-
-// The line with nothing to tell: two bytes.
-fn put_none(out: &mut [u8], at: usize) -> usize
-    requires { Room 2 out.old at }
-    ensures wrote { Wrote out.old at none_line out.new result }
-    ensures upper_bound { result ≤ at + 2 }
-{
-    put_bytes(out, at, b"-\n")
 }
 
 // The line of the greatest point total, told by one more than it, and of its place: at most 22 bytes.
-fn put_top(out: &mut [u8], at: usize, top: u32, place: u32) -> usize
-    requires { Room 22 out.old at }
-    ensures wrote { Wrote out.old at (top_line top place) out.new result }
-    ensures upper_bound { result ≤ at + 22 }
+fn put_top(text: &mut Writer, top: u32, place: u32)
+    requires { Room 22 text.old }
+    ensures { Writes (top_line top place) 22 text.old text.new }
 {
     if top == 0 {
-        return put_none(out, at);
+        text.bytes(NOTHING);
+    } else {
+        text.figure(top - 1, SPACE);
+        text.figure(place, NEWLINE);
     }
-    let next = put_figure(out, at, top - 1, SPACE);
-    put_figure(out, next, place, NEWLINE)
 }
 
 // The line of a fraction: at most 22 bytes.
-fn put_fraction(out: &mut [u8], at: usize, upper: u32, lower: u32) -> usize
-    requires { Room 22 out.old at }
-    ensures wrote { Wrote out.old at (fraction_line upper lower) out.new result }
-    ensures upper_bound { result ≤ at + 22 }
+fn put_fraction(text: &mut Writer, upper: u32, lower: u32)
+    requires { Room 22 text.old }
+    ensures { Writes (fraction_line upper lower) 22 text.old text.new }
 {
     if lower == 0 {
-        return put_none(out, at);
+        text.bytes(NOTHING);
+    } else {
+        let fraction = lowest_terms(upper, lower);
+        text.figure(fraction.upper, SLASH);
+        text.figure(fraction.lower, NEWLINE);
     }
-    let fraction = lowest_terms(upper, lower);
-    let next = put_figure(out, at, fraction.upper, SLASH);
-    put_figure(out, next, fraction.lower, NEWLINE)
 }
 
 // The last line: at most six bytes.
-fn put_last(out: &mut [u8], at: usize, cut: bool) -> usize
-    requires { Room 6 out.old at }
-    ensures { Wrote out.old at (last_line cut) out.new result }
+fn put_last(text: &mut Writer, cut: bool)
+    requires { Room 6 text.old }
+    ensures { Writes (last_line cut) 6 text.old text.new }
 {
     if cut {
-        put_bytes(out, at, b"cut\n")
+        text.bytes(b"cut\n");
     } else {
-        put_bytes(out, at, b"whole\n")
+        text.bytes(b"whole\n");
     }
 }
 
@@ -104,16 +85,15 @@ fn put_sheet(out: &mut [u8], figures: &[u32], cut: bool) -> usize
     let refused = figures[NO_PLAN];
     let feasible = figures[FEASIBLE];
     let offered = figures[OFFERED];
-    let kept = figures[KEPT];
-    let top = figures[TOP];
-    let place = figures[PLACE];
     let able = feasible + refused;
-    let lost = offered - kept;
-    let mut next = put_sums(out, figures);
-    next = put_top(out, next, top, place);
-    next = put_fraction(out, next, feasible, able);
-    next = put_fraction(out, next, lost, offered);
-    put_last(out, next, cut)
+    let lost = offered - figures[KEPT];
+    let mut text = Writer { out, at: 0 };
+    put_sums(&mut text, figures);
+    put_top(&mut text, figures[TOP], figures[PLACE]);
+    put_fraction(&mut text, feasible, able);
+    put_fraction(&mut text, lost, offered);
+    put_last(&mut text, cut);
+    text.at
 }
 
 // The text of the sheet that some numbers say, at the front of `text`, and how many bytes it has. Refused with fewer than 26 numbers or

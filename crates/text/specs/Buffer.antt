@@ -2,10 +2,6 @@
 use Rattle.std.specs.Prelude.{ℕ, ◌+◌, ◌≤◌, ◌≡◌, List, ◌++◌, length, take, drop}
 use Rattle.text.specs.Decimal.{digits, last_digits}
 
--- The buffer has room for so many bytes from a place on.
-pub record Room (bytes : ℕ) (out : List ℕ) (at : ℕ) : Type 0 where
-  pub fits : at + bytes ≤ length out
-
 -- The buffer with text put at a place: what stands before the place and behind the text stays.
 abbrev pub put : ℕ → List ℕ → List ℕ → List ℕ
 put at text out = take at out ++ (text ++ drop (at + length text) out)

@@ -23,7 +23,7 @@ told c =
 pub put_refusal-requires : goal.put_refusal-requires
 put_refusal-requires c =
     let s : Start = (goal.at.put_refusal-requires c).Start in
-    record { early = (told (goal.at.put_refusal-requires c).In-Refused).1; room = record { fits = omega (arith, s.requires.room) } }
+    record { early = (told (goal.at.put_refusal-requires c).In-Refused).1; room = omega (arith, s.requires.room) }
 
 pub tell_plan-requires : goal.tell_plan-requires
 tell_plan-requires c =

@@ -1,12 +1,16 @@
 -- `report::put_refusal` meets its contract: the front of the line, and the field behind it.
 -- Assumes nothing.
-use Rattle.text.specs.BufferLaws.{wrote-more}
+use borrow.Author.Rules.{rules}
+use Rattle.text.specs.Buffer.{Wrote}
+use Rattle.text.specs.WritingLaws.{writes-more}
+use Rattle.report.specs.Report.{refusal_line}
 use Rattle.report.specs.WritingLaws.{refusal-line}
 use Rattle.report.proofs.put_refusal.Goals as goal
-use Rattle.report.proofs.put_refusal.Goals.{After-put_front-next, Start}
 
 pub returns : goal.returns
 returns c =
-    let front : After-put_front-next = (goal.at.returns c).After-put_front-next in
-    let s : Start = (goal.at.After-put_front-next front).Start in
-    rw (refusal-line s.args.refusal) (wrote-more front.put_front-next.ensures.wrote c.put_figure.ensures.wrote)
+    let all = writes-more c.put_front.ensures c.figure.ensures in
+    let told : Wrote c.args.out.now 0 (refusal_line c.args.refusal) c.figure.new.self.out.now c.figure.new.self.at =
+    rw (refusal-line c.args.refusal) all.wrote in
+    let same = all.same in
+    search rules
