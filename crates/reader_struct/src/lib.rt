@@ -6,7 +6,9 @@ ghost use Rattle.std.specs.Prelude.{◌≡◌};
 ghost use Rattle.reader.specs.Reading.{open_of};
 ghost use Rattle.reader_struct.specs.Standing.{kept_bytes, seen, begun_over, stepped_of, read_at};
 
-use reader::{Moved, Opened, Read};
+use fields::Job;
+use packed::Refusal;
+use reader::Moved;
 
 // The caller's bytes, and the place of the job that the next step gives.
 #[derive(Clone, Copy)]
@@ -15,34 +17,34 @@ pub struct Reader<'a> {
     pub place: usize,
 }
 
-// What opening gives: the reader, and whether the bytes were accepted.
+// What opening gives: the reader, and the count of jobs of bytes that are accepted.
 #[derive(Clone, Copy)]
 pub struct Begun<'a> {
     pub reader: Reader<'a>,
-    pub answer: Opened,
+    pub answer: Result<usize, Refusal>,
 }
 
 // What a step gives: the reader where it then stands, and the answer.
 #[derive(Clone, Copy)]
 pub struct Stepped<'a> {
     pub reader: Reader<'a>,
-    pub answer: Read,
+    pub answer: Result<Option<Job>, Refusal>,
 }
 
 // What opening said, and what a step said and the place after it.
 #[derive(Clone, Copy)]
 pub struct Reading {
-    pub opened: Opened,
+    pub opened: Result<usize, Refusal>,
     pub moved: Moved,
 }
 
 // The bytes that a reader is opened over: all of them if they were accepted, else an empty part.
-fn kept_part(bytes: &[u8], answer: Opened) -> &[u8]
+fn kept_part(bytes: &[u8], answer: Result<usize, Refusal>) -> &[u8]
     ensures { (result.now ≡ kept_bytes answer bytes.now) × (result.ref_ptr ≡ bytes.entry.ref_ptr) }
 {
     match answer {
-        Opened::Accepted(_) => bytes,
-        Opened::Refused(_) => &bytes[..0],
+        Ok(_) => bytes,
+        Err(_) => &bytes[..0],
     }
 }
 
@@ -57,7 +59,7 @@ pub fn open<'a>(bytes: &'a [u8]) -> Begun<'a>
             bytes: part,
             place: 0,
         },
-        answer: answer,
+        answer,
     }
 }
 
@@ -82,7 +84,7 @@ pub fn read_at(bytes: &[u8], place: usize) -> Reading
     let begun = open(bytes);
     let stepped = step(Reader {
         bytes: begun.reader.bytes,
-        place: place,
+        place,
     });
     Reading {
         opened: begun.answer,
