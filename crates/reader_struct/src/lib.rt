@@ -4,7 +4,7 @@
 
 ghost use Rattle.std.specs.Prelude.{◌≡◌};
 ghost use Rattle.reader.specs.Reading.{open_of};
-ghost use Rattle.reader_struct.specs.Standing.{kept_bytes, seen, begun_over, stepped_of, read_at};
+ghost use Rattle.reader_struct.specs.Standing.{seen, begun_over, stepped_of, read_at};
 
 use fields::Job;
 use packed::Refusal;
@@ -38,27 +38,17 @@ pub struct Reading {
     pub moved: Moved,
 }
 
-// The bytes that a reader is opened over: all of them if they were accepted, else an empty part.
-fn kept_part(bytes: &[u8], answer: Result<usize, Refusal>) -> &[u8]
-    ensures { (result.now ≡ kept_bytes answer bytes.now) × (result.ref_ptr ≡ bytes.entry.ref_ptr) }
-{
-    match answer {
-        Ok(_) => bytes,
-        Err(_) => &bytes[..0],
-    }
-}
-
 // A reader at place 0, over bytes that pass checks 1 to 5; over an empty part of others.
 pub fn open<'a>(bytes: &'a [u8]) -> Begun<'a>
     ensures { (result.answer ≡ open_of bytes.now) × (seen result.reader ≡ begun_over bytes.entry) }
 {
     let answer = reader::open(bytes);
-    let part = kept_part(bytes, answer);
+    let bytes = match answer {
+        Ok(_) => bytes,
+        Err(_) => &bytes[..0],
+    };
     Begun {
-        reader: Reader {
-            bytes: part,
-            place: 0,
-        },
+        reader: Reader { bytes, place: 0 },
         answer,
     }
 }
@@ -70,8 +60,8 @@ pub fn step<'a>(reader: Reader<'a>) -> Stepped<'a>
     let moved = reader::step(reader.bytes, reader.place);
     Stepped {
         reader: Reader {
-            bytes: reader.bytes,
             place: moved.place,
+            ..reader
         },
         answer: moved.answer,
     }
@@ -83,8 +73,8 @@ pub fn read_at(bytes: &[u8], place: usize) -> Reading
 {
     let begun = open(bytes);
     let stepped = step(Reader {
-        bytes: begun.reader.bytes,
         place,
+        ..begun.reader
     });
     Reading {
         opened: begun.answer,
