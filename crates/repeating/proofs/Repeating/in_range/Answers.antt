@@ -1,4 +1,4 @@
--- `repeating::in_range` meets its contract: the six tests are those of the definition, each of a number that is read as its bits.
+-- `repeating::Repeating::in_range` meets its contract: the six tests are those of the definition, each of a number that is read as its bits.
 -- Assumes nothing.
 use mathlib.Core.Path.{◌≡◌, ◌∙◌, ap}
 use lib.Dec.{eqb}
@@ -12,11 +12,11 @@ use Rattle.seconds.specs.Ranges.{is_between}
 use Rattle.packed.specs.Refusals.{weight_test}
 use Rattle.repeating.specs.RepeatingLaws.{RepeatingFits, range-tested}
 use Rattle.repeating.specs.declared.Repeating.{Repeating}
-use Rattle.repeating.proofs.in_range.Goals as goal
-use Rattle.repeating.proofs.in_range.Goals.{After-between, After-between-2, After-between-3, After-weight_within, Start}
+use Rattle.repeating.proofs.Repeating.in_range.Goals as goal
+use Rattle.repeating.proofs.Repeating.in_range.Goals.{After-between, After-between-2, After-between-3, After-weight_within, Start}
 
 -- Each number of the job is an i32.
-fits : (c : Start) → RepeatingFits c.args.job
+fits : (c : Start) → RepeatingFits c.args.self
 fits c =
     record {
       critical = search rules;
@@ -34,7 +34,7 @@ returns c =
     let weighed : After-weight_within = (goal.at.After-between-2 two).After-weight_within in
     let one : After-between = (goal.at.After-weight_within weighed).After-between in
     let start : Start = (goal.at.After-between one).Start in
-    let j : Repeating = start.args.job in
+    let j : Repeating = start.args.self in
     let f : RepeatingFits j = fits start in
     let critical : one.between.result ≡ is_between (pos 0) (pos 1) j.critical =
     one.between.ensures ∙ ap (is_between (pos 0) (pos 1)) (to_z-of_z f.critical) in

@@ -1,4 +1,4 @@
--- `repeating::repeating_at` meets its contract: the six numbers, read one by one.
+-- `repeating::Repeating::read` meets its contract: the six numbers, read one by one.
 -- Assumes nothing.
 use mathlib.Core.Path.{◌∙◌}
 use mathlib.Core.List.{List}
@@ -8,8 +8,8 @@ use lib.ListN.{get_or}
 use borrow.Author.Rules.{rules}
 use Rattle.repeating.specs.RepeatingLaws.{RepeatingFits, numbers-kept, six-read}
 use Rattle.repeating.specs.declared.Repeating.{Repeating}
-use Rattle.repeating.proofs.repeating_at.Goals as goal
-use Rattle.repeating.proofs.repeating_at.Goals.{Start}
+use Rattle.repeating.proofs.Repeating.read.Goals as goal
+use Rattle.repeating.proofs.Repeating.read.Goals.{Start}
 
 pub returns : goal.returns
 returns c =
