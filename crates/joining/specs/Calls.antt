@@ -1,6 +1,6 @@
 -- The two calls that write a profile, each with any outcome that its generated contract allows, where there is room: its
 -- arguments in sequence, its answer, and its parameters at exit. Definitions only.
-use Rattle.std.specs.Prelude.{ℕ, ◌*◌, ◌≤◌, ◌≡◌, List, ℤ, length, take}
+use Rattle.std.specs.Prelude.{ℕ, ◌*◌, ◌≤◌, ◌≡◌, List, ℤ, length, take, Ok}
 use contract.Lifetimes.{Lfts}
 use denote.Triple.Clauses.{AtExit}
 use denote.Triple.Entry.{Args}
@@ -11,9 +11,7 @@ use Rattle.better.specs.declared.Joined.TheVariants.{Points as JoinedPoints}
 use Rattle.better.specs.contracts.better_of as better-of
 use Rattle.better.proofs.better_of.Reads as better-of-reads
 use Rattle.area.specs.Area.{area}
-use Rattle.extending.specs.Calls.{points_written}
-use Rattle.extending.specs.declared.Extended.{Extended}
-use Rattle.extending.specs.declared.Extended.TheVariants.{Points}
+use Rattle.extending.specs.Calls.{Extended, points_written}
 use Rattle.extending.specs.contracts.extend as extend
 use Rattle.extending.proofs.extend.Reads as extend-reads
 
@@ -34,7 +32,7 @@ pub record Extending (P : List ℤ) (A : List ℕ) : Type 0 where
 module _ {P : List ℤ} {A : List ℕ} (e : Extending P A) where
   -- It is accepted: it answers with a number of points.
   abbrev pub Accepted : Type 0
-  Accepted = e.answer ≡ Points (points_written e.answer)
+  Accepted = e.answer ≡ Ok (points_written e.answer)
 
   -- The numbers lent to write to, and those numbers at exit.
   abbrev pub lent : List ℤ
