@@ -11,11 +11,10 @@ use Rattle.packed.specs.Judge.{in_field, plainly, no_refusal, fine, judge}
 use Rattle.packed.specs.Packed.{count_of, numbers_of}
 use Rattle.packed.specs.Refusals.{header_checks, order_checks}
 use Rattle.packed.proofs.RefusalPlaces.{BadField, RefusalIs}
-use Rattle.checking.specs.Calls.{legal_checks, checked_numbers}
+use Rattle.checking.specs.Calls.{Checked, legal_checks, checked_numbers}
 use Rattle.checking.specs.Judged.{NotWhole, SetBits}
 use Rattle.checking.specs.Answers.{LegalIn, legal-yes, legal-passed, legal-refusal, legal-six, legal-fourteen, legal-fifteen}
 use Rattle.checking.specs.Answers.{legal-never}
-use Rattle.checking.specs.declared.Checked.{Checked}
 use Rattle.checking.specs.contracts.legal as legal
 use Rattle.checking.proofs.legal.Reads as reads
 

@@ -1,20 +1,17 @@
 -- Checking stage by stage, as the code goes through its checks; and what is accepted when all are passed.
-use Rattle.std.specs.Prelude.{ℕ, ◌*◌, ◌^◌, ◌≤◌, ◌≡◌, Bool, List, ℤ}
+use Rattle.std.specs.Prelude.{ℕ, ◌*◌, ◌^◌, ◌≤◌, ◌≡◌, Bool, List, ℤ, Ok, Err}
 use Rattle.std.proofs.Math.Path.{sym, ap}
 use Rattle.std.proofs.Common.{◌∙◌, arith}
 use Rattle.std.specs.Int.Count.{ones}
 use Rattle.packed.specs.declared.Refusal.{Refusal}
 use Rattle.packed.proofs.LayoutLaws.{AreBytes}
-use Rattle.packed.specs.Judge.{fine, judge}
+use Rattle.packed.specs.Judge.{Verdict, fine, refused, judge}
 use Rattle.packed.specs.JudgeLaws.{stages-fine}
 use Rattle.packed.specs.Packed.{count_of, t0_of, jobs_in, order_of}
 use Rattle.packed.specs.Places.{each_of}
 use Rattle.packed.specs.Refusals.{order_checks}
 use Rattle.packed.proofs.Accepted.{OrderFine, order-fine}
-use Rattle.judge.specs.Verdicts.{verdict_of}
-use Rattle.judge.specs.Told.{refusal-told, told-refused, told-next}
-use Rattle.judge.specs.declared.Verdict.{Verdict}
-use Rattle.judge.specs.declared.Verdict.TheVariants.{Refused as Stopped}
+use Rattle.judge.specs.Told.{stays, told-next}
 use Rattle.packed_plan.specs.Plan.{count_in, mask_in, kept_in, starts_in, sent_checks}
 use Rattle.plan_bytes.specs.Asks.{start_from}
 use Rattle.legal.specs.Legal.{legal_from, is_legal}
@@ -22,32 +19,30 @@ use Rattle.checking.specs.Calls.{legal_checks, legal_in, legal_of}
 use Rattle.checking.specs.Turns.{kept_by, CanGo}
 use Rattle.checking.specs.Marks.{count_small, raised-count, raised-none, kept-raised}
 use Rattle.checking.specs.Judged.{PlanFine, plan-fine, starts-read}
-use Rattle.checking.specs.declared.Checked.TheVariants.{Refused, Answered}
 
 -- ---- the stages
 
 module _ (order plan : List ℕ) where
   -- Refused by the order's own checks,
-  pub stopped-by-order : (r : Refusal) → verdict_of (judge (order_checks order)) ≡ Stopped r
-      → Stopped r ≡ verdict_of (judge (legal_checks order plan))
+  pub stopped-by-order : {r : Refusal} → judge (order_checks order) ≡ refused r → refused r ≡ judge (legal_checks order plan)
   unfolding legal_checks
-  stopped-by-order r e = sym (told-refused (order_checks order) (sent_checks (count_of order) plan) r e)
+  stopped-by-order e = sym (stays (order_checks order) (sent_checks (count_of order) plan) e)
 
   -- or judged by those of the plan.
-  pub judged-by-plan : {n : ℕ} {v : Verdict} → judge (order_checks order) ≡ fine → n ≡ count_of order → v ≡ verdict_of (judge (sent_checks n plan))
-      → v ≡ verdict_of (judge (legal_checks order plan))
+  pub judged-by-plan : {n : ℕ} {v : Verdict} → judge (order_checks order) ≡ fine → n ≡ count_of order → v ≡ judge (sent_checks n plan)
+      → v ≡ judge (legal_checks order plan)
   unfolding legal_checks
   judged-by-plan passed e v =
-      v ∙ ap (λ (k : ℕ). verdict_of (judge (sent_checks k plan))) e
-      ∙ sym (ap verdict_of (told-next (order_checks order) (sent_checks (count_of order) plan) passed))
+      v ∙ ap (λ (k : ℕ). judge (sent_checks k plan)) e
+      ∙ sym (told-next (order_checks order) (sent_checks (count_of order) plan) passed)
 
   -- The answer where they refuse,
-  pub legal-refused : (r : Refusal) → verdict_of (judge (legal_checks order plan)) ≡ Stopped r → Refused r ≡ legal_of order plan
-  legal-refused r e = rw (refusal-told (judge (legal_checks order plan)) r e)
+  pub legal-refused : {r : Refusal} → judge (legal_checks order plan) ≡ refused r → Err r ≡ legal_of order plan
+  legal-refused e = rw e
 
   module _ (passed : judge (legal_checks order plan) ≡ fine) where
     -- and where they are passed.
-    pub legal-answered : {b : Bool} → b ≡ legal_in order plan → Answered b ≡ legal_of order plan
+    pub legal-answered : {b : Bool} → b ≡ legal_in order plan → Ok b ≡ legal_of order plan
     legal-answered e = rw (passed, e)
 
     -- Both are accepted.

@@ -1,9 +1,9 @@
 -- The laws of turns: one as the code takes it, and all of them one after the other.
-use Rattle.std.specs.Prelude.{ℕ, zero, suc, ◌+◌, ◌*◌, ◌-◌, ◌/◌, ◌%◌, ◌^◌, ◌≤◌, ◌<◌, ◌≡◌, refl, Bool, true, false, cond, ◌&&◌, List, [], ◌∷◌, eqb, ℤ, nat_abs, ◌+ℤ◌, length, take, drop, ◌≤ℤ◌}
+use Rattle.std.specs.Prelude.{ℕ, zero, suc, ◌+◌, ◌*◌, ◌-◌, ◌/◌, ◌%◌, ◌^◌, ◌≤◌, ◌<◌, ◌≡◌, refl, Bool, true, false, cond, ◌&&◌, Option, Some, None, List, [], ◌∷◌, eqb, ℤ, nat_abs, ◌+ℤ◌, length, take, drop, ◌≤ℤ◌}
 use Rattle.std.proofs.Common.{sym, ap₂, ◌∙◌, mod-lt, mod-eq_of_lt, add-one, arith, drop_of_length-le, pow_pos, SFits, of_z, eqb-true}
 use Rattle.std.proofs.Math.Path.{ap}
 use Rattle.std.proofs.Math.Bool.{not, and_assoc}
-use Rattle.std.proofs.lemmas.Bool.{false≢true, not-true, not-false, eqb-false}
+use Rattle.std.proofs.lemmas.Bool.{not-true, not-false, eqb-false}
 use Rattle.std.proofs.Math.Option.{some}
 use Rattle.std.proofs.Math.Nat.{sub-zero}
 use Rattle.std.specs.Int.Count.{ones}
@@ -45,9 +45,9 @@ start-in plan k =
 module _ (j : Numbers) (f : JobFacts j) where
   -- Left out.
   pub turn-left : (s free : ℤ) (k : ℕ)
-      → turn_of (as_job j) false s k free ≡ record { fine = not (eqb (of_z w32 j.critical) 1); next = k; free = free }
+      → turn_of (as_job j) false s k free ≡ cond (eqb (of_z w32 j.critical) 1) None (Some (record { next = k; free = free }))
   unfolding job_of
-  turn-left s free k = λ i. record { fine = not (sym (mark-bits j.critical f.critical) i); next = k; free = free }
+  turn-left s free k = λ i. cond (sym (mark-bits j.critical f.critical) i) None (Some (record { next = k; free = free }))
 
   module _ (s free : ℤ) (inb : InBits 18 s) where
     end_is : end_of (as_job j) s ≡ s +ℤ j.length
@@ -80,11 +80,10 @@ module _ (j : Numbers) (f : JobFacts j) where
 
     -- Kept, and legal or not.
     pub turn-legal : (k : ℕ) → start_legal (as_job j) s free ≡ true
-        → turn_of (as_job j) true s k free ≡ record { fine = true; next = k + 1; free = (s +ℤ j.length) +ℤ pos rest }
+        → turn_of (as_job j) true s k free ≡ Some (record { next = k + 1; free = (s +ℤ j.length) +ℤ pos rest })
     turn-legal k e = rw (e, end_is)
 
-    pub turn-not : (k : ℕ) → start_legal (as_job j) s free ≡ false
-        → turn_of (as_job j) true s k free ≡ record { fine = false; next = k; free = free }
+    pub turn-not : (k : ℕ) → start_legal (as_job j) s free ≡ false → turn_of (as_job j) true s k free ≡ None
     turn-not k e = rw e
 
 -- ---- one turn, and the test of a plan
@@ -93,14 +92,17 @@ module _ (j : Numbers) (f : JobFacts j) where
 abbrev starts_from : List ℕ → ℕ → ℕ → List ℤ
 starts_from plan k m = each_of (start_from plan) k m
 
--- The test from a job on, by its turn: a kept job takes one of the starts that are left.
+-- The test behind a turn: a kept job has taken one of the starts that were left. Where the turn is not legal it is not passed.
+abbrev behind : List Job → List Bool → List ℕ → ℕ → ℕ → Option Turn → Bool
+behind js ks plan m k None = false
+behind js ks plan m k (Some t) = legal_from js ks (starts_from plan t.next (m - (t.next - k))) t.free
+
+-- The test from a job on is that behind its turn.
 after_turn : (j : Job) (js : List Job) (b : Bool) (ks : List Bool) (plan : List ℕ) (m k : ℕ) (free : ℤ) → (b ≡ true → 0 < m)
-    → let t = turn_of j b (start_from plan k) k free in
-    legal_from (j ∷ js) (b ∷ ks) (starts_from plan k m) free
-    ≡ cond t.fine (legal_from js ks (starts_from plan t.next (m - (t.next - k))) t.free) false
+    → legal_from (j ∷ js) (b ∷ ks) (starts_from plan k m) free ≡ behind js ks plan m k (turn_of j b (start_from plan k) k free)
 after_turn j js false ks plan m k free h =
     let e : m - (k - k) ≡ m = omega arith in
-    cases (not j.critical) (λ c. rw (c, e)) (λ c. rw c)
+    cases j.critical (λ c. rw c) (λ c. rw (c, e))
 after_turn j js true ks plan zero k free h = absurd (omega (arith, h refl))
 after_turn j js true ks plan (suc m) k free h =
     let e : suc m - (k + 1 - k) ≡ m = omega arith in
@@ -129,7 +131,7 @@ module _ (js : List Job) (n : ℕ) (t0 : ℤ) (mask : ℕ) (plan : List ℕ) whe
     abbrev kept : Bool
     kept = not (eqb (left / 2 ^ 63) 0)
 
-    abbrev turn : Turn
+    abbrev turn : Option Turn
     turn = turn_of j kept (start_from plan k) k free
 
     kept-one : kept ≡ true → left / 2 ^ 63 ≡ 1
@@ -146,13 +148,11 @@ module _ (js : List Job) (n : ℕ) (t0 : ℤ) (mask : ℕ) (plan : List ℕ) whe
         let a : k < ones mask = omega (arith, w.count, some_left e) in
         record { few = omega arith; room = omega (arith, l) }
 
-    -- The test from the next job on, where this one's turn is legal.
-    abbrev onward : Bool
-    onward =
-        legal_from (drop (i + 1) js) (kept_by (n - (i + 1)) (left % 2 ^ 63 * 2))
-        (starts_from plan turn.next (ones left - (turn.next - k))) turn.free
+    -- The test from the next job on.
+    abbrev onward : Option Turn → Bool
+    onward = behind (drop (i + 1) js) (kept_by (n - (i + 1)) (left % 2 ^ 63 * 2)) plan (ones left) k
 
-    from-here : whole ≡ cond turn.fine onward false
+    from-here : whole ≡ onward turn
     from-here =
         let jobs-left : drop i js ≡ j ∷ drop (i + 1) js = rw (add-one i) (drop_more js i there) in
         let e : n - i ≡ suc (n - (i + 1)) = omega arith in
@@ -162,39 +162,39 @@ module _ (js : List Job) (n : ℕ) (t0 : ℤ) (mask : ℕ) (plan : List ℕ) whe
         ∙ after_turn j (drop (i + 1) js) kept (kept_by (n - (i + 1)) (left % 2 ^ 63 * 2)) plan (ones left) k free some_left
 
     -- A turn that is not legal ends it,
-    pub judging-stops : turn.fine ≡ false → false ≡ whole
-    judging-stops e = sym (from-here ∙ ap (λ b. cond b onward false) e)
+    pub judging-stops : turn ≡ None → false ≡ whole
+    judging-stops e = sym (from-here ∙ ap onward e)
 
     -- and a legal one takes as many starts as its bit says.
-    taken : turn.fine ≡ true → turn.next ≡ k + left / 2 ^ 63
-    taken e = go kept refl e
+    taken : (t : Turn) → turn ≡ Some t → t.next ≡ k + left / 2 ^ 63
+    taken t e = go kept refl e
       where
-        go : (b : Bool) → kept ≡ b → (turn_of j b (start_from plan k) k free).fine ≡ true
-            → (turn_of j b (start_from plan k) k free).next ≡ k + left / 2 ^ 63
+        go : (b : Bool) → kept ≡ b → turn_of j b (start_from plan k) k free ≡ Some t → t.next ≡ k + left / 2 ^ 63
         go true b f =
             let one = kept-one b in
-            cases (start_legal j (start_from plan k) free) (λ c. rw c (omega arith)) (λ c. absurd (false≢true (rw c at f)))
+            cases (start_legal j (start_from plan k) free)
+            (λ c. let s = rw c at f in let e : k + 1 ≡ t.next = cc in omega arith) (λ c. let s = rw c at f in cc)
         go false b f =
             let none : left / 2 ^ 63 ≡ 0 = eqb-true (left / 2 ^ 63) 0 (not-false (eqb (left / 2 ^ 63) 0) b) in
-            omega arith
+            cases j.critical (λ c. let s = rw c at f in cc) (λ c. let s = rw c at f in let e : k ≡ t.next = cc in omega arith)
 
     -- On to the next job.
-    pub judging-on : n ≤ 48 → turn.fine ≡ true → Judging turn.free (left % 2 ^ 63 * 2) turn.next (i + 1)
-    judging-on most e =
+    pub judging-on : n ≤ 48 → (t : Turn) → turn ≡ Some t → Judging t.free (left % 2 ^ 63 * 2) t.next (i + 1)
+    judging-on most t e =
         let o = ones-left left w.fits in
-        let same : ones left - (turn.next - k) ≡ ones (left % 2 ^ 63 * 2) = omega (arith, taken e, o) in
+        let same : ones left - (t.next - k) ≡ ones (left % 2 ^ 63 * 2) = omega (arith, taken t e, o) in
         record {
           few = omega arith;
           fits = omega (arith, w.fits);
-          count = omega (arith, taken e, o, w.count);
+          count = omega (arith, taken t e, o, w.count);
           zeros =
               let d = 64 - (n - i) in
               let up : 64 - (n - (i + 1)) ≡ suc d = omega arith in
               rw up (zeros-up left d (omega arith) w.zeros);
           answer =
-              ap (λ m. legal_from (drop (i + 1) js) (kept_by (n - (i + 1)) (left % 2 ^ 63 * 2)) (starts_from plan turn.next m) turn.free)
+              ap (λ m. legal_from (drop (i + 1) js) (kept_by (n - (i + 1)) (left % 2 ^ 63 * 2)) (starts_from plan t.next m) t.free)
               (sym same)
-              ∙ sym (from-here ∙ ap (λ b. cond b onward false) e);
+              ∙ sym (from-here ∙ ap onward e);
         }
 
   -- All turns are legal.

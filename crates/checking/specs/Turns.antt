@@ -1,5 +1,5 @@
 -- What the turns of the jobs in a plan give, and what they ask. Definitions only.
-use Rattle.std.specs.Prelude.{ℕ, ◌+◌, ◌-◌, ◌%◌, ◌^◌, ◌≤◌, ◌≡◌, Bool, true, false, not, cond, List, ℤ, pos, ◌+ℤ◌, length}
+use Rattle.std.specs.Prelude.{ℕ, ◌+◌, ◌-◌, ◌%◌, ◌^◌, ◌≤◌, ◌≡◌, Bool, true, false, cond, Option, Some, None, List, ℤ, pos, ◌+ℤ◌, length}
 use Rattle.std.specs.Int.Count.{ones}
 use Rattle.seconds.specs.Limits.{rest, most_jobs}
 use Rattle.order.specs.Job.{Job}
@@ -18,13 +18,10 @@ use Rattle.checking.specs.declared.Turn.{Turn}
 abbrev pub kept_by : ℕ → ℕ → List Bool
 kept_by n mask = kept_of (picks_of n mask)
 
--- A job's turn, left out or kept with a start that stands at a place.
-abbrev pub turn_of : Job → Bool → ℤ → ℕ → ℤ → Turn
-turn_of j false s k free = record { fine = not j.critical; next = k; free = free }
-turn_of j true s k free =
-    cond (start_legal j s free)
-    (record { fine = true; next = k + 1; free = end_of j s +ℤ pos rest })
-    (record { fine = false; next = k; free = free })
+-- A job's turn, left out or kept with a start that stands at a place; none where it is not legal.
+abbrev pub turn_of : Job → Bool → ℤ → ℕ → ℤ → Option Turn
+turn_of j false s k free = cond j.critical None (Some (record { next = k; free = free }))
+turn_of j true s k free = cond (start_legal j s free) (Some (record { next = k + 1; free = end_of j s +ℤ pos rest })) None
 
 -- A job can take its turn: where it is kept, its start is there.
 pub record CanTake (plan : List ℕ) (k : ℕ) (job : Numbers) (kept : Bool) : Type 0 where

@@ -8,7 +8,7 @@ use Rattle.order.specs.Job.{weight_of}
 use Rattle.profile.specs.Profile.{extend, last_weight}
 use Rattle.profile.proofs.Extending.{extend-empty}
 use Rattle.packed.specs.declared.Refusal.{Refusal}
-use Rattle.packed.specs.Judge.{in_field, no_refusal, Verdict, fine, refused, judge}
+use Rattle.packed.specs.Judge.{in_field, no_refusal, Verdict, fine, refused, judge, refusal_of}
 use Rattle.packed.specs.JudgeLaws.{never}
 use Rattle.packed.specs.Packed.{numbers_of, jobs_of, order_of}
 use Rattle.packed.specs.Refusals.{header_checks, job_checks, weight_checks}
@@ -17,9 +17,8 @@ use Rattle.profiles.specs.Numbers.{most_numbers, holds_profile}
 use Rattle.area.specs.Area.{area}
 use Rattle.judge.specs.Told.{stays, Named, holds-behind, named-check, named-rooms, named-order, six-rooms}
 use Rattle.extending.specs.Calls.{profile_given, profile_checks, extend_judged, extend_checks, extend_verdict}
-use Rattle.extending.specs.Calls.{extension, extended_by, extended_of, ExtendCall, extend_refusal, points_written}
+use Rattle.extending.specs.Calls.{extension, extended_by, extended_of, Extended, ExtendCall, points_written}
 use Rattle.extending.proofs.CallLaws.{seven, eight, nine}
-use Rattle.extending.specs.declared.Extended.{Extended}
 
 -- ---- the answer in numbers
 
@@ -28,7 +27,7 @@ module _ (ns : List ℤ) (bytes : List ℕ) (out work : List ℤ) where
   abbrev Says : Refusal → ℕ → Type 0
   Says refusal points =
       let a = extended_of ns bytes out work in
-      (extend_refusal a ≡ refusal) × (points_written a ≡ points)
+      (refusal_of a ≡ refusal) × (points_written a ≡ points)
 
   -- Refused: what the first check that applies says, and no points.
   pub refused_says : {r : Refusal} → extend_verdict ns bytes out work ≡ refused r → Says r 0
@@ -44,10 +43,10 @@ module _ (ns : List ℤ) (bytes : List ℕ) (out work : List ℤ) where
   checks-not-eleven = never 11 (extend_checks ns bytes out work) tt
 
   -- so no outcome that the contract allows is refused with it.
-  pub extend-never-eleven : {r : Extended} {out' work' : List ℤ} → ExtendCall ns bytes out work r out' work' → (extend_refusal r).number ≢ 11
+  pub extend-never-eleven : {r : Extended} {out' work' : List ℤ} → ExtendCall ns bytes out work r out' work' → (refusal_of r).number ≢ 11
   extend-never-eleven h = rw h.answer (go (extend_verdict ns bytes out work) refl)
     where
-      go : (v : Verdict) → extend_verdict ns bytes out work ≡ v → (extend_refusal (extended_by v (extension ns bytes))).number ≢ 11
+      go : (v : Verdict) → extend_verdict ns bytes out work ≡ v → (refusal_of (extended_by v (extension ns bytes))).number ≢ 11
       go fine d e = absurd (omega arith)
       go (refused s) d e = checks-not-eleven d e
 
@@ -75,16 +74,16 @@ module _ (ns : List ℤ) (bytes : List ℕ) (out work : List ℤ) where
 
   -- What is told by a verdict.
   abbrev told : Verdict → Refusal
-  told v = extend_refusal (extended_by v (extension ns bytes))
+  told v = refusal_of (extended_by v (extension ns bytes))
 
   -- So the answer's refusal names what it should,
-  pub extend-refusal : RefusalIs (numbers_of bytes) (extend_refusal (extended_of ns bytes out work))
+  pub extend-refusal : RefusalIs (numbers_of bytes) (refusal_of (extended_of ns bytes out work))
   extend-refusal =
       answer-refusal (numbers_of bytes) told (λ r. refl) (nowhere {n = 0} refl) (extend_verdict ns bytes out work) extend-named
 
   -- and 6 is given with a place and a field exactly when 1 to 5 are passed, the first job out of range is there, and that is its
   -- first field that is.
-  pub extend-six : (p f : ℕ) → extend_refusal (extended_of ns bytes out work) ≡ in_field 6 p f
+  pub extend-six : (p f : ℕ) → refusal_of (extended_of ns bytes out work) ≡ in_field 6 p f
       ↔ ((judge (header_checks bytes) ≡ fine) × BadField (numbers_of bytes) p f)
   extend-six p f =
       Iff.trans

@@ -1,5 +1,5 @@
 -- Extending stage by stage, as the code goes through its checks: each refusal, and what is left when all are passed.
-use Rattle.std.specs.Prelude.{ℕ, ◌≤◌, ◌<◌, ◌≡◌, true, false, List, ◌++◌, ℤ, length, drop}
+use Rattle.std.specs.Prelude.{ℕ, ◌≤◌, ◌<◌, ◌≡◌, true, false, List, ◌++◌, ℤ, length, drop, Ok, Err}
 use Rattle.std.proofs.Math.Path.{sym, ap}
 use Rattle.std.proofs.Common.{◌∙◌}
 use Rattle.profile.specs.Profile.{last_weight}
@@ -12,12 +12,9 @@ use Rattle.profiles.specs.Places.{points_of}
 use Rattle.profiles.specs.NumbersLaws.{profile-there}
 use Rattle.area.specs.Area.{area, cleared}
 use Rattle.area.specs.Clearing.{cleared-same}
-use Rattle.judge.specs.Verdicts.{verdict_of}
-use Rattle.judge.specs.Told.{told-fine, refusal-told, told-next, stays, no_room, no-space, all-fine}
-use Rattle.judge.specs.declared.Verdict.TheVariants.{Fine, Refused as Stopped}
+use Rattle.judge.specs.Told.{told-next, stays, no_room, no-space, all-fine}
 use Rattle.extending.specs.Calls.{profile_given, profile_checks, extend_judged, extend_checks, extend_verdict, ExtendCall}
 use Rattle.extending.specs.Extending.{ExtendedIn}
-use Rattle.extending.specs.declared.Extended.TheVariants.{Refused, Points}
 
 -- The profile given is read as the code reads it.
 pub given-read : (ns : List ℤ) → holds_profile ns ≡ true → profile_given ns ≡ points_of ns
@@ -47,15 +44,15 @@ module _ (ns : List ℤ) (bytes : List ℕ) where
 
   -- where it is fine, all that is judged before the room is.
   pub extend-passed : {before : ℕ} → judge seven ≡ fine → holds_profile ns ≡ true → before ≡ last_weight (points_of ns)
-      → verdict_of (judge (weight_checks before (numbers_of bytes))) ≡ Fine → judge (extend_judged ns bytes) ≡ fine
-  extend-passed {before} passed valid e f = nine-told passed valid e ∙ told-fine (weight_checks before (numbers_of bytes)) f
+      → judge (weight_checks before (numbers_of bytes)) ≡ fine → judge (extend_judged ns bytes) ≡ fine
+  extend-passed passed valid e f = nine-told passed valid e ∙ f
 
   module _ (out work : List ℤ) where
     -- A refusal changes no buffer.
-    extend-refused : {r : Refusal} → extend_verdict ns bytes out work ≡ refused r → ExtendCall ns bytes out work (Refused r) out work
+    extend-refused : {r : Refusal} → extend_verdict ns bytes out work ≡ refused r → ExtendCall ns bytes out work (Err r) out work
     extend-refused e = record { answer = rw e; written = rw e; area = rw e }
 
-    before-room : {r : Refusal} → judge (extend_judged ns bytes) ≡ refused r → ExtendCall ns bytes out work (Refused r) out work
+    before-room : {r : Refusal} → judge (extend_judged ns bytes) ≡ refused r → ExtendCall ns bytes out work (Err r) out work
     unfolding extend_checks
     before-room e =
         extend-refused
@@ -63,33 +60,31 @@ module _ (ns : List ℤ) (bytes : List ℕ) where
         (stays (extend_judged ns bytes) (room_checks most_numbers (length out)) e))
 
     -- By 1 to 7,
-    pub extend-stopped : (r : Refusal) → verdict_of (judge seven) ≡ Stopped r → ExtendCall ns bytes out work (Refused r) out work
+    pub extend-stopped : {r : Refusal} → judge seven ≡ refused r → ExtendCall ns bytes out work (Err r) out work
     unfolding extend_judged
-    extend-stopped r e =
-        before-room (stays eight nine (stays seven (profile_checks ns) (refusal-told _ r e)))
+    extend-stopped e = before-room (stays eight nine (stays seven (profile_checks ns) e))
 
     module _ (passed : judge seven ≡ fine) where
       -- by 8,
-      pub extend-not-valid : holds_profile ns ≡ false → ExtendCall ns bytes out work (Refused (plainly 8)) out work
+      pub extend-not-valid : holds_profile ns ≡ false → ExtendCall ns bytes out work (Err (plainly 8)) out work
       unfolding extend_judged
       extend-not-valid e =
           before-room (stays eight nine (told-next seven (profile_checks ns) passed ∙ rw e))
 
       -- by 9,
-      pub extend-too-heavy : (r : Refusal) {before : ℕ} → holds_profile ns ≡ true → before ≡ last_weight (points_of ns)
-          → verdict_of (judge (weight_checks before (numbers_of bytes))) ≡ Stopped r
-          → ExtendCall ns bytes out work (Refused r) out work
-      extend-too-heavy r valid e f = before-room (nine-told passed valid e ∙ refusal-told _ r f)
+      pub extend-too-heavy : {r : Refusal} {before : ℕ} → holds_profile ns ≡ true → before ≡ last_weight (points_of ns)
+          → judge (weight_checks before (numbers_of bytes)) ≡ refused r → ExtendCall ns bytes out work (Err r) out work
+      extend-too-heavy valid e f = before-room (nine-told passed valid e ∙ f)
 
     module _ (passed : judge (extend_judged ns bytes) ≡ fine) where
       -- by the room for a profile,
-      pub extend-no-room : length out < most_numbers → ExtendCall ns bytes out work (Refused (plainly 10)) out work
+      pub extend-no-room : length out < most_numbers → ExtendCall ns bytes out work (Err (plainly 10)) out work
       unfolding extend_checks
       extend-no-room h = extend-refused (no_room (extend_judged ns bytes) passed most_numbers (length out) area (length work) h)
 
       module _ (places : most_numbers ≤ length out) where
         -- or by that for the lists.
-        pub extend-no-space : length work < area → ExtendCall ns bytes out work (Refused (plainly 10)) out work
+        pub extend-no-space : length work < area → ExtendCall ns bytes out work (Err (plainly 10)) out work
         unfolding extend_checks
         extend-no-space h =
             extend-refused (no-space (extend_judged ns bytes) passed most_numbers (length out) area (length work) places h)
@@ -101,7 +96,7 @@ module _ (ns : List ℤ) (bytes : List ℕ) where
 
         pub extend-done : {points : ℕ} {written left : List ℤ} (filled : List ℤ) → area ≤ length work
             → ExtendedIn ns bytes out points written → drop area filled ≡ drop area work → left ≡ cleared filled
-            → ExtendCall ns bytes out work (Points points) written left
+            → ExtendCall ns bytes out work (Ok points) written left
         extend-done filled h x past c =
             let e = extend-fine h in
             record {

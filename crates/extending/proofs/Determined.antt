@@ -3,8 +3,7 @@ use mathlib.Core.List.{List}
 use contract.Lifetimes.{Lfts}
 use lib.IntN.{ℤ}
 use Rattle.seconds.specs.Determined.{Determines, determined, three}
-use Rattle.extending.specs.Calls.{extended_of, out_after, extend_work_after}
-use Rattle.extending.specs.declared.Extended.{Extended}
+use Rattle.extending.specs.Calls.{Extended, extended_of, out_after, extend_work_after}
 use Rattle.extending.proofs.extend.Reads as extend
 
 pub extend-determined : (κs : Lfts 4)

@@ -1,17 +1,15 @@
 -- Extending as a call: the checks, the answer, and every lent buffer at exit, for every input. Definitions only.
-use Rattle.std.specs.Prelude.{ℕ, ◌≡◌, not, List, [], ◌∷◌, ◌++◌, ℤ, length}
+use Rattle.std.specs.Prelude.{ℕ, ◌≡◌, not, List, [], ◌∷◌, ◌++◌, ℤ, length, Result, Ok, Err}
 use Rattle.std.proofs.Math.Option.{get_or}
 use Rattle.order.specs.Job.{Point}
 use Rattle.profile.specs.Profile.{extend, last_weight}
 use Rattle.packed.specs.declared.Refusal.{Refusal}
-use Rattle.packed.specs.Judge.{no_refusal, Check, Verdict, fine, refused, judge, check}
+use Rattle.packed.specs.Judge.{Check, Verdict, fine, refused, judge, check}
 use Rattle.packed.specs.Packed.{numbers_of, order_of}
 use Rattle.packed.specs.Refusals.{header_checks, job_checks, weight_checks, room_checks}
 use Rattle.profiles.specs.Numbers.{most_numbers, alternating, profile_in, holds_profile, written_over}
 use Rattle.area.specs.Area.{area}
 use Rattle.filling.specs.After.{work_by}
-use Rattle.extending.specs.declared.Extended.{Extended}
-use Rattle.extending.specs.declared.Extended.TheVariants.{Refused, Points}
 
 -- The profile that some numbers hold; the empty one where they hold none.
 abbrev pub profile_given : List ℤ → List Point
@@ -40,10 +38,14 @@ extend_verdict ns bytes out work = judge (extend_checks ns bytes out work)
 abbrev pub extension : List ℤ → List ℕ → List Point
 extension ns bytes = extend (profile_given ns) (order_of bytes).jobs
 
+-- What extending answers: a refusal, or how many points were written.
+abbrev pub Extended : Type 0
+Extended = Result ℕ Refusal
+
 -- The answer by the verdict and that profile.
 abbrev pub extended_by : Verdict → List Point → Extended
-extended_by (refused r) ps = Refused r
-extended_by fine ps = Points (length ps)
+extended_by (refused r) ps = Err r
+extended_by fine ps = Ok (length ps)
 
 -- The numbers at exit: the profile's are written over the front.
 abbrev pub out_by : Verdict → List Point → List ℤ → List ℤ
@@ -70,11 +72,7 @@ pub record ExtendCall
 
 -- ---- the numbers for each case; all but those of the refusal are 0 in a refused answer (R26)
 
--- The answer of extending: its refusal, and the points written.
-abbrev pub extend_refusal : Extended → Refusal
-extend_refusal (Refused r) = r
-extend_refusal (Points n) = no_refusal
-
+-- The points written; `refusal_of` is the answer's refusal.
 abbrev pub points_written : Extended → ℕ
-points_written (Refused r) = 0
-points_written (Points n) = n
+points_written (Err r) = 0
+points_written (Ok n) = n

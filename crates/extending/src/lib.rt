@@ -12,17 +12,11 @@ ghost use Rattle.extending.specs.Extending.{CanExtend, ExtendedIn};
 use area::{AREA, clear};
 use fields::header_at;
 use filling::{fill_last, last_weight, start_profile};
-use judge::{Verdict, judge_jobs, judge_weight};
-use packed::{Refusal, plainly};
+use judge::{judge_jobs, judge_weight};
+use packed::Refusal;
 use profiles::{MOST_NUMBERS, valid};
 use reading::write_list;
-
-// What extending answers: a refusal, or how many points were written.
-#[derive(Clone, Copy)]
-pub enum Extended {
-    Refused(Refusal),
-    Points(usize),
-}
+use refusals::Reason;
 
 // The extended profile by the lists of all jobs, the last of them written to the front of `out`. Returns how many points.
 fn extend_by_lists(profile: &[i32], bytes: &[u8], out: &mut [i32], work: &mut [i32]) -> usize
@@ -30,54 +24,64 @@ fn extend_by_lists(profile: &[i32], bytes: &[u8], out: &mut [i32], work: &mut [i
     ensures { ExtendedIn profile.now bytes.now out.old result out.new }
 {
     let header = header_at(bytes);
-    let n = header.count;
     let count = start_profile(work, profile);
-    let last = fill_last(work, bytes, n, count);
+    let last = fill_last(work, bytes, header.count, count);
     write_list(work, last, out);
     last.count
 }
 
 // Extending by an order that has passed the checks before the room: the room is judged, and the work area
 // is cleared behind.
-fn extend_with_room(profile: &[i32], bytes: &[u8], out: &mut [i32], work: &mut [i32]) -> Extended
+fn extend_with_room(
+    profile: &[i32],
+    bytes: &[u8],
+    out: &mut [i32],
+    work: &mut [i32],
+) -> Result<usize, Refusal>
     requires { judge (extend_judged profile.now bytes.now) ≡ fine }
     ensures { ExtendCall profile.now bytes.now out.old work.old result
         out.new work.new }
 {
     if out.len() < MOST_NUMBERS {
-        return Extended::Refused(plainly(10));
+        return Err(Reason::BufferTooShort.into());
     }
     if work.len() < AREA {
-        return Extended::Refused(plainly(10));
+        return Err(Reason::BufferTooShort.into());
     }
     let points = extend_by_lists(profile, bytes, out, &mut work[..AREA]);
     clear(work);
-    Extended::Points(points)
+    Ok(points)
 }
 
 // Extending by bytes that have passed 1 to 7: the profile is judged, and its last weight with the order's.
-fn extend_profile(profile: &[i32], bytes: &[u8], out: &mut [i32], work: &mut [i32]) -> Extended
+fn extend_profile(
+    profile: &[i32],
+    bytes: &[u8],
+    out: &mut [i32],
+    work: &mut [i32],
+) -> Result<usize, Refusal>
     requires { judge (header_checks bytes.now ++ job_checks (numbers_of bytes.now)) ≡ fine }
     ensures { ExtendCall profile.now bytes.now out.old work.old result
         out.new work.new }
 {
     if !valid(profile) {
-        return Extended::Refused(plainly(8));
+        return Err(Reason::ProfileNotValid.into());
     }
     let before = last_weight(profile);
-    match judge_weight(bytes, before as u32) {
-        Verdict::Refused(refusal) => Extended::Refused(refusal),
-        Verdict::Fine => extend_with_room(profile, bytes, out, work),
-    }
+    judge_weight(bytes, before as u32)?;
+    extend_with_room(profile, bytes, out, work)
 }
 
-// A profile extended by a packed order, written to the front of `out`; what is past it stays.
-pub fn extend(profile: &[i32], bytes: &[u8], out: &mut [i32], work: &mut [i32]) -> Extended
+// A profile extended by a packed order, written to the front of `out`; what is past it stays. Tells how many points.
+pub fn extend(
+    profile: &[i32],
+    bytes: &[u8],
+    out: &mut [i32],
+    work: &mut [i32],
+) -> Result<usize, Refusal>
     ensures { ExtendCall profile.now bytes.now out.old work.old result
         out.new work.new }
 {
-    match judge_jobs(bytes) {
-        Verdict::Refused(refusal) => Extended::Refused(refusal),
-        Verdict::Fine => extend_profile(profile, bytes, out, work),
-    }
+    judge_jobs(bytes)?;
+    extend_profile(profile, bytes, out, work)
 }

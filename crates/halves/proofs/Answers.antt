@@ -1,6 +1,6 @@
 -- What the answers of planning halves say: 13 exactly when a place offends, with the first such place; else planning's own answer
 -- and buffers; 11 exactly when nothing is feasible; and the optional seconds lost, 60 for each weight lost.
-use Rattle.std.specs.Prelude.{ℕ, ◌*◌, ◌<◌, ◌≡◌, true, ◌↔◌, ◌≢◌, ◌⊎◌, ltb, length}
+use Rattle.std.specs.Prelude.{ℕ, ◌*◌, ◌<◌, ◌≡◌, true, ◌↔◌, ◌≢◌, ◌⊎◌, ltb, length, Ok, Err}
 use Rattle.std.proofs.Math.Path.{refl, sym, ap}
 use Rattle.std.proofs.Common.{◌∙◌, true≢false, inl, inr, ⊎_elim, arith, ltb-true, ltb-false, lt-ltb}
 use Rattle.std.proofs.Math.Logic.Iff
@@ -28,14 +28,11 @@ use Rattle.area.specs.Area.{area}
 use Rattle.filling.specs.After.{work_by}
 use Rattle.judge.specs.Told.{stays, told-next, Named, holds-behind, named-rooms, named-order, six-rooms}
 use Rattle.planner.specs.Calls.{plan_checks, plan_verdict, planned_by, starts_by, planned_of, starts_after, plan_work_after, PlanCall}
-use Rattle.planner.specs.Calls.{PlanNumbers, plan_numbers}
+use Rattle.planner.specs.Calls.{Planned, PlanNumbers, plan_numbers}
 use Rattle.planner.specs.Answers.{refused_with, planned_with, told, passed-told, NoneFeasible, plan-no-thirteen, plan-eleven}
-use Rattle.planner.specs.declared.Planned.{Planned}
-use Rattle.planner.specs.declared.Planned.TheVariants as planned
 use Rattle.halves.specs.Calls.{plan_halves_checks, halves_verdict, lost_in, lost_seconds, with_seconds, halves_of, HalvesCall}
-use Rattle.halves.specs.Calls.{halves_numbers}
+use Rattle.halves.specs.Calls.{HalvesPlanned, halves_numbers}
 use Rattle.halves.proofs.CallLaws.{lost-sixty, verdict-as-plan}
-use Rattle.halves.specs.declared.HalvesPlanned.{HalvesPlanned}
 
 -- ---- check 13
 
@@ -103,8 +100,8 @@ only-thirteen zs {r} e =
 
 -- Planning's numbers stay, whatever the seconds.
 seconds-beside : (s : ℕ) (p : Planned) → (halves_numbers (with_seconds s p)).plan ≡ plan_numbers p
-seconds-beside s (planned.Refused r) = refl
-seconds-beside s (planned.Made f) = refl
+seconds-beside s (Err r) = refl
+seconds-beside s (Ok f) = refl
 
 module _ (bytes : List ℕ) (starts work : List ℤ) where
   -- Refused by a check: what the first that applies says, and no seconds.

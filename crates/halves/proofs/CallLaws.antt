@@ -1,5 +1,5 @@
 -- Planning halves stage by stage, as the code goes through its checks: each refusal, and planning's own answer past check 13.
-use Rattle.std.specs.Prelude.{ℕ, ◌*◌, ◌≤◌, ◌<◌, ◌≡◌, List, ◌++◌, ℤ, length}
+use Rattle.std.specs.Prelude.{ℕ, ◌*◌, ◌<◌, ◌≡◌, List, ◌++◌, ℤ, length, Some, None, Ok, Err}
 use Rattle.std.proofs.Math.Path.{refl, sym}
 use Rattle.std.proofs.Common.{ap, ◌∙◌, arith, lt-ltb, le-ltb}
 use Rattle.std.proofs.Math.Option.{Option, none, some, map}
@@ -14,6 +14,8 @@ use Rattle.plan.specs.Plan.{Ended, plan, answer_of, plan_answer}
 use Rattle.plan.proofs.PlanIs.{plan-is}
 use Rattle.packed.specs.declared.Refusal.{Refusal}
 use Rattle.packed.specs.Judge.{at_place, Check, Verdict as Judged, fine, refused, judge, or_else}
+use Rattle.packed.specs.Places.{found_below}
+use Rattle.packed.specs.PlacesLaws.{found-there, found-is, none-is}
 use Rattle.packed.specs.JudgeLaws.{judge-append, stages-fine}
 use Rattle.packed.specs.Packed.{count_of, t0_of, numbers_of, job_count, order_of, jobs_in}
 use Rattle.packed.specs.Refusals.{first_offending, order_checks, halves_checks, room_checks}
@@ -22,29 +24,28 @@ use Rattle.packed.proofs.Accepted.{order-fine}
 use Rattle.fields.specs.Places.{jobs-whole}
 use Rattle.area.specs.Area.{area}
 use Rattle.filling.specs.After.{work_by}
-use Rattle.judge.specs.Verdicts.{verdict_of}
-use Rattle.judge.specs.Told.{refusal-told, stays, told-next}
-use Rattle.judge.specs.declared.Verdict.TheVariants.{Refused as Stopped, Fine}
-use Rattle.planner.specs.Calls.{plan_checks, plan_verdict, figures_of, planned_by, starts_by, PlanCall}
+use Rattle.judge.specs.Told.{stays, told-next}
+use Rattle.planner.specs.Calls.{Planned, plan_checks, plan_verdict, figures_of, planned_by, starts_by, PlanCall}
 use Rattle.planner.specs.Answers.{plan-fits}
-use Rattle.planner.specs.declared.Planned.{Planned}
-use Rattle.planner.specs.declared.Planned.TheVariants as planned
 use Rattle.halves.specs.Awaiting.{Light, seconds_added}
-use Rattle.halves.specs.Calls.{plan_halves_checks, halves_verdict, lost_in, lost_seconds, with_seconds, HalvesCall}
-use Rattle.halves.specs.declared.HalvesPlanned.TheVariants.{Refused, Made}
+use Rattle.halves.specs.Calls.{plan_halves_checks, halves_verdict, lost_in, lost_seconds, with_seconds, plan_with, HalvesCall}
 
 -- ---- check 13
 
 -- By the place that was found.
-pub offending-told : (zs : List ℤ) (place n : ℕ) → place ≡ first_offending zs → n ≡ job_count zs → place < n
-    → Stopped (at_place 13 place) ≡ verdict_of (judge (halves_checks zs))
+pub offending-told : (zs : List ℤ) (place n : ℕ) → Some place ≡ found_below n (first_offending zs) → n ≡ job_count zs
+    → refused (at_place 13 place) ≡ judge (halves_checks zs)
 unfolding halves_checks
-offending-told zs place n e c h = rw (← e, ← c, lt-ltb place n h)
+offending-told zs place n e c =
+    let h : first_offending zs < n = found-is n (first_offending zs) e in
+    let found : Some place ≡ Some (first_offending zs) = e ∙ sym (found-there n (first_offending zs) h) in
+    let same : place ≡ first_offending zs = cc in
+    let below : place < n = rw same h in
+    rw (← same, ← c, lt-ltb place n below)
 
-pub none_told : (zs : List ℤ) (place n : ℕ) → place ≡ first_offending zs → n ≡ job_count zs → n ≤ place
-    → Fine ≡ verdict_of (judge (halves_checks zs))
+pub none_told : (zs : List ℤ) (n : ℕ) → None ≡ found_below n (first_offending zs) → n ≡ job_count zs → fine ≡ judge (halves_checks zs)
 unfolding halves_checks
-none_told zs place n e c h = rw (← e, ← c, le-ltb place n h)
+none_told zs n e c = rw (← c, le-ltb (first_offending zs) n (none-is n (first_offending zs) e))
 
 -- ---- the seconds lost
 
@@ -67,16 +68,16 @@ module _ (bytes : List ℕ) (starts work : List ℤ) where
   judged = order_checks bytes ++ halves_checks (numbers_of bytes)
 
   -- A refusal changes no buffer.
-  halves-refused : {r : Refusal} → halves_verdict bytes starts work ≡ refused r → HalvesCall bytes starts work (Refused r) starts work
+  halves-refused : {r : Refusal} → halves_verdict bytes starts work ≡ refused r → HalvesCall bytes starts work (Err r) starts work
   halves-refused e = record { answer = rw e; written = rw e; area = rw e }
 
   -- By the checks of the order and by 13.
-  pub halves-stopped : (r : Refusal) → verdict_of (judge judged) ≡ Stopped r → HalvesCall bytes starts work (Refused r) starts work
+  pub halves-stopped : {r : Refusal} → judge judged ≡ refused r → HalvesCall bytes starts work (Err r) starts work
   unfolding plan_halves_checks
-  halves-stopped r e =
+  halves-stopped e =
       halves-refused
       (stays (judged ++ room_checks (count_of bytes) (length starts)) (room_checks area (length work))
-      (stays judged (room_checks (count_of bytes) (length starts)) (refusal-told _ r e)))
+      (stays judged (room_checks (count_of bytes) (length starts)) e))
 
   -- The rooms are judged alike behind whatever is passed.
   rooms-judged : (cs : List Check) → judge cs ≡ fine
@@ -102,8 +103,8 @@ module _ (bytes : List ℕ) (starts work : List ℤ) where
       plan-light = go r refl
         where
           go : (p : Planned) → r ≡ p → Light p
-          go (planned.Refused s) e = tt
-          go (planned.Made f) e =
+          go (Err s) e = tt
+          go (Ok f) e =
               omega (arith, (plan-fits bytes starts work call f e).weights, ((order-fine bytes).0 order).light)
 
       -- and with the seconds added its answer is that of planning halves.
@@ -131,4 +132,4 @@ module _ (bytes : List ℕ) (starts work : List ℤ) where
           added (refused s) m e = refl
           added fine none e = refl
           added fine (some e) is =
-              ap (λ (s : ℕ). Made (figures_of (answer_of t js e)) s) (sym (lost-sixty bytes halves e is))
+              ap (λ (s : ℕ). Ok (plan_with (figures_of (answer_of t js e)) s)) (sym (lost-sixty bytes halves e is))

@@ -3,8 +3,7 @@ use mathlib.Core.List.{List}
 use contract.Lifetimes.{Lfts}
 use lib.IntN.{ℤ}
 use Rattle.seconds.specs.Determined.{Determines, determined, three}
-use Rattle.halves.specs.Calls.{halves_of, halves_starts_after, halves_work_after}
-use Rattle.halves.specs.declared.HalvesPlanned.{HalvesPlanned}
+use Rattle.halves.specs.Calls.{HalvesPlanned, halves_of, halves_starts_after, halves_work_after}
 use Rattle.halves.proofs.plan_halves.Reads as plan-halves
 
 pub plan-halves-determined : (κs : Lfts 3)

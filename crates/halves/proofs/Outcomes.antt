@@ -13,15 +13,13 @@ use Rattle.packed.specs.Judge.{in_field, at_place, fine, judge}
 use Rattle.packed.specs.Packed.{numbers_of, order_of}
 use Rattle.packed.specs.Refusals.{header_checks, order_checks}
 use Rattle.packed.proofs.RefusalPlaces.{BadField, RefusalIs}
-use Rattle.planner.specs.Calls.{plan_numbers}
+use Rattle.planner.specs.Calls.{Planned, plan_numbers}
 use Rattle.planner.specs.Answers.{NoneFeasible}
-use Rattle.planner.specs.declared.Planned.{Planned}
 use Rattle.planner.specs.contracts.plan as plan
 use Rattle.planner.proofs.plan.Reads as plan-reads
-use Rattle.halves.specs.Calls.{halves_numbers}
+use Rattle.halves.specs.Calls.{HalvesPlanned, halves_numbers}
 use Rattle.halves.proofs.Answers.{FirstOffends, thirteen, thirteen-if-some, halves-never-thirteen, others-thirteen}
 use Rattle.halves.proofs.Answers.{as-plan, halves-eleven, seconds-sixty, halves-refusal, halves-six}
-use Rattle.halves.specs.declared.HalvesPlanned.{HalvesPlanned}
 use Rattle.halves.specs.contracts.plan_halves as plan-halves
 use Rattle.halves.proofs.plan_halves.Reads as reads
 

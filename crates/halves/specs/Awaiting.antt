@@ -1,6 +1,6 @@
 -- What the parts of planning halves ask of their callers and give: the numbers that are awaited on the way through an order.
 -- Definitions only.
-use Rattle.std.specs.Prelude.{ℕ, ◌+◌, ◌*◌, ◌≤◌, ◌≡◌, Bool, true, not, cond, ◌&&◌, List, ltb, eqb, length, get_or, set, replicate}
+use Rattle.std.specs.Prelude.{ℕ, ◌+◌, ◌*◌, ◌≤◌, ◌≡◌, Bool, true, not, cond, ◌&&◌, List, ltb, eqb, length, get_or, set, replicate, Ok, Err}
 use Rattle.seconds.specs.Limits.{highest_half, halves_apart, seconds_per_weight, most_weight}
 use Rattle.order.specs.Job.{Job, length_of}
 use Rattle.order.specs.Halves.{is_half}
@@ -9,10 +9,8 @@ use Rattle.packed.specs.Refusals.{fields_within}
 use Rattle.packed.proofs.Accepted.{OrderFine}
 use Rattle.fields.specs.Fields.{fields_of}
 use Rattle.fields.specs.declared.Job.{Job as Fields}
-use Rattle.planner.specs.declared.Planned.{Planned}
-use Rattle.planner.specs.declared.Planned.TheVariants as planned
-use Rattle.halves.specs.declared.HalvesPlanned.{HalvesPlanned}
-use Rattle.halves.specs.declared.HalvesPlanned.TheVariants.{Refused, Made}
+use Rattle.planner.specs.Calls.{Planned}
+use Rattle.halves.specs.Calls.{HalvesPlanned, plan_with}
 
 -- A job is within its limits, and there is a place for each number.
 pub record CanTake (job : Fields) (awaited : List ℕ) : Type 0 where
@@ -37,10 +35,10 @@ pub record CanSearch (bytes : List ℕ) (n : ℕ) (awaited : List ℕ) : Type 0 
 
 -- The weights that a plan keeps and loses are together at most the most weight of an order.
 abbrev pub Light : Planned → Type 0
-Light (planned.Refused r) = Unit {0}
-Light (planned.Made f) = f.kept_weight + f.lost_weight ≤ most_weight
+Light (Err r) = Unit {0}
+Light (Ok f) = f.kept_weight + f.lost_weight ≤ most_weight
 
 -- So many seconds for each weight lost.
 abbrev pub seconds_added : Planned → HalvesPlanned
-seconds_added (planned.Refused r) = Refused r
-seconds_added (planned.Made f) = Made f (seconds_per_weight * f.lost_weight)
+seconds_added (Err r) = Err r
+seconds_added (Ok f) = Ok (plan_with f (seconds_per_weight * f.lost_weight))

@@ -1,6 +1,6 @@
 -- The laws of the search for an offending place: the numbers awaited say which jobs have a partner before them, one job more,
 -- and the search from place to place.
-use Rattle.std.specs.Prelude.{ℕ, suc, ◌+◌, ◌*◌, ◌≤◌, ◌<◌, ◌≡◌, refl, Bool, not, cond, ◌&&◌, ◌≢◌, List, [], ◌∷◌, ◌++◌, ltb, pos, length, take, get_or, set, replicate}
+use Rattle.std.specs.Prelude.{ℕ, suc, ◌+◌, ◌*◌, ◌≤◌, ◌<◌, ◌≡◌, refl, Bool, not, cond, ◌&&◌, ◌≢◌, List, [], ◌∷◌, ◌++◌, ltb, pos, length, take, get_or, set, replicate, Some, None}
 use Rattle.std.proofs.Common.{sym, ap, ◌∙◌, arith, length-set, get_or-set_same, get_or-set_other, to_z, of_z}
 use Rattle.std.proofs.Math.Bool.{true, false, not-not, or-true, or-false}
 use Rattle.std.proofs.Math.Option.{some}
@@ -18,8 +18,8 @@ use Rattle.seconds.specs.Ranges.{same}
 use Rattle.order.specs.Job.{Job, length_of}
 use Rattle.order.specs.Halves.{is_half, has_partner, offends, offends_at}
 use Rattle.order.proofs.HalvesLaws.{has_more}
-use Rattle.packed.specs.Places.{first}
-use Rattle.packed.specs.PlacesLaws.{first_on, first-here, first-end}
+use Rattle.packed.specs.Places.{first, found_below}
+use Rattle.packed.specs.PlacesLaws.{first_on, first-here, first-end, found-there, found-none}
 use Rattle.packed.specs.Packed.{job_fields, count_of, numbers_of, job_of, jobs_in}
 use Rattle.packed.proofs.PackedLaws.{numbers-count}
 use Rattle.packed.specs.Refusals.{first_offending}
@@ -181,8 +181,10 @@ module _ {bytes : List ℕ} {n : ℕ} {awaited : List ℕ} {place : ℕ} (s : Se
   room-kept noted g = rw g (room_by (is_half (as_job job)))
 
   -- and where it offends the search ends;
-  pub search-ends : true ≡ offends_by awaited (as_job job) → place ≡ first_offending (numbers_of bytes)
-  search-ends e = sym (s.search ∙ first-here (offends_at (jobs_in bytes)) place n more (place-told ∙ sym e))
+  pub search-ends : true ≡ offends_by awaited (as_job job) → Some place ≡ found_below n (first_offending (numbers_of bytes))
+  search-ends e =
+      found-there n place more
+      ∙ ap (found_below n) (sym (s.search ∙ first-here (offends_at (jobs_in bytes)) place n more (place-told ∙ sym e)))
 
   -- else it goes on behind it.
   pub search-on : (noted : List ℕ) → false ≡ offends_by awaited (as_job job) → noted ≡ awaited_after (as_job job) awaited
@@ -201,7 +203,7 @@ module _ {bytes : List ℕ} {n : ℕ} {awaited : List ℕ} {place : ℕ} (s : Se
 
 -- No place is left.
 pub search-none : {bytes : List ℕ} {n : ℕ} {awaited : List ℕ} {place : ℕ} → Searching bytes n awaited place → n ≤ place
-    → place ≡ first_offending (numbers_of bytes)
+    → None ≡ found_below n (first_offending (numbers_of bytes))
 search-none {bytes} {n} {awaited} {place} s h =
     let e : place ≡ n = omega (arith, s.going) in
-    sym (s.search ∙ rw e (first-end (offends_at (jobs_in bytes)) n))
+    found-none n place h ∙ ap (found_below n) (sym (s.search ∙ rw e (first-end (offends_at (jobs_in bytes)) n)))

@@ -1,20 +1,19 @@
 -- Planning an order of halves as a call: planning's answer and buffers behind one check more, and the optional seconds lost.
 -- Definitions only.
-use Rattle.std.specs.Prelude.{ℕ, ◌≡◌, List, ◌++◌, ℤ, length}
+use Rattle.std.specs.Prelude.{ℕ, ◌≡◌, List, ◌++◌, ℤ, length, Result, Ok, Err}
 use Rattle.std.proofs.Math.Option.{Option, none, some}
 use Rattle.order.specs.Job.{Order}
 use Rattle.order.specs.Halves.{seconds_lost}
 use Rattle.plan.specs.Plan.{Ended, plan, plan_answer}
+use Rattle.packed.specs.declared.Refusal.{Refusal}
 use Rattle.packed.specs.Judge.{Check, Verdict, judge}
 use Rattle.packed.specs.Packed.{count_of, numbers_of, order_of}
 use Rattle.packed.specs.Refusals.{order_checks, halves_checks, room_checks}
 use Rattle.area.specs.Area.{area}
 use Rattle.filling.specs.After.{work_by}
-use Rattle.planner.specs.Calls.{planned_by, starts_by, PlanNumbers, plan_numbers}
-use Rattle.planner.specs.declared.Planned.{Planned}
-use Rattle.planner.specs.declared.Planned.TheVariants as planned
-use Rattle.halves.specs.declared.HalvesPlanned.{HalvesPlanned}
-use Rattle.halves.specs.declared.HalvesPlanned.TheVariants.{Refused, Made}
+use Rattle.planner.specs.Calls.{Planned, planned_by, starts_by, PlanNumbers, plan_numbers}
+use Rattle.planner.specs.declared.Figures.{Figures}
+use Rattle.halves.specs.declared.HalvesPlan.{HalvesPlan}
 
 -- 1 to 7 and 9 of the order, 13, then room for a start of each job, then room for the work area.
 unfoldable pub plan_halves_checks : List ℕ → List ℤ → List ℤ → List Check
@@ -34,10 +33,17 @@ lost_in o (some e) = seconds_lost o.jobs e.choice
 abbrev pub lost_seconds : Order → ℕ
 lost_seconds o = lost_in o (plan o.t0 o.jobs)
 
+-- What planning halves answers: a refusal, or a plan and the optional seconds lost.
+abbrev pub HalvesPlanned : Type 0
+HalvesPlanned = Result HalvesPlan Refusal
+
+abbrev pub plan_with : Figures → ℕ → HalvesPlan
+plan_with f s = record { figures = f; seconds = s }
+
 -- An answer of planning, and the seconds lost where it is a plan.
 abbrev pub with_seconds : ℕ → Planned → HalvesPlanned
-with_seconds s (planned.Refused r) = Refused r
-with_seconds s (planned.Made f) = Made f s
+with_seconds s (Err r) = Err r
+with_seconds s (Ok f) = Ok (plan_with f s)
 
 -- The answer, and both buffers at exit, of any bytes, starts and work area: planning's, by these checks.
 abbrev pub halves_of : List ℕ → List ℤ → List ℤ → HalvesPlanned
@@ -64,5 +70,5 @@ pub record HalvesNumbers : Type 0 where
   pub seconds_lost : ℕ
 
 abbrev pub halves_numbers : HalvesPlanned → HalvesNumbers
-halves_numbers (Refused r) = record { plan = plan_numbers (planned.Refused r); seconds_lost = 0 }
-halves_numbers (Made f s) = record { plan = plan_numbers (planned.Made f); seconds_lost = s }
+halves_numbers (Err r) = record { plan = plan_numbers (Err r); seconds_lost = 0 }
+halves_numbers (Ok p) = record { plan = plan_numbers (Ok p.figures); seconds_lost = p.seconds }

@@ -23,11 +23,9 @@ use Rattle.profiles.specs.NumbersLaws.{alternating-length, profile-back, held, p
 use Rattle.better.specs.Answer.{Joined, joined_of, out_after as joined_after, points_written as points_joined}
 use Rattle.area.specs.Area.{area}
 use Rattle.extending.specs.Calls.{profile_given, extend_judged, extend_checks, extend_verdict, extension, extended_by, extended_of}
-use Rattle.extending.specs.Calls.{ExtendCall, points_written}
+use Rattle.extending.specs.Calls.{Extended, ExtendCall, points_written}
 use Rattle.extending.proofs.CallLaws.{given-read, extend-fine}
 use Rattle.extending.proofs.ExtendingLaws.{Accepted as AllFine, accepted, accepted-order}
-use Rattle.extending.specs.declared.Extended.{Extended}
-use Rattle.extending.specs.declared.Extended.TheVariants.{Points}
 use Rattle.joining.specs.Calls.{Extending, Accepted, lent, left, extended, BetterOf, BetterAccepted, lent_better, left_better, better}
 use Rattle.joining.specs.Demand3.{Joins, OneByOne, BetterFirst, Demand3}
 
@@ -98,7 +96,7 @@ module _ (P : List ℤ) (A : List ℕ) (after : AcceptedAfter P A) where
 
   -- A call answers with it and writes it.
   module _ (e : Extending P A) where
-    answers : e.answer ≡ Points (length (extension P A))
+    answers : e.answer ≡ Ok (length (extension P A))
     answers = (call e).answer ∙ rw (extend-fine P A (lent e) _ after e.room e.work-room)
 
     leaves : left e ≡ written_over (alternating (extension P A)) (lent e)
@@ -114,11 +112,11 @@ module _ (P : List ℤ) (A : List ℕ) (after : AcceptedAfter P A) where
     takes = rw answers
 
 -- An answer with points says so.
-points-accepted : (P : List ℤ) (A : List ℕ) (out work : List ℤ) {n : ℕ} → extended_of P A out work ≡ Points n → AcceptedAfter P A
+points-accepted : (P : List ℤ) (A : List ℕ) (out work : List ℤ) {n : ℕ} → extended_of P A out work ≡ Ok n → AcceptedAfter P A
 unfolding extend_checks
 points-accepted P A out work {n} e = go (extend_verdict P A out work) refl e
   where
-    go : (v : Verdict) → extend_verdict P A out work ≡ v → extended_by v (extension P A) ≡ Points n → AcceptedAfter P A
+    go : (v : Verdict) → extend_verdict P A out work ≡ v → extended_by v (extension P A) ≡ Ok n → AcceptedAfter P A
     go fine f h =
         let judged = extend_judged P A in
         let places = room_checks most_numbers (length out) in
@@ -183,7 +181,7 @@ module _ (P : List ℤ) {A B J : List ℕ} (j : Joins A B J) (after : AcceptedAf
         A-accepted = takes P A first-accepted by-A;
         B-accepted = takes (extended by-A) B next then-B;
         J-accepted = takes P J after by-J;
-        answers = s ∙ ap (λ (ps : List Point). Points (length ps)) same ∙ sym t;
+        answers = s ∙ ap (λ (ps : List Point). Ok (length ps)) same ∙ sym t;
         writes = writes (extended by-A) B next then-B ∙ ap alternating same ∙ sym (writes P J after by-J);
         leaves = λ e.
             leaves (extended by-A) B next then-B

@@ -9,9 +9,7 @@ use Rattle.better.specs.Answer.{Joined, points_written as points_joined}
 use Rattle.better.specs.contracts.better_of as better-of
 use Rattle.better.proofs.better_of.Reads as better-of-reads
 use Rattle.area.specs.Area.{area}
-use Rattle.extending.specs.Calls.{points_written}
-use Rattle.extending.specs.declared.Extended.{Extended}
-use Rattle.extending.specs.declared.Extended.TheVariants.{Points}
+use Rattle.extending.specs.Calls.{Extended, points_written}
 use Rattle.extending.specs.contracts.extend as extend
 use Rattle.extending.proofs.extend.Reads as extend-reads
 
@@ -32,7 +30,7 @@ pub record Extending (P : List ℤ) (A : List ℕ) : Type 0 where
 module _ {P : List ℤ} {A : List ℕ} (e : Extending P A) where
   -- It is accepted: it answers with a number of points.
   abbrev pub Accepted : Type 0
-  Accepted = e.answer ≡ Points (points_written e.answer)
+  Accepted = e.answer ≡ Ok (points_written e.answer)
 
   -- The numbers lent to write to, and those numbers at exit.
   abbrev pub lent : List ℤ

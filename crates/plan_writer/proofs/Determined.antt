@@ -4,12 +4,11 @@ use mathlib.Core.List.{List}
 use contract.Lifetimes.{Lfts}
 use lib.IntN.{ℤ}
 use Rattle.seconds.specs.Determined.{Determines, determined, three}
-use Rattle.plan_writer.specs.Calls.{written_of, out_after, write_work_after}
-use Rattle.pack.specs.declared.Packed.{Packed}
+use Rattle.plan_writer.specs.Calls.{Written, written_of, out_after, write_work_after}
 use Rattle.plan_writer.proofs.write_plan.Reads as write-plan
 
 pub write-plan-determined : (κs : Lfts 3)
-    → Determines {Z = Packed × List ℕ × List ℤ} (write-plan.Post κs) (λ r x. (r, x.1.0.now, x.1.1.0.now))
+    → Determines {Z = Written × List ℕ × List ℤ} (write-plan.Post κs) (λ r x. (r, x.1.0.now, x.1.1.0.now))
 write-plan-determined κs =
     determined (write-plan.Post κs) (λ r x. (r, x.1.0.now, x.1.1.0.now))
     (λ a. (

@@ -9,24 +9,22 @@ use lib.ListN.{length}
 use contract.Lifetimes.{Lfts}
 use denote.Triple.Clauses.{AtExit}
 use denote.Triple.Entry.{Args}
+use Rattle.std.proofs.Common.{Ok, Err}
 use Rattle.plan.specs.Plan.{Answer, plan_answer}
 use Rattle.packed_plan.specs.Plan.{plan_bytes}
 use Rattle.area.specs.Area.{area}
 use Rattle.packed.specs.declared.Refusal.{Refusal}
-use Rattle.packed.specs.Judge.{in_field, fine, judge}
+use Rattle.packed.specs.Judge.{in_field, fine, judge, refusal_of}
 use Rattle.packed.specs.Packed.{numbers_of, order_of}
 use Rattle.packed.specs.Refusals.{header_checks, order_checks}
 use Rattle.packed.proofs.RefusalPlaces.{BadField, RefusalIs}
 use Rattle.plan_writer.specs.Answers.{write-refusal, write-six, NoneFeasible, write-eleven}
 use Rattle.plan_writer.specs.Answers.{plan-gets-bytes, refused-nothing, PlanWritten, plan-written}
-use Rattle.plan_writer.specs.Calls.{plan_room}
-use Rattle.pack.specs.Answer.{refusal_of}
-use Rattle.pack.specs.declared.Packed.{Packed}
-use Rattle.pack.specs.declared.Packed.TheVariants.{Refused, Bytes}
+use Rattle.plan_writer.specs.Calls.{plan_room, Written}
 use Rattle.plan_writer.specs.contracts.write_plan as write-plan
 use Rattle.plan_writer.proofs.write_plan.Reads as reads
 
-module _ (κs : Lfts 3) (a : Args write-plan.signature κs) (r : Packed) (x : AtExit write-plan.ended κs) (h : reads.Post κs a r x)
+module _ (κs : Lfts 3) (a : Args write-plan.signature κs) (r : Written) (x : AtExit write-plan.ended κs) (h : reads.Post κs a r x)
   where
     pub outcome-refusal : RefusalIs (numbers_of a.0.now) (refusal_of r)
     outcome-refusal = rw h.answer (write-refusal a.0.now a.1.0.now a.1.1.0.now)
@@ -39,11 +37,11 @@ module _ (κs : Lfts 3) (a : Args write-plan.signature κs) (r : Packed) (x : At
     outcome-eleven = write-eleven a.0.now a.1.0.now a.1.1.0.now h
 
     pub outcome-gets-bytes : judge (order_checks a.0.now) ≡ fine → plan_room ≤ length a.1.0.now
-        → area ≤ length a.1.1.0.now → (b : Answer) → plan_answer (order_of a.0.now) ≡ some b → r ≡ Bytes (plan_bytes b.kept)
+        → area ≤ length a.1.1.0.now → (b : Answer) → plan_answer (order_of a.0.now) ≡ some b → r ≡ Ok (plan_bytes b.kept)
     outcome-gets-bytes = plan-gets-bytes a.0.now a.1.0.now a.1.1.0.now h
 
-    pub outcome-nothing : (s : Refusal) → r ≡ Refused s → x.1.0.now ≡ a.1.0.now
+    pub outcome-nothing : (s : Refusal) → r ≡ Err s → x.1.0.now ≡ a.1.0.now
     outcome-nothing = refused-nothing a.0.now a.1.0.now a.1.1.0.now h
 
-    pub outcome-written : (n : ℕ) → r ≡ Bytes n → PlanWritten a.0.now a.1.0.now n x.1.0.now
+    pub outcome-written : (n : ℕ) → r ≡ Ok n → PlanWritten a.0.now a.1.0.now n x.1.0.now
     outcome-written = plan-written a.0.now a.1.0.now a.1.1.0.now h

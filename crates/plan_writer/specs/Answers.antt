@@ -1,6 +1,6 @@
 -- What the answers of writing say: what refusals name, when 6 and 11 are given, that a refusal writes nothing, and that what is
 -- written reads back as the plan's mask and the starts of the jobs that it keeps.
-use Rattle.std.specs.Prelude.{ℕ, ◌*◌, ◌^◌, ◌≤◌, ◌≡◌, refl, false, ◌↔◌, ◌≢◌, List, ◌++◌, ℤ, length, take, drop}
+use Rattle.std.specs.Prelude.{ℕ, ◌*◌, ◌^◌, ◌≤◌, ◌≡◌, refl, false, ◌↔◌, ◌≢◌, List, ◌++◌, ℤ, length, take, drop, Ok, Err}
 use Rattle.std.proofs.Common.{sym, ap, ap₂, ◌∙◌, arith}
 use Rattle.std.proofs.Math.Logic.Iff
 use Rattle.std.proofs.Math.Option.{Option, none, some, map-eq-none_iff}
@@ -9,7 +9,7 @@ use Rattle.order.specs.Choice.{Choice, feasible}
 use Rattle.plan.specs.Plan.{plan, Answer, answer_of, plan_answer}
 use Rattle.plan.proofs.PlanIs.{plan-none}
 use Rattle.packed.specs.declared.Refusal.{Refusal}
-use Rattle.packed.specs.Judge.{in_field, Verdict, fine, refused, judge}
+use Rattle.packed.specs.Judge.{in_field, Verdict, fine, refused, judge, refusal_of}
 use Rattle.packed.specs.JudgeLaws.{stages-fine, never}
 use Rattle.packed.specs.Packed.{numbers_of, order_of}
 use Rattle.packed.specs.Refusals.{header_checks, job_checks, weight_checks, room_checks, order_checks}
@@ -18,11 +18,8 @@ use Rattle.packed.proofs.RefusalPlaces.{BadField, RefusalIs, nowhere, SixIs, six
 use Rattle.packed_plan.specs.Plan.{plan_bytes, starts_kept, mask_in, starts_in}
 use Rattle.area.specs.Area.{area}
 use Rattle.judge.specs.Told.{Named, named-rooms, named-order, six-rooms}
-use Rattle.plan_writer.specs.Calls.{plan_room, write_checks, write_verdict, bytes_for, written_by, out_by, WriteCall}
+use Rattle.plan_writer.specs.Calls.{plan_room, Written, write_checks, write_verdict, bytes_for, written_by, out_by, WriteCall}
 use Rattle.plan_writer.specs.OwnPlans.{OwnPlan, own-plan, own-length, own-mask, own-kept}
-use Rattle.pack.specs.Answer.{refusal_of}
-use Rattle.pack.specs.declared.Packed.{Packed}
-use Rattle.pack.specs.declared.Packed.TheVariants.{Refused, Bytes}
 
 -- ---- the checks
 
@@ -103,14 +100,14 @@ pub record PlanWritten (order out : List ℕ) (n : ℕ) (out' : List ℕ) : Type
 
 -- ---- every outcome that the contract allows
 
-module _ (order out : List ℕ) (work : List ℤ) {r : Packed} {out' : List ℕ} {work' : List ℤ}
+module _ (order out : List ℕ) (work : List ℤ) {r : Written} {out' : List ℕ} {work' : List ℤ}
     (call : WriteCall order out work r out' work') where
   -- 11 exactly when nothing is feasible.
   pub write-eleven : (refusal_of r).number ≡ 11 ↔ NoneFeasible order out work
   write-eleven =
       (λ e. there (write_verdict order out work) refl (plan_answer (order_of order)) refl (ap number (sym call.answer) ∙ e), back)
     where
-      number : Packed → ℕ
+      number : Written → ℕ
       number a = (refusal_of a).number
 
       -- No answer is no plan, which is no feasible choice.
@@ -136,27 +133,27 @@ module _ (order out : List ℕ) (work : List ℤ) {r : Packed} {out' : List ℕ}
 
   -- With room, an accepted order that has a plan gets its bytes.
   pub plan-gets-bytes : judge (order_checks order) ≡ fine → plan_room ≤ length out → area ≤ length work
-      → (a : Answer) → plan_answer (order_of order) ≡ some a → r ≡ Bytes (plan_bytes a.kept)
+      → (a : Answer) → plan_answer (order_of order) ≡ some a → r ≡ Ok (plan_bytes a.kept)
   plan-gets-bytes accepted room space a is =
-      call.answer ∙ rw ((write-passed order out work).1 (accepted, room, space), is) (ap Bytes (own-length (own-plan order accepted a is)))
+      call.answer ∙ rw ((write-passed order out work).1 (accepted, room, space), is) (ap (λ (k : ℕ). Ok k) (own-length (own-plan order accepted a is)))
 
   -- A refusal writes nothing,
-  pub refused-nothing : (s : Refusal) → r ≡ Refused s → out' ≡ out
+  pub refused-nothing : (s : Refusal) → r ≡ Err s → out' ≡ out
   refused-nothing s e =
       call.written ∙ go (write_verdict order out work) (plan_answer (order_of order)) (sym e ∙ call.answer)
     where
-      go : (v : Verdict) (o : Option Answer) → Refused s ≡ written_by v o → out_by v o out ≡ out
+      go : (v : Verdict) (o : Option Answer) → Err s ≡ written_by v o → out_by v o out ≡ out
       go (refused t) o m = refl
       go fine none m = refl
       go fine (some a) m = let z : ◌≡◌ {A = ℕ} 0 1 = cc in absurd (omega arith)
 
   -- and any other answer is the bytes of the order's plan.
-  pub plan-written : (n : ℕ) → r ≡ Bytes n → PlanWritten order out n out'
+  pub plan-written : (n : ℕ) → r ≡ Ok n → PlanWritten order out n out'
   plan-written n e =
       go (write_verdict order out work) refl (plan_answer (order_of order)) refl (sym e ∙ call.answer)
     where
       go : (v : Verdict) → write_verdict order out work ≡ v → (o : Option Answer) → plan_answer (order_of order) ≡ o
-          → Bytes n ≡ written_by v o → PlanWritten order out n out'
+          → Ok n ≡ written_by v o → PlanWritten order out n out'
       go (refused t) d o is m = let z : ◌≡◌ {A = ℕ} 0 1 = cc in absurd (omega arith)
       go fine d none is m = let z : ◌≡◌ {A = ℕ} 0 1 = cc in absurd (omega arith)
       go fine d (some a) is m =

@@ -1,5 +1,5 @@
 -- Writing stage by stage, as the code goes through its checks: each refusal, and the plan's bytes past all of them.
-use Rattle.std.specs.Prelude.{ℕ, ◌/◌, ◌≤◌, ◌<◌, ◌≡◌, refl, ℤ, drop}
+use Rattle.std.specs.Prelude.{ℕ, ◌/◌, ◌≤◌, ◌<◌, ◌≡◌, refl, ℤ, drop, Ok, Err}
 use Rattle.std.proofs.Math.Path.{sym, ap₂}
 use Rattle.std.proofs.Common.{ap, ◌∙◌, arith}
 use mathlib.Core.List.{List, ◌++◌, append-nil}
@@ -16,37 +16,31 @@ use Rattle.packed.proofs.Accepted.{order-fine}
 use Rattle.packed_plan.specs.Plan.{plan_bytes, pack_plan, starts_kept}
 use Rattle.area.specs.Area.{area}
 use Rattle.filling.specs.After.{work_by}
-use Rattle.judge.specs.Verdicts.{verdict_of}
-use Rattle.judge.specs.Told.{refusal-told, stays, told-next, no_room}
-use Rattle.judge.specs.declared.Verdict.TheVariants.{Refused as Stopped}
-use Rattle.planner.specs.Calls.{plan_checks, plan_verdict, figures_of, planned_by, starts_by, PlanCall}
+use Rattle.judge.specs.Told.{stays, told-next, no_room}
+use Rattle.planner.specs.Calls.{Planned, plan_checks, plan_verdict, figures_of, planned_by, starts_by, PlanCall}
 use Rattle.planner.specs.declared.Figures.{Figures}
-use Rattle.planner.specs.declared.Planned.{Planned}
-use Rattle.planner.specs.declared.Planned.TheVariants as planned
 use Rattle.plan_bytes.specs.Asks.{PlanRoom}
 use Rattle.plan_writer.specs.Asks.{CanWrite}
 use Rattle.plan_writer.specs.Calls.{plan_room, write_checks, write_verdict, bytes_for, written_by, out_by, WriteCall}
 use Rattle.plan_writer.specs.Kept.{kept_append, none-behind}
 use Rattle.plan_writer.specs.OwnPlans.{OwnPlan, own-plan, own-length}
-use Rattle.pack.specs.declared.Packed.TheVariants.{Refused, Bytes}
 
 module _ (order out : List ℕ) (work : List ℤ) where
   -- A refusal changes no buffer.
-  write-refused : {r : Refusal} → write_verdict order out work ≡ refused r → WriteCall order out work (Refused r) out work
+  write-refused : {r : Refusal} → write_verdict order out work ≡ refused r → WriteCall order out work (Err r) out work
   write-refused e = record { answer = rw e; written = rw e; area = rw e }
 
   -- By the order's checks,
-  pub write-stopped : (r : Refusal) → verdict_of (judge (order_checks order)) ≡ Stopped r
-      → WriteCall order out work (Refused r) out work
+  pub write-stopped : {r : Refusal} → judge (order_checks order) ≡ refused r → WriteCall order out work (Err r) out work
   unfolding write_checks
-  write-stopped r e =
+  write-stopped e =
       write-refused
       (stays (order_checks order ++ room_checks plan_room (length out)) (room_checks area (length work))
-      (stays (order_checks order) (room_checks plan_room (length out)) (refusal-told _ r e)))
+      (stays (order_checks order) (room_checks plan_room (length out)) e))
 
   -- or by the room for the longest plan.
   pub write-no-room : judge (order_checks order) ≡ fine → length out < plan_room
-      → WriteCall order out work (Refused (plainly 10)) out work
+      → WriteCall order out work (Err (plainly 10)) out work
   unfolding write_checks
   write-no-room passed h = write-refused (no_room (order_checks order) passed plan_room (length out) area (length work) h)
 
@@ -72,13 +66,13 @@ module _ (order out : List ℕ) (work : List ℤ) where
       area-is = call.area ∙ ap (λ (v : Verdict). work_by v work) (sym verdict-as-plan)
 
       -- Planning's refusal is handed on.
-      pub write-handed-on : (r : Refusal) → p ≡ planned.Refused r → WriteCall order out work (Refused r) out work'
+      pub write-handed-on : (r : Refusal) → p ≡ Err r → WriteCall order out work (Err r) out work'
       write-handed-on r e =
           go (write_verdict order out work) refl (plan_answer (order_of order)) refl
           (sym e ∙ call.answer ∙ ap (λ (v : Verdict). planned_by v (plan_answer (order_of order))) (sym verdict-as-plan))
         where
           go : (v : Verdict) → write_verdict order out work ≡ v → (o : Option Answer) → plan_answer (order_of order) ≡ o
-              → planned.Refused r ≡ planned_by v o → WriteCall order out work (Refused r) out work'
+              → Err r ≡ planned_by v o → WriteCall order out work (Err r) out work'
           go (refused s) d o is m =
               let same : r ≡ s = cc in
               record { answer = rw (d, same); written = rw d; area = area-is }
@@ -95,11 +89,11 @@ module _ (order out : List ℕ) (work : List ℤ) where
         mask : f.mask ≡ answer.mask
         kept : starts_kept starts' ≡ starts_kept answer.starts
 
-      own : (f : Figures) → p ≡ planned.Made f → Own f
+      own : (f : Figures) → p ≡ Ok f → Own f
       own f e = go (plan_verdict order starts work) refl (plan_answer (order_of order)) refl (sym e ∙ call.answer)
         where
           go : (v : Verdict) → plan_verdict order starts work ≡ v → (o : Option Answer) → plan_answer (order_of order) ≡ o
-              → planned.Made f ≡ planned_by v o → Own f
+              → Ok f ≡ planned_by v o → Own f
           go (refused s) d o is m = let z : ◌≡◌ {A = ℕ} 0 1 = cc in absurd (omega arith)
           go fine d none is m = let z : ◌≡◌ {A = ℕ} 0 1 = cc in absurd (omega arith)
           go fine d (some a) is m =
@@ -116,7 +110,7 @@ module _ (order out : List ℕ) (work : List ℤ) where
                     ∙ append-nil (starts_kept a.starts);
               }
 
-      module _ (f : Figures) (e : p ≡ planned.Made f) where
+      module _ (f : Figures) (e : p ≡ Ok f) where
         made : Own f
         made = own f e
 
@@ -144,10 +138,10 @@ module _ (order out : List ℕ) (work : List ℤ) where
 
         pub write_done : (n : ℕ) (out' : List ℕ) → n ≡ plan_bytes (length (starts_kept starts'))
             → out' ≡ pack_plan (f.mask / 65536) (starts_kept starts') ++ drop (plan_bytes (length (starts_kept starts'))) out
-            → WriteCall order out work (Bytes n) out' work'
+            → WriteCall order out work (Ok n) out' work'
         write_done n out' counts writes =
             record {
-              answer = ap Bytes (counts ∙ long) ∙ sym (ap₂ written_by made.passed made.is);
+              answer = ap (λ (k : ℕ). Ok k) (counts ∙ long) ∙ sym (ap₂ written_by made.passed made.is);
               written = writes ∙ ap₂ (λ (b : List ℕ) (l : ℕ). b ++ drop l out) bytes-are long
                   ∙ sym (ap₂ (λ (v : Verdict) (o : Option Answer). out_by v o out) made.passed made.is);
               area = area-is;

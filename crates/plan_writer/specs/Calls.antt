@@ -1,17 +1,16 @@
 -- Writing an order's own plan in packed bytes, as a call: its checks, its answer, and every lent buffer at exit, for every input.
 -- Definitions only.
-use Rattle.std.specs.Prelude.{ℕ, ◌/◌, ◌^◌, ◌≡◌, List, ◌++◌, ℤ, length, drop}
+use Rattle.std.specs.Prelude.{ℕ, ◌/◌, ◌^◌, ◌≡◌, List, ◌++◌, ℤ, length, drop, Result, Ok, Err}
 use Rattle.std.proofs.Math.Option.{Option, none, some}
 use Rattle.seconds.specs.Limits.{most_jobs}
 use Rattle.plan.specs.Plan.{Answer, plan_answer}
+use Rattle.packed.specs.declared.Refusal.{Refusal}
 use Rattle.packed.specs.Judge.{plainly, Check, Verdict, fine, refused, judge}
 use Rattle.packed.specs.Packed.{order_of}
 use Rattle.packed.specs.Refusals.{room_checks, order_checks}
 use Rattle.packed_plan.specs.Plan.{plan_bytes, pack_plan, starts_kept}
 use Rattle.area.specs.Area.{area}
 use Rattle.filling.specs.After.{work_by}
-use Rattle.pack.specs.declared.Packed.{Packed}
-use Rattle.pack.specs.declared.Packed.TheVariants.{Refused, Bytes}
 
 -- The bytes of the longest plan, of 48 starts.
 abbrev pub plan_room : ℕ
@@ -29,11 +28,15 @@ write_verdict order out work = judge (write_checks order out work)
 unfoldable pub bytes_for : Answer → List ℕ
 bytes_for a = pack_plan (a.mask / 2 ^ 16) (starts_kept a.starts)
 
--- The answer by the verdict and the plan, as packing answers: the bytes written; with no feasible choice it is 11.
-abbrev pub written_by : Verdict → Option Answer → Packed
-written_by (refused r) plan = Refused r
-written_by fine none = Refused (plainly 11)
-written_by fine (some a) = Bytes (length (bytes_for a))
+-- What writing answers, as packing does: a refusal, or how many bytes were written.
+abbrev pub Written : Type 0
+Written = Result ℕ Refusal
+
+-- The answer by the verdict and the plan; with no feasible choice it is 11.
+abbrev pub written_by : Verdict → Option Answer → Written
+written_by (refused r) plan = Err r
+written_by fine none = Err (plainly 11)
+written_by fine (some a) = Ok (length (bytes_for a))
 
 -- The bytes at exit: written over the front where there is a plan.
 abbrev pub out_by : Verdict → Option Answer → List ℕ → List ℕ
@@ -42,7 +45,7 @@ out_by fine none out = out
 out_by fine (some a) out = bytes_for a ++ drop (length (bytes_for a)) out
 
 -- All three of any bytes and buffers.
-abbrev pub written_of : List ℕ → List ℕ → List ℤ → Packed
+abbrev pub written_of : List ℕ → List ℕ → List ℤ → Written
 written_of order out work = written_by (write_verdict order out work) (plan_answer (order_of order))
 
 abbrev pub out_after : List ℕ → List ℕ → List ℤ → List ℕ
@@ -52,7 +55,7 @@ abbrev pub write_work_after : List ℕ → List ℕ → List ℤ → List ℤ
 write_work_after order out work = work_by (write_verdict order out work) work
 
 -- A call of the writer.
-pub record WriteCall (order out : List ℕ) (work : List ℤ) (r : Packed) (out' : List ℕ) (work' : List ℤ) : Type 0 where
+pub record WriteCall (order out : List ℕ) (work : List ℤ) (r : Written) (out' : List ℕ) (work' : List ℤ) : Type 0 where
   pub answer : r ≡ written_of order out work
   pub written : out' ≡ out_after order out work
   pub area : work' ≡ write_work_after order out work

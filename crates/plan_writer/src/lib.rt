@@ -8,11 +8,11 @@ ghost use Rattle.packed.specs.Refusals.{order_checks};
 ghost use Rattle.plan_writer.specs.Calls.{WriteCall};
 ghost use Rattle.plan_writer.specs.Asks.{NoStarts, CanWrite};
 
-use judge::{Verdict, judge_order};
-use pack::Packed;
-use packed::plainly;
+use judge::{MOST_JOBS, judge_order};
+use packed::Refusal;
 use plan_bytes::put_plan;
-use planner::{Planned, plan_order};
+use planner::plan_order;
+use refusals::Reason;
 use starting::LEFT_OUT;
 
 // The bytes of the longest plan.
@@ -22,41 +22,42 @@ pub const PLAN_ROOM: usize = 114;
 const LOWEST: u64 = 0x1_0000;
 
 // A place for each start, all of them left out.
-fn no_starts() -> [i32; 48]
+fn no_starts() -> [i32; MOST_JOBS]
     ensures { NoStarts result }
 {
-    [LEFT_OUT; 48]
+    [LEFT_OUT; MOST_JOBS]
 }
 
 // The plan of an order that has passed its checks, its starts over places that are left out, and its bytes where there is room.
-fn write_over(order: &[u8], out: &mut [u8], starts: &mut [i32], work: &mut [i32]) -> Packed
+fn write_over(
+    order: &[u8],
+    out: &mut [u8],
+    starts: &mut [i32],
+    work: &mut [i32],
+) -> Result<usize, Refusal>
     requires { CanWrite order.now out.old starts.old }
     ensures { WriteCall order.now out.old work.old result out.new work.new }
 {
-    match plan_order(order, starts, work) {
-        Planned::Refused(refusal) => Packed::Refused(refusal),
-        Planned::Made(figures) => Packed::Bytes(put_plan(out, figures.mask / LOWEST, starts)),
-    }
+    let figures = plan_order(order, starts, work)?;
+    Ok(put_plan(out, figures.mask / LOWEST, starts))
 }
 
 // The same, with the room judged.
-fn write_order(order: &[u8], out: &mut [u8], work: &mut [i32]) -> Packed
+fn write_order(order: &[u8], out: &mut [u8], work: &mut [i32]) -> Result<usize, Refusal>
     requires { judge (order_checks order.now) ≡ fine }
     ensures { WriteCall order.now out.old work.old result out.new work.new }
 {
     if out.len() < PLAN_ROOM {
-        return Packed::Refused(plainly(10));
+        return Err(Reason::BufferTooShort.into());
     }
     let mut starts = no_starts();
     write_over(order, out, &mut starts, work)
 }
 
-// The plan of a packed order, written as a packed plan over the front of `out`.
-pub fn write_plan(order: &[u8], out: &mut [u8], work: &mut [i32]) -> Packed
+// The plan of a packed order, written as a packed plan over the front of `out`. Tells how many bytes.
+pub fn write_plan(order: &[u8], out: &mut [u8], work: &mut [i32]) -> Result<usize, Refusal>
     ensures { WriteCall order.now out.old work.old result out.new work.new }
 {
-    match judge_order(order, 0) {
-        Verdict::Refused(refusal) => Packed::Refused(refusal),
-        Verdict::Fine => write_order(order, out, work),
-    }
+    judge_order(order, 0)?;
+    write_order(order, out, work)
 }

@@ -3,8 +3,7 @@ use mathlib.Core.List.{List}
 use contract.Lifetimes.{Lfts}
 use lib.IntN.{ℤ}
 use Rattle.seconds.specs.Determined.{Determines, determined, three}
-use Rattle.planner.specs.Calls.{planned_of, starts_after, plan_work_after}
-use Rattle.planner.specs.declared.Planned.{Planned}
+use Rattle.planner.specs.Calls.{Planned, planned_of, starts_after, plan_work_after}
 use Rattle.planner.proofs.plan.Reads as plan
 
 pub plan-determined : (κs : Lfts 3)

@@ -7,16 +7,15 @@ use mathlib.Core.List.{List}
 use contract.Lifetimes.{Lfts}
 use denote.Triple.Clauses.{AtExit}
 use denote.Triple.Entry.{Args}
+use Rattle.std.proofs.Common.{Ok}
 use Rattle.plan.specs.Plan.{plan_answer}
 use Rattle.packed.specs.Judge.{in_field, Verdict, fine, judge}
 use Rattle.packed.specs.Packed.{numbers_of, order_of}
 use Rattle.packed.specs.Refusals.{header_checks}
 use Rattle.packed.proofs.RefusalPlaces.{BadField, RefusalIs}
-use Rattle.planner.specs.Calls.{plan_verdict, planned_by, planned_of, plan_numbers}
+use Rattle.planner.specs.Calls.{Planned, plan_verdict, planned_by, planned_of, plan_numbers}
 use Rattle.planner.specs.Answers.{plan-passed, plan-refusal, plan-six, NoneFeasible, plan-eleven, Fitting, plan-fits}
 use Rattle.planner.specs.declared.Figures.{Figures}
-use Rattle.planner.specs.declared.Planned.{Planned}
-use Rattle.planner.specs.declared.Planned.TheVariants.{Made}
 use Rattle.planner.proofs.Planning.{Planning}
 use Rattle.planner.specs.contracts.plan as plan
 use Rattle.planner.proofs.plan.Reads as reads
@@ -32,7 +31,7 @@ module _ (κs : Lfts 3) (a : Args plan.signature κs) (r : Planned) (x : AtExit 
   pub outcome-eleven : (plan_numbers r).refusal.number ≡ 11 ↔ NoneFeasible a.0.now a.1.0.now a.1.1.0.now
   outcome-eleven = plan-eleven a.0.now a.1.0.now a.1.1.0.now h
 
-  pub outcome_fits : (f : Figures) → r ≡ Made f → Fitting a.0.now f
+  pub outcome_fits : (f : Figures) → r ≡ Ok f → Fitting a.0.now f
   outcome_fits = plan-fits a.0.now a.1.0.now a.1.1.0.now h
 
 -- Past the checks the answer is the order's plan, or 11 where it has none.

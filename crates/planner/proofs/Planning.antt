@@ -11,7 +11,7 @@ use Rattle.packed.specs.Judge.{fine, judge}
 use Rattle.packed.specs.Packed.{count_of}
 use Rattle.packed.specs.Refusals.{order_checks}
 use Rattle.area.specs.Area.{area}
-use Rattle.planner.specs.declared.Planned.{Planned}
+use Rattle.planner.specs.Calls.{Planned}
 use Rattle.planner.specs.contracts.plan as plan
 use Rattle.planner.proofs.plan.Reads as plan-reads
 

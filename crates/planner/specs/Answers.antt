@@ -1,6 +1,6 @@
 -- What the answers of planning say (R8, R26): their numbers, what refusals name, when 6 and 11 are given, and how the figures of
 -- a plan fit together and with the list of jobs kept.
-use Rattle.std.specs.Prelude.{ℕ, ◌+◌, ◌≤◌, ◌≡◌, false, ◌↔◌, ◌≢◌, List, ◌++◌, ℤ, pos, length}
+use Rattle.std.specs.Prelude.{ℕ, ◌+◌, ◌≤◌, ◌≡◌, false, ◌↔◌, ◌≢◌, List, ◌++◌, ℤ, pos, length, Ok}
 use Rattle.std.proofs.Math.Path.{refl, sym}
 use Rattle.std.proofs.Common.{ap, ◌∙◌, arith}
 use Rattle.std.proofs.Math.Logic.Iff
@@ -26,11 +26,9 @@ use Rattle.area.specs.Area.{area}
 use Rattle.judge.specs.Told.{Named, named-rooms, named-order, six-rooms}
 use Rattle.starting.specs.Picks.{jobs_kept}
 use Rattle.starting.specs.PicksLaws.{kept-list}
-use Rattle.planner.specs.Calls.{plan_checks, plan_verdict, figures_of, planned_by, planned_of, PlanCall}
+use Rattle.planner.specs.Calls.{Planned, plan_checks, plan_verdict, figures_of, planned_by, planned_of, PlanCall}
 use Rattle.planner.specs.Calls.{PlanNumbers, plan_numbers}
 use Rattle.planner.specs.declared.Figures.{Figures}
-use Rattle.planner.specs.declared.Planned.{Planned}
-use Rattle.planner.specs.declared.Planned.TheVariants.{Made}
 
 -- ---- the answer in numbers
 
@@ -218,12 +216,12 @@ answer-fits bytes a accepted is =
 
 -- and so has every outcome that the contract allows in which a plan is made.
 pub plan-fits : (bytes : List ℕ) (starts work : List ℤ) {r : Planned} {starts' work' : List ℤ}
-    → PlanCall bytes starts work r starts' work' → (f : Figures) → r ≡ Made f → Fitting bytes f
+    → PlanCall bytes starts work r starts' work' → (f : Figures) → r ≡ Ok f → Fitting bytes f
 plan-fits bytes starts work call f m =
     go (plan_verdict bytes starts work) refl (plan_answer (order_of bytes)) refl (sym call.answer ∙ m)
   where
     go : (v : Verdict) → plan_verdict bytes starts work ≡ v → (o : Option Answer) → plan_answer (order_of bytes) ≡ o
-        → planned_by v o ≡ Made f → Fitting bytes f
+        → planned_by v o ≡ Ok f → Fitting bytes f
     go fine v (some a) is m =
         let same : figures_of a ≡ f = cc in
         rw (← same) (answer-fits bytes a ((plan-passed bytes starts work).0 v).0 is)

@@ -1,5 +1,5 @@
 -- Planning stage by stage, as the code goes through its checks: each refusal, and what is left when all are passed.
-use Rattle.std.specs.Prelude.{ℕ, ◌≤◌, ◌<◌, ◌≡◌, List, ◌++◌, ℤ, length, drop}
+use Rattle.std.specs.Prelude.{ℕ, ◌≤◌, ◌<◌, ◌≡◌, List, ◌++◌, ℤ, length, drop, Err}
 use Rattle.std.proofs.Common.{◌∙◌}
 use Rattle.packed.specs.declared.Refusal.{Refusal}
 use Rattle.packed.specs.Judge.{plainly, fine, refused, judge}
@@ -7,37 +7,32 @@ use Rattle.packed.specs.Packed.{count_of}
 use Rattle.packed.specs.Refusals.{room_checks, order_checks}
 use Rattle.area.specs.Area.{area, cleared}
 use Rattle.area.specs.Clearing.{cleared-same}
-use Rattle.judge.specs.Verdicts.{verdict_of}
-use Rattle.judge.specs.Told.{refusal-told, stays, no_room, no-space, all-fine}
-use Rattle.judge.specs.declared.Verdict.TheVariants.{Refused as Stopped}
-use Rattle.planner.specs.Calls.{plan_checks, plan_verdict, PlanCall}
+use Rattle.judge.specs.Told.{stays, no_room, no-space, all-fine}
+use Rattle.planner.specs.Calls.{Planned, plan_checks, plan_verdict, PlanCall}
 use Rattle.planner.specs.Planning.{MadeIn}
-use Rattle.planner.specs.declared.Planned.{Planned}
-use Rattle.planner.specs.declared.Planned.TheVariants.{Refused}
 
 module _ (bytes : List ℕ) (starts work : List ℤ) where
   -- A refusal changes no buffer.
-  plan-refused : {r : Refusal} → plan_verdict bytes starts work ≡ refused r → PlanCall bytes starts work (Refused r) starts work
+  plan-refused : {r : Refusal} → plan_verdict bytes starts work ≡ refused r → PlanCall bytes starts work (Err r) starts work
   plan-refused e = record { answer = rw e; written = rw e; area = rw e }
 
   -- By the order's checks,
-  pub plan-stopped : (r : Refusal) → verdict_of (judge (order_checks bytes)) ≡ Stopped r
-      → PlanCall bytes starts work (Refused r) starts work
+  pub plan-stopped : {r : Refusal} → judge (order_checks bytes) ≡ refused r → PlanCall bytes starts work (Err r) starts work
   unfolding plan_checks
-  plan-stopped r e =
+  plan-stopped e =
       plan-refused
       (stays (order_checks bytes ++ room_checks (count_of bytes) (length starts)) (room_checks area (length work))
-      (stays (order_checks bytes) (room_checks (count_of bytes) (length starts)) (refusal-told _ r e)))
+      (stays (order_checks bytes) (room_checks (count_of bytes) (length starts)) e))
 
   module _ (passed : judge (order_checks bytes) ≡ fine) where
     -- by the room for the starts,
-    pub plan-no-room : length starts < count_of bytes → PlanCall bytes starts work (Refused (plainly 10)) starts work
+    pub plan-no-room : length starts < count_of bytes → PlanCall bytes starts work (Err (plainly 10)) starts work
     unfolding plan_checks
     plan-no-room h = plan-refused (no_room (order_checks bytes) passed (count_of bytes) (length starts) area (length work) h)
 
     module _ (places : count_of bytes ≤ length starts) where
       -- or by the work area.
-      pub plan-no-space : length work < area → PlanCall bytes starts work (Refused (plainly 10)) starts work
+      pub plan-no-space : length work < area → PlanCall bytes starts work (Err (plainly 10)) starts work
       unfolding plan_checks
       plan-no-space h =
           plan-refused (no-space (order_checks bytes) passed (count_of bytes) (length starts) area (length work) places h)

@@ -1,5 +1,5 @@
 -- Planning as a call: the checks, the answer, and every lent buffer at exit, for every input. Definitions only.
-use Rattle.std.specs.Prelude.{ℕ, ◌+◌, ◌*◌, ◌≡◌, List, ◌++◌, ℤ, pos, length}
+use Rattle.std.specs.Prelude.{ℕ, ◌+◌, ◌*◌, ◌≡◌, List, ◌++◌, ℤ, pos, length, Result, Ok, Err}
 use Rattle.std.proofs.Math.Option.{Option, none, some}
 use Rattle.seconds.specs.Limits.{most_jobs}
 use Rattle.plan.specs.Plan.{Answer, plan_answer}
@@ -12,8 +12,6 @@ use Rattle.profiles.specs.Numbers.{written_over}
 use Rattle.area.specs.Area.{area}
 use Rattle.filling.specs.After.{work_by}
 use Rattle.planner.specs.declared.Figures.{Figures}
-use Rattle.planner.specs.declared.Planned.{Planned}
-use Rattle.planner.specs.declared.Planned.TheVariants.{Refused, Made}
 
 -- 1 to 7 and 9 of the order, then room for a start of each job, then room for the work area.
 unfoldable pub plan_checks : List ℕ → List ℤ → List ℤ → List Check
@@ -40,11 +38,15 @@ figures_of a =
 unfoldable pub longest_order : ℕ
 longest_order = header_bytes + record_bytes 1 * most_jobs
 
+-- What planning answers: a refusal, or a plan.
+abbrev pub Planned : Type 0
+Planned = Result Figures Refusal
+
 -- The answer by the verdict and the plan; with no feasible choice it is 11.
 abbrev pub planned_by : Verdict → Option Answer → Planned
-planned_by (refused r) plan = Refused r
-planned_by fine none = Refused (plainly 11)
-planned_by fine (some a) = Made (figures_of a)
+planned_by (refused r) plan = Err r
+planned_by fine none = Err (plainly 11)
+planned_by fine (some a) = Ok (figures_of a)
 
 -- The starts at exit: written over the front where there is a plan.
 abbrev pub starts_by : Verdict → Option Answer → List ℤ → List ℤ
@@ -82,9 +84,9 @@ pub record PlanNumbers : Type 0 where
   pub points : ℕ
 
 abbrev pub plan_numbers : Planned → PlanNumbers
-plan_numbers (Refused r) =
+plan_numbers (Err r) =
     record { refusal = r; mask = 0; kept = 0; kept_weight = 0; lost_weight = 0; finish = pos 0; points = 0 }
-plan_numbers (Made f) =
+plan_numbers (Ok f) =
     record {
       refusal = no_refusal;
       mask = f.mask;

@@ -16,8 +16,7 @@ use Rattle.codes.specs.declared.Prefix.{Prefix}
 use Rattle.filling.specs.declared.Totals.{Totals}
 use Rattle.filling.specs.Lists.{noted}
 use Rattle.walking.specs.declared.End.{End}
-use Rattle.planner.specs.Calls.{planned_by, starts_by}
-use Rattle.planner.specs.declared.Planned.{Planned}
+use Rattle.planner.specs.Calls.{Planned, planned_by, starts_by}
 
 -- The order is accepted, its header read, and there is room for a start of each job and for the lists.
 pub record CanPlan (bytes : List ℕ) (header : Header) (starts work : List ℤ) : Type 0 where

@@ -1,6 +1,6 @@
 -- The laws of planning by lists: the last point of the last list is the plan's end, and from there come the mask, the starts
 -- and the figures.
-use Rattle.std.specs.Prelude.{ℕ, zero, suc, ◌+◌, ◌*◌, ◌-◌, ◌≤◌, ◌≡◌, refl, ℤ, length, take, ◌≤ℤ◌}
+use Rattle.std.specs.Prelude.{ℕ, zero, suc, ◌+◌, ◌*◌, ◌-◌, ◌≤◌, ◌≡◌, refl, ℤ, length, take, ◌≤ℤ◌, Ok, Err}
 use Rattle.std.proofs.Math.Path.{sym, ap}
 use Rattle.std.proofs.Common.{ap₂, ◌∙◌, subst, arith}
 use mathlib.Core.List.{List, [], ◌∷◌, Memᴰ as In}
@@ -36,7 +36,6 @@ use Rattle.walking.specs.Trail.{Walks, walk_mask}
 use Rattle.starting.specs.Picks.{picks_of, WritesStarts, starts_written}
 use Rattle.planner.specs.Planning.{CanPlan, CanPlanOver, CanMake, MadeIn}
 use Rattle.planner.specs.PlanMask.{plan-mask, plan-kept, plan-walks, plan-writes, plan-starts}
-use Rattle.planner.specs.declared.Planned.TheVariants.{Refused, Made}
 
 -- ---- an accepted order
 
@@ -98,7 +97,7 @@ module _ {bytes : List ℕ} {header : Header} {m : ℕ} {totals : Totals} {end :
   pub plan-made : (kept : ℕ) (written : List ℤ) → kept ≡ number_kept (picks_of 64 m)
       → written ≡ starts_written bytes header.count header.t0 m old
       → MadeIn bytes old
-      (Made (record {
+      (Ok (record {
         mask = m;
         kept = kept;
         kept_weight = end.weight;
@@ -196,7 +195,7 @@ module _ {bytes : List ℕ} {header : Header} {old work : List ℤ} {notes : Lis
 
         -- With none there is no feasible choice,
         pub nothing-made : Nothing ≡ found (lookup (points_at filled (noted notes' n)) latest_free)
-            → MadeIn bytes old (Refused (plainly 11)) old
+            → MadeIn bytes old (Err (plainly 11)) old
         unfolding order_of
         nothing-made e =
             let no_end = sym end-found ∙ found_nothing _ (sym e) in

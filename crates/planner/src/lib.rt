@@ -1,7 +1,7 @@
 // The call that plans: the plan of a packed order. Any bytes and buffers have an answer. Assumes nothing.
 #![tactic(auto)]
 
-ghost use Rattle.std.specs.Prelude.{◌≡◌};
+ghost use Rattle.std.specs.Prelude.{◌≡◌, Ok};
 ghost use Rattle.packed.specs.Judge.{fine, judge};
 ghost use Rattle.packed.specs.Refusals.{order_checks};
 ghost use Rattle.planner.specs.Calls.{PlanCall};
@@ -11,12 +11,13 @@ use area::{AREA, clear};
 use codes::Prefix;
 use fields::{Header, header_at};
 use filling::{Totals, fill_lists, notes, start_at};
-use judge::{Verdict, judge_order};
-use packed::{Refusal, plainly};
+use judge::judge_order;
+use packed::Refusal;
 use profiles::LATEST;
 use reading::{Found, last_by};
+use refusals::Reason;
 use starting::{kept_of, write_starts};
-use walking::{End, walk};
+use walking::walk;
 
 // A plan's numbers: the mask of the jobs kept, how many they are, the weight kept and the weight lost,
 // when the bus is free after it, and the points of the profiles on the way.
@@ -30,36 +31,27 @@ pub struct Figures {
     pub points: u32,
 }
 
-// What planning answers: a refusal, or a plan.
-#[derive(Clone, Copy)]
-pub enum Planned {
-    Refused(Refusal),
-    Made(Figures),
-}
-
 // The plan of a mask: its starts are written, and its figures told by its end and by the points and the weight of all jobs.
 fn make_plan(
     bytes: &[u8],
     header: Header,
     mask: u64,
     totals: Totals,
-    end: End,
+    end: Found,
     starts: &mut [i32],
-) -> Planned
+) -> Figures
     requires { CanMake bytes.now header mask totals end starts.old }
-    ensures { MadeIn bytes.now starts.old result starts.new }
+    ensures { MadeIn bytes.now starts.old (Ok result) starts.new }
 {
-    let total = totals.weight;
-    let weight = end.weight;
     write_starts(bytes, header.count, header.t0, mask, starts);
-    Planned::Made(Figures {
-        mask: mask,
+    Figures {
+        mask,
         kept: kept_of(mask),
-        kept_weight: weight as u32,
-        lost_weight: (total - weight) as u32,
-        finish: end.finish,
+        kept_weight: end.weight as u32,
+        lost_weight: (totals.weight - end.weight) as u32,
+        finish: end.time,
         points: totals.points as u32,
-    })
+    }
 }
 
 // The plan by the lists of all jobs: it ends at the last point of the last list, and the walk back from there gives its mask.
@@ -70,29 +62,29 @@ fn plan_by_lists(
     starts: &mut [i32],
     work: &mut [i32],
     notes: &mut [Prefix],
-) -> Planned
+) -> Result<Figures, Refusal>
     requires { CanPlanOver bytes.now header starts.old work.old notes.old }
     ensures { MadeIn bytes.now starts.old result starts.new }
 {
     let n = header.count;
     start_at(work, header.t0);
     let totals = fill_lists(work, bytes, n, notes);
-    let last = notes[n];
-    match last_by(work, last.place, last.count, LATEST) {
-        Found::Nothing => Planned::Refused(plainly(11)),
-        Found::At(weight, finish) => {
-            let end = End {
-                weight: weight,
-                finish: finish,
-            };
+    match last_by(work, notes[n], LATEST) {
+        None => Err(Reason::NoFeasibleChoice.into()),
+        Some(end) => {
             let mask = walk(work, bytes, n, notes, end);
-            make_plan(bytes, header, mask, totals, end, starts)
+            Ok(make_plan(bytes, header, mask, totals, end, starts))
         }
     }
 }
 
 // The same with notes for the lists, the first of which has one point at the front.
-fn plan_within(bytes: &[u8], header: Header, starts: &mut [i32], work: &mut [i32]) -> Planned
+fn plan_within(
+    bytes: &[u8],
+    header: Header,
+    starts: &mut [i32],
+    work: &mut [i32],
+) -> Result<Figures, Refusal>
     requires { CanPlan bytes.now header starts.old work.old }
     ensures { MadeIn bytes.now starts.old result starts.new }
 {
@@ -101,17 +93,16 @@ fn plan_within(bytes: &[u8], header: Header, starts: &mut [i32], work: &mut [i32
 }
 
 // Planning an order that has passed its checks: the room is judged, and the work area is cleared behind.
-pub fn plan_order(bytes: &[u8], starts: &mut [i32], work: &mut [i32]) -> Planned
+pub fn plan_order(bytes: &[u8], starts: &mut [i32], work: &mut [i32]) -> Result<Figures, Refusal>
     requires { judge (order_checks bytes.now) ≡ fine }
     ensures { PlanCall bytes.now starts.old work.old result starts.new work.new }
 {
     let header = header_at(bytes);
-    let n = header.count;
-    if starts.len() < n {
-        return Planned::Refused(plainly(10));
+    if starts.len() < header.count {
+        return Err(Reason::BufferTooShort.into());
     }
     if work.len() < AREA {
-        return Planned::Refused(plainly(10));
+        return Err(Reason::BufferTooShort.into());
     }
     let answer = plan_within(bytes, header, starts, &mut work[..AREA]);
     clear(work);
@@ -119,11 +110,9 @@ pub fn plan_order(bytes: &[u8], starts: &mut [i32], work: &mut [i32]) -> Planned
 }
 
 // The plan of a packed order; the starts are written in place order to the front of `starts`.
-pub fn plan(bytes: &[u8], starts: &mut [i32], work: &mut [i32]) -> Planned
+pub fn plan(bytes: &[u8], starts: &mut [i32], work: &mut [i32]) -> Result<Figures, Refusal>
     ensures { PlanCall bytes.now starts.old work.old result starts.new work.new }
 {
-    match judge_order(bytes, 0) {
-        Verdict::Refused(refusal) => Planned::Refused(refusal),
-        Verdict::Fine => plan_order(bytes, starts, work),
-    }
+    judge_order(bytes, 0)?;
+    plan_order(bytes, starts, work)
 }

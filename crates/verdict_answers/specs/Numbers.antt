@@ -1,6 +1,5 @@
 -- For each answer of checking the struct that says it: the refusal's numbers, and 1 for yes. Definitions only.
-use Rattle.checking.specs.Calls.{checked_numbers}
-use Rattle.checking.specs.declared.Checked.{Checked}
+use Rattle.checking.specs.Calls.{Checked, checked_numbers}
 use Rattle.verdict_answers.specs.declared.VerdictAnswer.{VerdictAnswer}
 
 abbrev pub verdict_numbers : Checked → VerdictAnswer

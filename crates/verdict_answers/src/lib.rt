@@ -4,7 +4,7 @@
 ghost use Rattle.std.specs.Prelude.{◌≡◌};
 ghost use Rattle.verdict_answers.specs.Numbers.{verdict_numbers};
 
-use checking::Checked;
+use packed::Refusal;
 
 // Checking: whether the plan is what was asked (1 or 0).
 #[repr(C)]
@@ -17,21 +17,21 @@ pub struct VerdictAnswer {
 }
 
 // The answer of checking.
-pub fn verdict_answer(checked: Checked) -> VerdictAnswer
+pub fn verdict_answer(checked: Result<bool, Refusal>) -> VerdictAnswer
     ensures { result ≡ verdict_numbers checked }
 {
     match checked {
-        Checked::Refused(refusal) => VerdictAnswer {
-            refusal: refusal.number,
-            place: refusal.place,
-            field: refusal.field,
-            yes: 0,
-        },
-        Checked::Answered(holds) => VerdictAnswer {
+        Ok(holds) => VerdictAnswer {
             refusal: 0,
             place: 0,
             field: 0,
             yes: holds as u32,
+        },
+        Err(refusal) => VerdictAnswer {
+            refusal: refusal.number(),
+            place: refusal.place(),
+            field: refusal.figure(),
+            yes: 0,
         },
     }
 }

@@ -1,6 +1,5 @@
 -- `checking::all_turns` meets its contract. The loop's invariant: the answer is the answer from the next job on.
 -- Assumes nothing.
-use Prim.Native.Nat.{◌-◌}
 use Rattle.packed.specs.Packed.{jobs_in}
 use Rattle.checking.specs.TurnLaws.{Judging}
 use Rattle.checking.proofs.all_turns.Given as goal
@@ -8,6 +7,3 @@ use Rattle.checking.proofs.all_turns.Given as goal
 abbrev pub invariant-loop-place : goal.invariant-loop-place
 invariant-loop-place l =
     Judging (jobs_in l.order) l.n l.t0 l.mask l.plan l.free l.left l.k l.place
-
-abbrev pub decreases-loop-place : goal.decreases-loop-place
-decreases-loop-place l = l.n - l.place

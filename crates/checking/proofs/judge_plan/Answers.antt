@@ -1,8 +1,7 @@
 -- `checking::judge_plan` meets its contract: the tests are those of the checks, one after the other.
 -- Assumes nothing.
-use Prim.Native.Nat.{ℕ, ◌-◌, ◌%◌, ◌^◌, ◌≤◌}
+use Prim.Native.Nat.{◌-◌, ◌%◌, ◌^◌, ◌≤◌}
 use mathlib.Core.Path.{◌≡◌, sym, ap, ap₂, ◌∙◌}
-use mathlib.Core.List.{List}
 use native.Mathlib.Omega.{arith}
 use lib.Count.{ones}
 use lib.Dec.{eqb}
@@ -10,107 +9,86 @@ use lib.ListN.{length, get_or}
 use lib.Pow.{pow_pos}
 use borrow.Author.Tests.{eqb-true, eqb-false}
 use Rattle.packed.proofs.LayoutLaws.{AreBytes}
-use Rattle.judge.specs.Verdicts.{verdict_of}
 use Rattle.packed_plan.specs.Plan.{plan_bytes, pad_bits, mask_in, count_in, pad_in}
 use Rattle.checking.specs.Marks.{count_small}
 use Rattle.checking.specs.Judged.{too_short, other_length, bits-beyond, pad-is, bits-at-end, all-passed}
 use Rattle.checking.proofs.judge_plan.Goals as goal
-use Rattle.checking.proofs.judge_plan.Goals.{After-last_bit, After-mask_of-mask, After-padding_clear, After-plan_bytes, Start}
+use Rattle.checking.proofs.judge_plan.Goals.{After-last_bit, After-mask_of-mask, After-padding_clear, After-plan_bytes}
 
 pub returns-then-plan-lt-MASK_BYTES : goal.returns-then-plan-lt-MASK_BYTES
-returns-then-plan-lt-MASK_BYTES c =
-    let t = c.before in
-    let a = t.args in
-    rw c.plainly.ensures (sym (ap verdict_of (too_short a.n a.plan.now t.if-plan-lt-MASK_BYTES.true)))
+returns-then-plan-lt-MASK_BYTES c = rw c.into.ensures (sym (too_short c.args.n c.args.plan.now c.if-plan-lt-MASK_BYTES.true))
 
 -- Past the first test, the mask has been read.
 module _ (c : After-mask_of-mask) where
-  abbrev plan : List ℕ
-  plan =
-      let s : Start = (goal.at.After-mask_of-mask c).Start in
-      s.args.plan.now
+  bytes : AreBytes c.args.plan.now
+  bytes i = (c.type_inv.plan i).fits
 
-  abbrev n : ℕ
-  n =
-      let s : Start = (goal.at.After-mask_of-mask c).Start in
-      s.args.n
-
-  bytes : AreBytes plan
-  bytes i = (c.shared_slice_known-1.given i).fits
-
-  counted : ones c.mask_of-mask.result ≡ count_in plan
+  counted : ones c.mask_of-mask.result ≡ count_in c.args.plan.now
   unfolding count_in
   counted = ap ones c.mask_of-mask.ensures
 
   few : ones c.mask_of-mask.result ≤ 48
-  few = rw counted (count_small plan bytes)
+  few = rw counted (count_small c.args.plan.now bytes)
 
 pub overflow_cast-starts : goal.overflow_cast-starts
-overflow_cast-starts c = omega (arith, few c)
+overflow_cast-starts c = omega (arith, few (goal.at.overflow_cast-starts c).After-mask_of-mask)
 
 pub plan_bytes-requires : goal.plan_bytes-requires
-plan_bytes-requires c = few c
+plan_bytes-requires c = few (goal.at.plan_bytes-requires c).After-mask_of-mask
 
 -- The length that the mask asks for.
-asked : (c : After-plan_bytes) → c.plan_bytes.result ≡ plan_bytes (count_in (plan (goal.at.After-plan_bytes c).After-mask_of-mask))
+asked : (c : After-plan_bytes) → c.plan_bytes.result ≡ plan_bytes (count_in c.args.plan.now)
 asked c = c.plan_bytes.ensures ∙ ap plan_bytes (counted (goal.at.After-plan_bytes c).After-mask_of-mask)
 
 pub returns-then-plan-plan_bytes : goal.returns-then-plan-plan_bytes
 returns-then-plan-plan_bytes c =
-    let p = c.before.before in
-    let m = p.before in
-    rw c.plainly-then-plan-plan_bytes.ensures
-    (sym (ap verdict_of (other_length (n (goal.at.returns-then-plan-plan_bytes c).After-mask_of-mask) (plan (goal.at.returns-then-plan-plan_bytes c).After-mask_of-mask) m.if-plan-lt-MASK_BYTES.false (λ e. c.if-plan-plan_bytes.true (e ∙ sym (asked (goal.at.returns-then-plan-plan_bytes c).After-plan_bytes))))))
+    let long = asked (goal.at.returns-then-plan-plan_bytes c).After-plan_bytes in
+    rw c.into-then-plan-plan_bytes.ensures
+    (sym (other_length c.args.n c.args.plan.now c.if-plan-lt-MASK_BYTES.false (λ e. c.if-plan-plan_bytes.true (e ∙ sym long))))
 
 -- Past the second, the length is that, and the mask is judged.
 module _ (c : After-last_bit) where
-  abbrev masked : After-mask_of-mask
-  masked = (goal.at.After-last_bit c).After-mask_of-mask
-
-  whole : length (plan masked) ≡ plan_bytes (count_in (plan masked))
+  whole : length c.args.plan.now ≡ plan_bytes (count_in c.args.plan.now)
   whole = c.if-plan-plan_bytes.false ∙ asked (goal.at.After-last_bit c).After-plan_bytes
 
-  beyond : masked.mask_of-mask.result % c.last_bit.result ≡ mask_in (plan masked) % 2 ^ (48 - n masked)
-  beyond = ap₂ (λ x y. x % y) masked.mask_of-mask.ensures c.last_bit.ensures
+  beyond : c.mask_of-mask.result % c.last_bit.result ≡ mask_in c.args.plan.now % 2 ^ (48 - c.args.n)
+  beyond = ap₂ (λ x y. x % y) c.mask_of-mask.ensures c.last_bit.ensures
 
 pub nonzero_rem-mask : goal.nonzero_rem-mask
-nonzero_rem-mask c = rw c.last_bit.ensures (pow_pos (48 - n (masked c)))
+nonzero_rem-mask c = rw c.last_bit.ensures (pow_pos (48 - c.args.n))
 
 pub returns-then-mask-last_bit-ne0 : goal.returns-then-mask-last_bit-ne0
 returns-then-mask-last_bit-ne0 c =
-    let l = c.before.before in
-    let m = masked (goal.at.returns-then-mask-last_bit-ne0 c).After-last_bit in
-    rw c.plainly-then-mask-last_bit-ne0.ensures
-    (sym (ap verdict_of (bits-beyond (n m) (plan m) m.if-plan-lt-MASK_BYTES.false (whole (goal.at.returns-then-mask-last_bit-ne0 c).After-last_bit) (λ e. c.if-mask-last_bit-ne0.true (beyond (goal.at.returns-then-mask-last_bit-ne0 c).After-last_bit ∙ e)))))
+    let l = (goal.at.returns-then-mask-last_bit-ne0 c).After-last_bit in
+    rw c.into-then-mask-last_bit-ne0.ensures
+    (sym (bits-beyond c.args.n c.args.plan.now c.if-plan-lt-MASK_BYTES.false (whole l)
+    (λ e. c.if-mask-last_bit-ne0.true (beyond l ∙ e))))
 
 -- Past the third, none is beyond the jobs, and the padding is judged.
 module _ (c : After-padding_clear) where
   abbrev judged : After-last_bit
   judged = (goal.at.After-padding_clear c).After-last_bit
 
-  none : mask_in (plan (masked judged)) % 2 ^ (48 - n (masked judged)) ≡ 0
+  none : mask_in c.args.plan.now % 2 ^ (48 - c.args.n) ≡ 0
   none = sym (beyond judged) ∙ c.if-mask-last_bit-ne0.false
 
-  clear-is : c.padding_clear.result ≡ eqb (pad_in (plan (masked judged))) 0
+  clear-is : c.padding_clear.result ≡ eqb (pad_in c.args.plan.now) 0
   clear-is =
-      let m = masked judged in
+      let plan = c.args.plan.now in
+      let m = (goal.at.After-padding_clear c).After-mask_of-mask in
       c.padding_clear.ensures
-      ∙ ap (λ k. eqb (get_or (plan m) (length (plan m) - 1) 0 % 2 ^ pad_bits k) 0) (counted m)
-      ∙ ap (λ x. eqb x 0) (sym (pad-is (n m) (plan m) m.if-plan-lt-MASK_BYTES.false (whole judged) (bytes m)))
+      ∙ ap (λ k. eqb (get_or plan (length plan - 1) 0 % 2 ^ pad_bits k) 0) (counted m)
+      ∙ ap (λ x. eqb x 0) (sym (pad-is c.args.n plan c.if-plan-lt-MASK_BYTES.false (whole judged) (bytes m)))
 
 pub returns-then-not-padding_clear : goal.returns-then-not-padding_clear
 returns-then-not-padding_clear c =
-    let p = c.before.before in
-    let l = judged (goal.at.returns-then-not-padding_clear c).After-padding_clear in
-    let m = masked l in
-    rw c.plainly-then-not-padding_clear.ensures
-    (sym (ap verdict_of (bits-at-end (n m) (plan m) m.if-plan-lt-MASK_BYTES.false (whole l) (none (goal.at.returns-then-not-padding_clear c).After-padding_clear)
-    (eqb-false (pad_in (plan m)) 0 (sym (clear-is (goal.at.returns-then-not-padding_clear c).After-padding_clear) ∙ c.if-not-padding_clear.true)))))
+    let p = (goal.at.returns-then-not-padding_clear c).After-padding_clear in
+    rw c.into-then-not-padding_clear.ensures
+    (sym (bits-at-end c.args.n c.args.plan.now c.if-plan-lt-MASK_BYTES.false (whole (judged p)) (none p)
+    (eqb-false (pad_in c.args.plan.now) 0 (sym (clear-is p) ∙ c.if-not-padding_clear.true))))
 
 pub returns : goal.returns
 returns c =
-    let p = c.before in
-    let l = judged (goal.at.returns c).After-padding_clear in
-    let m = masked l in
-    sym (ap verdict_of (all-passed (n m) (plan m) m.if-plan-lt-MASK_BYTES.false (whole l) (none (goal.at.returns c).After-padding_clear)
-    (eqb-true (pad_in (plan m)) 0 (sym (clear-is (goal.at.returns c).After-padding_clear) ∙ c.if-not-padding_clear.false))))
+    let p = (goal.at.returns c).After-padding_clear in
+    sym (all-passed c.args.n c.args.plan.now c.if-plan-lt-MASK_BYTES.false (whole (judged p)) (none p)
+    (eqb-true (pad_in c.args.plan.now) 0 (sym (clear-is p) ∙ c.if-not-padding_clear.false)))

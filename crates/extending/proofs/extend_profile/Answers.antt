@@ -1,13 +1,16 @@
 -- `extending::extend_profile` meets its contract: the profile is judged, then the weights together.
 -- Assumes nothing.
-use mathlib.Core.Path.{◌≡◌, sym, ◌∙◌}
+use mathlib.Core.Path.{◌≡◌, sym, subst, ◌∙◌}
 use mathlib.Core.Bool.{true}
 use native.Mathlib.Omega.{arith}
+use borrow.Author.Rules.{rules}
+use Rattle.std.proofs.Common.{Err}
 use Rattle.profiles.specs.Numbers.{holds_profile}
 use Rattle.filling.specs.BeginLaws.{last-light}
+use Rattle.extending.specs.Calls.{ExtendCall}
 use Rattle.extending.proofs.CallLaws.{extend-passed, extend-not-valid, extend-too-heavy}
 use Rattle.extending.proofs.extend_profile.Goals as goal
-use Rattle.extending.proofs.extend_profile.Goals.{After-judge_weight, After-last_weight-before, Else-not-valid, In-Fine, Start}
+use Rattle.extending.proofs.extend_profile.Goals.{Else-not-valid, Start}
 
 -- Where the code starts.
 abbrev start : Else-not-valid → Start
@@ -16,7 +19,7 @@ start c = (goal.at.Else-not-valid c).Start
 pub returns-then-not-valid : goal.returns-then-not-valid
 returns-then-not-valid c =
     let s : Start = (goal.at.returns-then-not-valid c).Start in
-    rw c.plainly.ensures
+    rw c.into.ensures
     (extend-not-valid s.args.profile.now s.args.bytes.now s.args.out.now s.args.work.now s.requires
     (sym c.valid.ensures ∙ c.if-not-valid.true))
 
@@ -35,22 +38,14 @@ overflow_cast-before c =
 
 pub extend_with_room-requires : goal.extend_with_room-requires
 extend_with_room-requires c =
-    let e : In-Fine = (goal.at.extend_with_room-requires c).In-Fine in
-    let w : After-last_weight-before = (goal.at.In-Fine e).After-last_weight-before in
-    let v = w.before in
-    let s = start (goal.at.After-last_weight-before w).Else-not-valid in
-    extend-passed s.args.profile.now s.args.bytes.now s.requires (is-valid (goal.at.After-last_weight-before w).Else-not-valid) w.last_weight-before.ensures
-    (sym e.judge_weight.ensures ∙ e.in-Fine.is)
+    extend-passed c.args.profile.now c.args.bytes.now c.requires (is-valid (goal.at.extend_with_room-requires c).Else-not-valid)
+    c.last_weight-before.ensures (sym c.judge_weight.ensures ∙ c.in_ok-judge_weight.was)
 
-pub returns-in-Refused : goal.returns-in-Refused
-returns-in-Refused c =
-    let after-judge-weight : After-judge_weight = (goal.at.returns-in-Refused c).After-judge_weight in
-    let w : After-last_weight-before = (goal.at.returns-in-Refused c).After-last_weight-before in
-    let v = w.before in
-    let s = start (goal.at.After-last_weight-before w).Else-not-valid in
-    extend-too-heavy s.args.profile.now s.args.bytes.now s.args.out.now s.args.work.now s.requires
-    c.in-Refused.refusal (is-valid (goal.at.After-last_weight-before w).Else-not-valid) w.last_weight-before.ensures
-    (sym after-judge-weight.judge_weight.ensures ∙ c.in-Refused.is)
-
-pub returns-in-Fine : goal.returns-in-Fine
-returns-in-Fine c = c.extend_with_room.ensures
+pub returns-in_err-judge_weight : goal.returns-in_err-judge_weight
+returns-in_err-judge_weight c =
+    let e : c.from_residual.result ≡ Err c.in_err-judge_weight.field-0.0 = search rules in
+    let a = c.args in
+    subst (λ r. ExtendCall a.profile.now a.bytes.now a.out.now a.work.now r a.out.now a.work.now) (sym e)
+    (extend-too-heavy a.profile.now a.bytes.now a.out.now a.work.now c.requires
+    (is-valid (goal.at.returns-in_err-judge_weight c).Else-not-valid) c.last_weight-before.ensures
+    (sym c.judge_weight.ensures ∙ c.in_err-judge_weight.was))

@@ -16,13 +16,13 @@ start c = (goal.at.Else-work-lt-AREA c).Start
 
 pub returns-then-out-lt-MOST_NUMBERS : goal.returns-then-out-lt-MOST_NUMBERS
 returns-then-out-lt-MOST_NUMBERS c =
-    rw c.plainly.ensures
+    rw c.into.ensures
     (extend-no-room c.args.profile.now c.args.bytes.now c.args.out.now c.args.work.now c.requires c.if-out-lt-MOST_NUMBERS.true)
 
 pub returns-then-work-lt-AREA : goal.returns-then-work-lt-AREA
 returns-then-work-lt-AREA c =
     let s : Start = (goal.at.returns-then-work-lt-AREA c).Start in
-    rw c.plainly-then-work-lt-AREA.ensures
+    rw c.into-then-work-lt-AREA.ensures
     (extend-no-space s.args.profile.now s.args.bytes.now s.args.out.now s.args.work.now s.requires
     c.if-out-lt-MOST_NUMBERS.false c.if-work-lt-AREA.true)
 

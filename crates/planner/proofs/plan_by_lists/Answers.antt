@@ -127,4 +127,4 @@ returns-in-Nothing c =
     let f : After-fill_lists-totals = (goal.at.After-last_by ended).After-fill_lists-totals in
     let d = from f in
     let none : Nothing ≡ found (lookup (last f) latest_free) = sym told.in-Nothing.is ∙ searched ended in
-    rw c.plainly.ensures (nothing-made (entry d).requires (sized d) (started d) (kept f) f.fill_lists-totals.ensures none)
+    rw c.into.ensures (nothing-made (entry d).requires (sized d) (started d) (kept f) f.fill_lists-totals.ensures none)

@@ -11,77 +11,56 @@ use Rattle.fields.specs.Facts.{HeaderRead, header_read}
 use Rattle.area.specs.Area.{area}
 use Rattle.planner.specs.CallLaws.{plan-no-room, plan-no-space, plan-done}
 use Rattle.planner.proofs.plan_order.Goals as goal
-use Rattle.planner.proofs.plan_order.Goals.{After-clear, After-header_at-header, After-plan_within-answer, Else-starts-n, Else-work-lt-AREA, Start, Then-starts-n, Then-work-lt-AREA}
+use Rattle.planner.proofs.plan_order.Goals.{After-header_at-header, Else-work-lt-AREA}
 
 pub header_at-header-requires : goal.header_at-header-requires
 header_at-header-requires c = ((order-fine c.args.bytes.now).0 c.requires).header.long
 
--- ---- the stages of the code: the header is read, and there is room for the starts and for the lists
-
-module _ (c : After-header_at-header) where
-  abbrev start : Start
-  start = (goal.at.After-header_at-header c).Start
-
-  -- The header that was read is the order's.
-  read : HeaderRead start.args.bytes.now c.header_at-header.result
-  read = header_read start.args.bytes.now c.header_at-header.result c.header_at-header.ensures
-
-abbrev header : Else-work-lt-AREA → After-header_at-header
-header roomy = (goal.at.Else-work-lt-AREA roomy).After-header_at-header
-
-abbrev roomy : Else-work-lt-AREA → Else-work-lt-AREA
-roomy lent = lent
+-- The header that was read is the order's.
+read : (c : After-header_at-header) → HeaderRead c.args.bytes.now c.header_at-header.result
+read c = header_read c.args.bytes.now c.header_at-header.result c.header_at-header.ensures
 
 -- ---- the room
 
-pub returns-then-starts-n : goal.returns-then-starts-n
-returns-then-starts-n c =
-    let short : Then-starts-n = (goal.at.returns-then-starts-n c).Then-starts-n in
-    let h : After-header_at-header = (goal.at.Then-starts-n short).After-header_at-header in
-    let a = (start h).args in
-    rw c.plainly.ensures
-    (plan-no-room a.bytes.now a.starts.now a.work.now (start h).requires (omega (arith, short.if-starts-n.true, (read h).count)))
+pub returns-then-starts-header : goal.returns-then-starts-header
+returns-then-starts-header c =
+    let a = c.args in
+    rw c.into.ensures
+    (plan-no-room a.bytes.now a.starts.now a.work.now c.requires
+    (omega (arith, c.if-starts-header.true, (read (goal.at.returns-then-starts-header c).After-header_at-header).count)))
 
 pub returns-then-work-lt-AREA : goal.returns-then-work-lt-AREA
 returns-then-work-lt-AREA c =
-    let short : Then-work-lt-AREA = (goal.at.returns-then-work-lt-AREA c).Then-work-lt-AREA in
-    let enough : Else-starts-n = (goal.at.Then-work-lt-AREA short).Else-starts-n in
-    let h : After-header_at-header = (goal.at.Else-starts-n enough).After-header_at-header in
-    let a = (start h).args in
-    rw c.plainly-then-work-lt-AREA.ensures
-    (plan-no-space a.bytes.now a.starts.now a.work.now (start h).requires (omega (arith, enough.if-starts-n.false, (read h).count))
-    short.if-work-lt-AREA.true)
+    let a = c.args in
+    rw c.into-then-work-lt-AREA.ensures
+    (plan-no-space a.bytes.now a.starts.now a.work.now c.requires
+    (omega (arith, c.if-starts-header.false, (read (goal.at.returns-then-work-lt-AREA c).After-header_at-header).count))
+    c.if-work-lt-AREA.true)
 
--- ---- the part lent is as long as the area
-
-lent : (c : Else-work-lt-AREA) → length (take area (start (header c)).args.work.now) ≡ area
-lent c = length-take-le area (start (header c)).args.work.now c.if-work-lt-AREA.false
+-- The part lent is as long as the area.
+lent : (c : Else-work-lt-AREA) → length (take area c.args.work.now) ≡ area
+lent c = length-take-le area c.args.work.now c.if-work-lt-AREA.false
 
 pub slice_bounds-plan_within-end-2 : goal.slice_bounds-plan_within-end-2
-slice_bounds-plan_within-end-2 c = omega (arith, lent (roomy (goal.at.slice_bounds-plan_within-end-2 c).Else-work-lt-AREA))
+slice_bounds-plan_within-end-2 c = omega (arith, lent (goal.at.slice_bounds-plan_within-end-2 c).Else-work-lt-AREA)
 
 pub plan_within-answer-requires : goal.plan_within-answer-requires
 plan_within-answer-requires c =
-    let r = roomy (goal.at.plan_within-answer-requires c).Else-work-lt-AREA in
-    let h = header r in
     record {
-      order = (order-fine (start h).args.bytes.now).0 (start h).requires;
-      read = read h;
-      places = r.if-starts-n.false;
-      room = omega (arith, lent r);
+      order = (order-fine c.args.bytes.now).0 c.requires;
+      read = read (goal.at.plan_within-answer-requires c).After-header_at-header;
+      places = c.if-starts-header.false;
+      room = omega (arith, lent (goal.at.plan_within-answer-requires c).Else-work-lt-AREA);
     }
 
 -- ---- the plan
 
 pub returns : goal.returns
 returns c =
-    let cleared : After-clear = (goal.at.returns c).After-clear in
-    let planned : After-plan_within-answer = (goal.at.After-clear cleared).After-plan_within-answer in
-    let r = roomy (goal.at.After-plan_within-answer planned).Else-work-lt-AREA in
-    let h = header r in
-    let a = (start h).args in
-    let part = planned.plan_within-answer.new.work in
+    let h = (goal.at.returns c).After-header_at-header in
+    let a = c.args in
+    let part = c.plan_within-answer.new.work in
     let rest = drop area a.work.now in
-    let long : length part ≡ area = omega (arith, lent r) in
-    plan-done a.bytes.now a.starts.now a.work.now (start h).requires (omega (arith, r.if-starts-n.false, (read h).count))
-    (part ++ rest) r.if-work-lt-AREA.false planned.plan_within-answer.ensures (drop_at part rest area long) cleared.clear.ensures
+    let long : length part ≡ area = omega (arith, lent (goal.at.returns c).Else-work-lt-AREA) in
+    plan-done a.bytes.now a.starts.now a.work.now c.requires (omega (arith, c.if-starts-header.false, (read h).count))
+    (part ++ rest) c.if-work-lt-AREA.false c.plan_within-answer.ensures (drop_at part rest area long) c.clear.ensures

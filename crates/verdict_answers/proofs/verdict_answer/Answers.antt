@@ -11,9 +11,11 @@ byte-is : (b : Bool) → bool_byte b ≡ cond {A = ℕ} b 1 0
 byte-is true = refl
 byte-is false = refl
 
-pub returns-in-Refused : goal.returns-in-Refused
-returns-in-Refused c = sym (ap verdict_numbers c.in-Refused.is)
+pub returns-in-Ok : goal.returns-in-Ok
+returns-in-Ok c =
+    ap (λ (y : ℕ). record { refusal = 0; place = 0; field = 0; yes = y }) (byte-is c.in-Ok.holds) ∙ sym (ap verdict_numbers c.in-Ok.is)
 
-pub returns-in-Answered : goal.returns-in-Answered
-returns-in-Answered c =
-    ap (λ (y : ℕ). record { refusal = 0; place = 0; field = 0; yes = y }) (byte-is c.in-Answered.holds) ∙ sym (ap verdict_numbers c.in-Answered.is)
+pub returns-in-Err : goal.returns-in-Err
+returns-in-Err c =
+    (λ i. record { refusal = c.number.ensures i; place = c.place.ensures i; field = c.figure.ensures i; yes = 0 })
+    ∙ sym (ap verdict_numbers c.in-Err.is)
