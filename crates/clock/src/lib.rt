@@ -7,7 +7,7 @@ ghost use Rattle.seconds.specs.Ranges.{InTime, min_z, max_z};
 
 use profiles::REST;
 
-// The lesser of two times.
+// The lesser of two times. It and `greater` stay by name: docs/DECISIONS.md and the README have them.
 pub fn lesser(a: i32, b: i32) -> i32
     ensures { result ≡ min_z a b }
 {

@@ -12,10 +12,10 @@ use fields::{Job, job_in};
 // The worth of the highest bit of a mask, which is that of place 0.
 const HIGHEST: u64 = 0x8000_0000_0000_0000;
 
-// What stands for the start of a job that is left out.
+// What stands for the start of a job that is left out: the C interface's starts are plain numbers.
 pub const LEFT_OUT: i32 = 200_000;
 
-// A job's start, and when the bus is free after it.
+// A job's start, and when the bus is free after it. No Option: a start goes as it is to the caller's numbers.
 #[derive(Clone, Copy)]
 struct Turn {
     start: i32,

@@ -15,7 +15,7 @@ module _ (c : In-loop-k) where
   number = at0 c.args.work.now (c.args.list.place + c.loop-k.k)
 
   there : pos 0 ≤ℤ number
-  there = number-there c.args.list.count c.requires.held c.loop-k.k c.loop-k-test.true
+  there = number-there c.args.list.count c.requires.held c.loop-k.k (omega (arith, c.loop-k-test.true))
 
 pub time_in-requires : goal.time_in-requires
 time_in-requires c =
@@ -47,7 +47,7 @@ loop-k-preserved c =
     c.weight_in.ensures ∙ ap (λ (z : ℤ). (point_of z).weight) (to_z-of_z n) in
     let weight : y ≡ pos p.weight = to_z_pos w32 (omega signed) ∙ ap pos heavy in
     let put : c.put_point.new.out ≡ set (set l.out (2 * l.k) x) (2 * l.k + 1) y = c.put_point.ensures in
-    rw put (listing-more l.invariant c.loop-k-test.true c.requires.places x y time weight)
+    rw put (listing-more l.invariant (omega (arith, c.loop-k-test.true)) c.requires.places x y time weight)
 
 pub returns : goal.returns
 returns c = listing-all c.loop-k.invariant (omega arith) c.requires.places
