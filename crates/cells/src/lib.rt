@@ -2,7 +2,7 @@
 // weight is kept, and past it a number past all. Loops over cells do not wait for each other. Assumes nothing.
 #![tactic(auto)]
 
-ghost use Rattle.std.specs.Prelude.{◌≡◌, cond, [], ◌+◌, ◌-◌, ◌≤◌, pos, ◌+ℤ◌, ◌-ℤ◌, ◌≤ℤ◌, length};
+ghost use Rattle.std.specs.Prelude.{◌≡◌, [], ◌+◌, ◌-◌, ◌≤◌, pos, ◌+ℤ◌, ◌-ℤ◌, ◌≤ℤ◌, length};
 ghost use Rattle.codes.specs.Code.{at0, lightness, points_at, past_all};
 ghost use Rattle.cells.specs.Cells.{wide, Cells, Put, CanCount, CanRun, CanSpread};
 ghost use Rattle.cells.specs.Cells.{moved_on, CanMove, CanMoveAll, CanPushCells, PushedCells};
@@ -106,6 +106,7 @@ fn move_cells(row: &[i32], end: usize, limit: i32, delta: i32, gain: usize, push
 }
 
 // The first so many cells pushed by a job: those lighter than the job are of the time of the first.
+// (a) `end` and `gain` stay beside the whole rows: this function's contract says what stays of the row pushed to behind them.
 pub fn push_cells(row: &[i32], end: usize, limit: i32, delta: i32, gain: usize, pushed: &mut [i32])
     requires { CanPushCells row.now end limit delta gain pushed.old }
     ensures { PushedCells row.now end limit delta gain pushed.old pushed.new }
@@ -117,6 +118,7 @@ pub fn push_cells(row: &[i32], end: usize, limit: i32, delta: i32, gain: usize, 
 
 // The lesser of both, cell by cell, laid at a place of the work area too. Returns how many of them are greater than the one
 // before: as many of the cells before the last are points.
+// (a) `end` and `at` stay beside the whole rows: this function's contract says what stays of them behind the end and before the place.
 pub fn lower(row: &mut [i32], pushed: &[i32], end: usize, work: &mut [i32], at: usize) -> u32
     requires { CanLower row.old pushed.now end work.old at }
     ensures row { Put (lowered row.old pushed.now) 0 end row.old row.new }

@@ -3,7 +3,7 @@
 // Assumes nothing.
 #![tactic(auto)]
 
-ghost use Rattle.std.specs.Prelude.{◌≡◌, cond, ◌-◌, max, pos, length, ◌≤ℤ◌};
+ghost use Rattle.std.specs.Prelude.{◌≡◌, cond, ◌-◌, pos, length, ◌≤ℤ◌};
 ghost use Rattle.codes.specs.Code.{lightness};
 ghost use Rattle.cells.specs.Cells.{wide};
 ghost use Rattle.sweeping.specs.Sweep.{left, Wiped, CanCount, Counted, CanGo, Started, CanSweep, Swept};
