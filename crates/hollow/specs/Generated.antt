@@ -1,6 +1,6 @@
 -- The relations of Contracts are the contracts of the code: for each call, what its generated contract claims of the
 -- arguments, the answer and the parameters at exit is what the relation says. A contract that changes is refused here.
-use Rattle.std.specs.Prelude.{◌≡◌, refl, List, ℕ, Result}
+use Rattle.std.specs.Prelude.{◌≡◌, refl, List, ℕ, Result, ⊤}
 use contract.Lifetimes.{Lfts}
 use Rattle.std.specs.Borrow.{Bor}
 use denote.Triple.Clauses.{AtExit}
@@ -73,7 +73,6 @@ use Rattle.adding.specs.contracts.add as add
 use Rattle.adding.proofs.add.Reads as add_reads
 use Rattle.feeding.specs.contracts.feed as feed
 use Rattle.feeding.proofs.feed.Reads as feed-reads
-use Rattle.sheet_text.specs.declared.Told.{Told}
 use Rattle.sheet_text.specs.contracts.tell as tell
 use Rattle.sheet_text.proofs.tell.Reads as tell-reads
 use Rattle.hollow.specs.Promises.{planning, extending, joining_profiles, looking_up, looking_up_records, unpacking, packing, framing}
@@ -187,21 +186,21 @@ pub write-plan-is : (κs : Lfts 3) (a : Args write-plan.signature κs) (r : Pack
     ≡ writing_plan.allows (a.0.now, a.1.0.now, a.1.1.0.now) r (x.1.0.now, x.1.1.0.now)
 write-plan-is κs a r x = refl
 
-pub join_is : (κs : Lfts 2) (a : Args join.signature κs) (r : ℕ) (x : AtExit join.ended κs)
+pub join_is : (κs : Lfts 2) (a : Args join.signature κs) (r : Result ⊤ Reason) (x : AtExit join.ended κs)
     → join-reads.Post κs a r x ≡ joining_sheets.allows (a.0.now, a.1.0.now) r x.0.now
 join_is κs a r x = refl
 
-pub add_is : (κs : Lfts 3) (a : Args add.signature κs) (r : ℕ) (x : AtExit add.ended κs)
+pub add_is : (κs : Lfts 3) (a : Args add.signature κs) (r : Result ⊤ Reason) (x : AtExit add.ended κs)
     → add_reads.Post κs a r x
     ≡ adding.allows (a.0.now, a.1.0.now, a.1.1.0.now) r (x.0.now, x.1.1.0.now)
 add_is κs a r x = refl
 
-pub feed-is : (κs : Lfts 4) (a : Args feed.signature κs) (r : ℕ) (x : AtExit feed.ended κs)
+pub feed-is : (κs : Lfts 4) (a : Args feed.signature κs) (r : Result ⊤ Reason) (x : AtExit feed.ended κs)
     → feed-reads.Post κs a r x
     ≡ feeding.allows (a.0.now, a.1.0.now, a.1.1.0.now, a.1.1.1.0.now) r
     (x.0.now, x.1.0.now, x.1.1.1.0.now)
 feed-is κs a r x = refl
 
-pub tell-is : (κs : Lfts 2) (a : Args tell.signature κs) (r : Told) (x : AtExit tell.ended κs)
+pub tell-is : (κs : Lfts 2) (a : Args tell.signature κs) (r : Result ℕ Reason) (x : AtExit tell.ended κs)
     → tell-reads.Post κs a r x ≡ telling.allows (a.0.now, a.1.0, a.1.1.0.now) r x.1.1.0.now
 tell-is κs a r x = refl

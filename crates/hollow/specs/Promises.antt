@@ -1,6 +1,6 @@
 -- The contract of each public call as a relation of its inputs and outcomes. Definitions only; that these relations are the
 -- contracts of the code is shown in Generated.
-use Rattle.std.specs.Prelude.{ℕ, ◌≡◌, refl, Bool, true, false, List, ◌++◌, eqb, ltb, ℤ, length, drop, Result, Ok, Err}
+use Rattle.std.specs.Prelude.{ℕ, ◌≡◌, refl, Bool, true, false, List, ◌++◌, eqb, ltb, ℤ, length, drop, Result, Ok, Err, is_err, ⊤}
 use Rattle.std.specs.Borrow.{Bor}
 use Rattle.refusals.specs.declared.Reason.{Reason}
 use Rattle.profiles.specs.Answer.{Finding, lookup_of}
@@ -324,10 +324,6 @@ choosing rule =
 
 -- ---- sheets
 
--- Of each the answer is a Result, refused with a reason.
-abbrev refused_with : {A : Type 0} → Result A Reason → Bool
-refused_with r = is_err r
-
 -- Joining two sheets is given both. Of the first, what it leaves.
 abbrev pub joining_sheets : Contract (List ℕ × List ℕ) (Result ⊤ Reason) (List ℕ)
 joining_sheets =
@@ -338,7 +334,7 @@ joining_sheets =
       met = λ x. record { answer = refl; lent = refl };
       only = λ x r b h. (h.answer, h.lent);
       lent = λ x. x.0;
-      refusal = refused_with;
+      refusal = is_err;
     }
 
 -- One order more is given a sheet, the order's bytes and the work area. Of the first and the last, what it leaves.
@@ -354,7 +350,7 @@ adding =
       met = λ x. record { answer = refl; lent = refl; area = refl };
       only = λ x r b h. (h.answer, λ i. (h.lent i, h.area i));
       lent = λ x. (x.0, x.2);
-      refusal = refused_with;
+      refusal = is_err;
     }
 
 -- Feeding is given the numbers and the front that are held of a stream, a piece, and the work area. Of all but the piece, what it leaves.
@@ -374,7 +370,7 @@ feeding =
       met = λ x. record { answer = refl; numbers = refl; room = refl; cleaned = refl };
       only = λ x r b h. (h.answer, λ i. (h.numbers i, h.room i, h.cleaned i));
       lent = λ x. (x.0, x.1, x.3);
-      refusal = refused_with;
+      refusal = is_err;
     }
 
 -- Telling a sheet is given it, whether its stream is cut, and bytes to write the text to.
@@ -390,5 +386,5 @@ telling =
       met = λ x. record { answer = refl; text = refl };
       only = λ x r b h. (h.answer, h.text);
       lent = λ x. x.2;
-      refusal = refused_with;
+      refusal = is_err;
     }
