@@ -4,7 +4,7 @@ use crate::counts::counted;
 use careful::{at, front, more, number_of, plus};
 use comparing::MARK;
 use extending::Extended;
-use profiles::Finding;
+use refusals::Reason;
 
 // A time past the last of every profile.
 const PAST_ALL: i32 = 150_000;
@@ -64,11 +64,11 @@ fn extend(profile: &[i32], order: &[u8], out: &mut [i32]) -> Wrote {
 }
 
 // The weight that a lookup finds; nothing found is the least.
-fn weight_of(finding: Finding) -> i32 {
+fn weight_of(finding: Result<Option<u32>, Reason>) -> i32 {
     match finding {
-        Finding::NotValid => NO_PROFILE,
-        Finding::Found(weight) => number_of(weight as u64),
-        Finding::NotFound => NONE,
+        Err(_) => NO_PROFILE,
+        Ok(Some(weight)) => number_of(weight as u64),
+        Ok(None) => NONE,
     }
 }
 

@@ -3,9 +3,9 @@
 use crate::counts::{Run, counted, expect};
 use crate::extended::{Seen, compare_extended, numbers_of};
 use crate::plans::{plan_of, with_plans};
-use better::Joined;
 use careful::{front, front_bytes, more};
 use comparing::{MARK, pack_order, records_kind};
+use refusals::Reason;
 use trial_orders::{Change, Kind, change_of, draw_profile};
 
 // The refusals of a profile that is not valid, and of one that is too heavy for the order.
@@ -54,11 +54,11 @@ fn with_tail(so_far: Run, seen: Seen) -> Run {
 }
 
 // How many numbers better-of wrote; where a profile is not valid, as many as no profile has.
-fn joined_size(answer: Joined) -> usize {
+fn joined_size(answer: Result<usize, Reason>) -> usize {
     match answer {
-        Joined::NotValid => NO_PROFILE,
-        Joined::NoRoom => 0,
-        Joined::Points(points) => numbers_of(points),
+        Err(Reason::ProfileNotValid) => NO_PROFILE,
+        Err(_) => 0,
+        Ok(points) => numbers_of(points),
     }
 }
 

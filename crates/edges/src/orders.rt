@@ -6,7 +6,6 @@ use case_lines::{
     read_numbers, setting,
 };
 use framing::Framed;
-use heat::Heating;
 use pack::Packed;
 use unpack::Unpacked;
 
@@ -71,8 +70,8 @@ fn frame(line: &[u8]) {
 // `heat`: a byte.
 fn heat_up(line: &[u8]) {
     match heat::heat_up((count_setting(line, b'e') % 256) as u8) {
-        Heating::Seconds(seconds) => put_count(seconds as u64),
-        Heating::TooCold => put_refused(12),
+        Ok(seconds) => put_count(seconds as u64),
+        Err(reason) => put_refused(reason.number()),
     }
 }
 

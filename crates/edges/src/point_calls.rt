@@ -1,6 +1,5 @@
 // Profiles: extending one by an order, the better of two, and looking one up, as numbers and as records.
 use crate::{MARK, WORK_MARK, calls};
-use better::Joined;
 use careful::{at, front, lend};
 use case_lines::{
     count_setting, make_profile, part, place_setting, put_buffer, put_count, put_refusal,
@@ -8,7 +7,7 @@ use case_lines::{
 };
 use extending::Extended;
 use point_records::Point;
-use profiles::Finding;
+use refusals::Reason;
 
 // What stands behind the records that a case tells, in time and weight: no point has it.
 const NO_POINT: i32 = 100_016;
@@ -35,11 +34,10 @@ fn extend(line: &[u8], order: &[u8]) {
 }
 
 // What better-of answered.
-fn put_joined(answer: Joined) {
+fn put_joined(answer: Result<usize, Reason>) {
     match answer {
-        Joined::NotValid => put_refused(8),
-        Joined::NoRoom => put_refused(10),
-        Joined::Points(points) => put_count(points as u64),
+        Ok(points) => put_count(points as u64),
+        Err(reason) => put_refused(reason.number()),
     }
 }
 
@@ -56,11 +54,11 @@ fn better(line: &[u8]) {
 }
 
 // What a lookup answered.
-fn put_finding(answer: Finding) {
+fn put_finding(answer: Result<Option<u32>, Reason>) {
     match answer {
-        Finding::NotValid => put_refused(8),
-        Finding::Found(weight) => put_count(weight as u64),
-        Finding::NotFound => put_word(b" none"),
+        Ok(Some(weight)) => put_count(weight as u64),
+        Ok(None) => put_word(b" none"),
+        Err(reason) => put_refused(reason.number()),
     }
 }
 

@@ -2,11 +2,10 @@
 ghost use Rattle.std.specs.Prelude.{◌≤◌};
 
 use crate::counts::{Run, expect};
-use better::Joined;
 use careful::{at, front, front_bytes, is_count, more, plus, same};
 use comparing::{MARK, held_after, leaves, pack_order, says};
 use extending::Extended;
-use profiles::Finding;
+use refusals::Reason;
 
 // The refusal that extending must give, 0 for none.
 fn extend_refusal(profile: &[i32], numbers: &[i32]) -> u32 {
@@ -103,11 +102,11 @@ fn expect_joined(one: &[i32], other: &[i32], valid: bool, out: &mut [i32]) -> us
 }
 
 // Whether better-of is refused as expected, or answers so many points.
-fn joined_agrees(answer: Joined, valid: bool, points: usize) -> bool {
+fn joined_agrees(answer: Result<usize, Reason>, valid: bool, points: usize) -> bool {
     match answer {
-        Joined::NotValid => !valid,
-        Joined::NoRoom => false,
-        Joined::Points(many) => valid & (many == points),
+        Err(Reason::ProfileNotValid) => !valid,
+        Err(_) => false,
+        Ok(many) => valid & (many == points),
     }
 }
 
@@ -132,11 +131,11 @@ pub fn check_join(run: Run, one: &[i32], other: &[i32]) -> Run {
 }
 
 // Whether an answer to a lookup is the weight expected, none below 0.
-fn finding_agrees(finding: Finding, valid: bool, weight: i32) -> bool {
+fn finding_agrees(finding: Result<Option<u32>, Reason>, valid: bool, weight: i32) -> bool {
     match finding {
-        Finding::NotValid => !valid,
-        Finding::Found(found) => valid & is_count(found as u64, weight),
-        Finding::NotFound => valid & (weight < 0),
+        Err(_) => !valid,
+        Ok(Some(found)) => valid & is_count(found as u64, weight),
+        Ok(None) => valid & (weight < 0),
     }
 }
 

@@ -1,16 +1,17 @@
 -- The relations of Contracts are the contracts of the code: for each call, what its generated contract claims of the
 -- arguments, the answer and the parameters at exit is what the relation says. A contract that changes is refused here.
-use Rattle.std.specs.Prelude.{◌≡◌, refl, List, ℕ}
+use Rattle.std.specs.Prelude.{◌≡◌, refl, List, ℕ, Result}
 use contract.Lifetimes.{Lfts}
 use Rattle.std.specs.Borrow.{Bor}
 use denote.Triple.Clauses.{AtExit}
 use denote.Triple.Entry.{Args}
-use Rattle.profiles.specs.declared.Finding.{Finding}
+use Rattle.refusals.specs.declared.Reason.{Reason}
+use Rattle.profiles.specs.Answer.{Finding}
 use Rattle.profiles.specs.contracts.lookup as lookup
 use Rattle.profiles.proofs.lookup.Reads as lookup-reads
 use Rattle.point_records.specs.contracts.lookup_records as lookup-records
 use Rattle.point_records.proofs.Determined as records
-use Rattle.better.specs.declared.Joined.{Joined}
+use Rattle.better.specs.Answer.{Joined}
 use Rattle.better.specs.contracts.better_of as better-of
 use Rattle.better.proofs.better_of.Reads as better-of-reads
 use Rattle.unpack.specs.declared.Unpacked.{Unpacked}
@@ -39,7 +40,6 @@ use Rattle.reader_struct.proofs.read_at.Reads as read-at-reads
 use Rattle.reader_struct.proofs.Determined as readers
 use Rattle.report.specs.contracts.report as report
 use Rattle.report.proofs.report.Reads as report-reads
-use Rattle.heat.specs.declared.Heating.{Heating}
 use Rattle.heat.specs.contracts.heat_up as heat-up
 use Rattle.heat.proofs.heat_up.Reads as heat-up-reads
 use Rattle.planner.specs.declared.Planned.{Planned}
@@ -149,7 +149,7 @@ pub report-says : (κs : Lfts 2) (a : Args report.signature κs) (r : ℕ) (x : 
     → report-reads.Post κs a r x → reporting.allows (a.0.now, a.1.0.now) r x.1.0.now
 report-says κs a r x h = (h.count, h.text)
 
-pub heat-up-is : (κs : Lfts 0) (a : Args heat-up.signature κs) (r : Heating) (x : AtExit heat-up.ended κs)
+pub heat-up-is : (κs : Lfts 0) (a : Args heat-up.signature κs) (r : Result ℕ Reason) (x : AtExit heat-up.ended κs)
     → heat-up-reads.Post κs a r x ≡ heating_up.allows a.0 r tt
 heat-up-is κs a r x = refl
 

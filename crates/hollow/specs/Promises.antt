@@ -1,15 +1,12 @@
 -- The contract of each public call as a relation of its inputs and outcomes. Definitions only; that these relations are the
 -- contracts of the code is shown in Generated.
-use Rattle.std.specs.Prelude.{ℕ, ◌≡◌, refl, Bool, true, false, List, ◌++◌, eqb, ltb, ℤ, length, drop}
+use Rattle.std.specs.Prelude.{ℕ, ◌≡◌, refl, Bool, true, false, List, ◌++◌, eqb, ltb, ℤ, length, drop, Result, Ok, Err}
 use Rattle.std.specs.Borrow.{Bor}
-use Rattle.profiles.specs.Answer.{lookup_of}
-use Rattle.profiles.specs.declared.Finding.{Finding}
-use Rattle.profiles.specs.declared.Finding.TheVariants as finding
+use Rattle.refusals.specs.declared.Reason.{Reason}
+use Rattle.profiles.specs.Answer.{Finding, lookup_of}
 use Rattle.point_records.specs.Records.{flattened}
 use Rattle.point_records.specs.declared.Point.{Point}
-use Rattle.better.specs.Answer.{joined_of, out_after as joined_after}
-use Rattle.better.specs.declared.Joined.{Joined}
-use Rattle.better.specs.declared.Joined.TheVariants as joined
+use Rattle.better.specs.Answer.{Joined, joined_of, out_after as joined_after}
 use Rattle.unpack.specs.Answer.{unpack_of, numbers_after}
 use Rattle.unpack.specs.declared.Unpacked.{Unpacked}
 use Rattle.unpack.specs.declared.Unpacked.TheVariants as unpacked
@@ -30,8 +27,6 @@ use Rattle.reader_struct.specs.declared.Reader.{Reader}
 use Rattle.reader_struct.specs.declared.Stepped.{Stepped}
 use Rattle.reader_struct.specs.declared.Reading.{Reading}
 use Rattle.heat.specs.Answer.{heating_of}
-use Rattle.heat.specs.declared.Heating.{Heating}
-use Rattle.heat.specs.declared.Heating.TheVariants as heating
 use Rattle.planner.specs.Calls.{planned_of, starts_after, plan_work_after, PlanCall}
 use Rattle.extending.specs.Calls.{extended_of, out_after, extend_work_after, ExtendCall}
 use Rattle.planner.specs.declared.Planned.{Planned}
@@ -75,14 +70,12 @@ extend_refused (extended.Refused r) = true
 extend_refused (extended.Points n) = false
 
 abbrev join_refused : Joined → Bool
-join_refused joined.NotValid = true
-join_refused joined.NoRoom = true
-join_refused (joined.Points n) = false
+join_refused (Err r) = true
+join_refused (Ok n) = false
 
 abbrev lookup_refused : Finding → Bool
-lookup_refused finding.NotValid = true
-lookup_refused (finding.Found w) = false
-lookup_refused finding.NotFound = false
+lookup_refused (Err r) = true
+lookup_refused (Ok found) = false
 
 abbrev unpack_refused : Unpacked → Bool
 unpack_refused (unpacked.Refused r) = true
@@ -105,9 +98,9 @@ step_refused (read.Refused r) = true
 step_refused (read.Job job) = false
 step_refused read.End = false
 
-abbrev heat_refused : Heating → Bool
-heat_refused heating.TooCold = true
-heat_refused (heating.Seconds l) = false
+abbrev heat_refused : Result ℕ Reason → Bool
+heat_refused (Err r) = true
+heat_refused (Ok l) = false
 
 abbrev question_refused : Chosen → Bool
 question_refused (chosen.Refused r) = true
@@ -293,7 +286,7 @@ reporting =
 -- ---- heat-up lengths
 
 -- A byte.
-abbrev pub heating_up : Contract ℕ Heating (Unit {0})
+abbrev pub heating_up : Contract ℕ (Result ℕ Reason) (Unit {0})
 heating_up = answering heating_of heat_refused
 
 -- ---- openings

@@ -1,8 +1,8 @@
 -- For each answer on a packed order, or on the sampler's byte, the struct that says it: the refusal and the values of the rules.
 -- In a refused answer all but the refusal, with its place and field, and the reader's own place, are 0 (R26). Definitions only.
-use Rattle.std.specs.Prelude.{ℕ, pos}
+use Rattle.std.specs.Prelude.{ℕ, pos, Result}
 use Rattle.heat.specs.Answer.{refusal_of as heat_refusal, length_of}
-use Rattle.heat.specs.declared.Heating.{Heating}
+use Rattle.refusals.specs.declared.Reason.{Reason}
 use Rattle.packed.specs.declared.Refusal.{Refusal}
 use Rattle.packed.specs.Packed.{the_number, the_pack, the_mark, the_weight, the_ready, the_length, the_deadline}
 use Rattle.unpack.specs.Answer.{refusal_of as unpack_refusal, jobs_unpacked, t0_unpacked}
@@ -23,7 +23,7 @@ use Rattle.packed_answers.specs.declared.StepAnswer.{StepAnswer}
 
 -- ---- heat-up lengths
 
-abbrev pub heat_numbers : Heating → HeatAnswer
+abbrev pub heat_numbers : Result ℕ Reason → HeatAnswer
 heat_numbers h = record { refusal = heat_refusal h; seconds = length_of h }
 
 -- ---- packed orders

@@ -7,10 +7,10 @@ ghost use Rattle.packed_answers.specs.Numbers.{heat_numbers, unpack_numbers, pac
 ghost use Rattle.packed_answers.specs.Numbers.{open_numbers, no_job, step_numbers};
 
 use framing::Framed;
-use heat::Heating;
 use pack::Packed;
 use packed::{Refusal, plainly};
 use reader::{Moved, Opened, Read};
+use refusals::Reason;
 use unpack::Unpacked;
 
 // Heating up: the length in seconds.
@@ -80,16 +80,16 @@ pub struct StepAnswer {
 }
 
 // The answer of heating up.
-pub fn heat_answer(heating: Heating) -> HeatAnswer
+pub fn heat_answer(heating: Result<u32, Reason>) -> HeatAnswer
     ensures { result ≡ heat_numbers heating }
 {
     match heating {
-        Heating::Seconds(seconds) => HeatAnswer {
+        Ok(seconds) => HeatAnswer {
             refusal: 0,
-            seconds: seconds,
+            seconds,
         },
-        Heating::TooCold => HeatAnswer {
-            refusal: 12,
+        Err(reason) => HeatAnswer {
+            refusal: reason.number(),
             seconds: 0,
         },
     }

@@ -1,10 +1,8 @@
 -- For each answer on profiles and plans the struct that says it: the refusal's numbers and the values of the rules. In a refused
 -- answer all but those of the refusal are 0 (R26). Definitions only.
 use Rattle.std.specs.Prelude.{ℕ}
-use Rattle.profiles.specs.Answer.{lookup_refusal, found_of, weight_found}
-use Rattle.profiles.specs.declared.Finding.{Finding}
-use Rattle.better.specs.Answer.{join_refusal, points_written as points_joined}
-use Rattle.better.specs.declared.Joined.{Joined}
+use Rattle.profiles.specs.Answer.{Finding, lookup_refusal, found_of, weight_found}
+use Rattle.better.specs.Answer.{Joined, join_refusal, points_written as points_joined}
 use Rattle.extending.specs.Calls.{extend_refusal, points_written}
 use Rattle.planner.specs.Calls.{PlanNumbers, plan_numbers}
 use Rattle.planner.specs.declared.Planned.{Planned}
