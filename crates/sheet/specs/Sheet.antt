@@ -2,8 +2,7 @@
 -- that hold them, and which numbers a sheet of at most 10,000 orders can have (R46, R49). Definitions only.
 use Rattle.std.specs.Prelude.{ℕ, ◌+◌, ◌*◌, ◌≡◌, Bool, cond, ◌&&◌, List, [], ◌∷◌, ◌++◌, leb, ltb, eqb, length, get_or, set, take, drop, replicate}
 use Rattle.seconds.specs.Limits.{most_weight, most_jobs, most_points}
-use Rattle.planner.specs.declared.Planned.{Planned}
-use Rattle.planner.specs.declared.Planned.TheVariants.{Refused, Made}
+use Rattle.planner.specs.Calls.{Planned, Refused, Made}
 
 -- ---- the figures
 
