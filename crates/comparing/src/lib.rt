@@ -2,7 +2,8 @@
 // wrote, and counts of what was met. Every function is safe and ends.
 #![tactic(auto)]
 
-use careful::{all_are, at, front};
+use careful::{all_are, at, front, more};
+use pack::Packed;
 use packed::Refusal;
 
 // What lent numbers hold before a call, so that every number written shows.
@@ -13,17 +14,23 @@ const AREA: usize = 14_749;
 
 // The bytes of an order; an order that is refused has none.
 pub fn pack_order(t0: i32, numbers: &[i32], bytes: &mut [u8]) -> usize {
-    pack::pack(t0, numbers, bytes).unwrap_or(0)
+    match pack::pack(t0, numbers, bytes) {
+        Packed::Refused(_) => 0,
+        Packed::Bytes(written) => written,
+    }
 }
 
 // The kind of a packed order's records, which the last byte of its header says; without a header, none that there is.
 pub fn records_kind(bytes: &[u8]) -> u8 {
-    bytes.get(3).copied().unwrap_or(255)
+    if bytes.len() < 4 {
+        return 255;
+    }
+    bytes[3]
 }
 
 // Whether a refusal is this one at this place; none of the orders compared has a field out of range.
 pub fn says(refusal: Refusal, number: u32, place: usize) -> bool {
-    refusal.number() == number && refusal.place() == place && refusal.figure() == 0
+    (refusal.number == number) & (refusal.place == place) & (refusal.field == 0)
 }
 
 // Whether a call left the work area as it should, full of one number, and what is past it as it was.
@@ -45,6 +52,11 @@ pub fn no_choice(found: bool) -> u32 {
         return 0;
     }
     11
+}
+
+// Counts one more where something holds.
+pub fn count(so_far: &mut u64, holds: bool) {
+    *so_far = more(*so_far, holds as u64);
 }
 
 // Writes a count behind a word.
