@@ -99,13 +99,10 @@ fn put_jobs(out: &mut [u8], at: usize, bytes: &[u8], n: usize, starts: &[i32]) -
     ensures { Wrote out.old at (listed bytes.now starts.now n) out.new result }
 {
     let mut next = at;
-    let mut i = 0;
-    while i < n {
+    for i in 0..n {
         let job = job_in(bytes, i);
-        let number = job.number;
-        let start = starts[i];
-        next = put_job(out, next, number as u32, start);
-        i += 1;
+        let number = job.number as u32;
+        next = put_job(out, next, number, starts[i]);
     }
     next
 }

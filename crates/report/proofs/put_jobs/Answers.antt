@@ -31,17 +31,12 @@ few s = omega (arith, s.requires.count, s.requires.order.header.few)
 
 pub loop-i-init : goal.loop-i-init
 loop-i-init c =
-    (omega arith, omega arith, rw (listed-none c.args.bytes.now c.args.starts.now) (wrote_none (omega arith)))
+    (omega arith, rw (listed-none c.args.bytes.now c.args.starts.now) (wrote_none (omega arith)))
 
 pub job_in-job-requires : goal.job_in-job-requires
 job_in-job-requires c =
     let s = begun c in
     record-in s.args.bytes.now c.loop-i.i s.requires.order.header (omega (arith, s.requires.count))
-
-pub offset_bounds-starts-i : goal.offset_bounds-starts-i
-offset_bounds-starts-i c =
-    let s = begun (goal.at.offset_bounds-starts-i c).In-loop-i in
-    omega (arith, few s)
 
 pub bounds-starts-i : goal.bounds-starts-i
 bounds-starts-i c =
@@ -80,12 +75,7 @@ pub put_job-next-requires : goal.put_job-next-requires
 put_job-next-requires c =
     let after-job-in : After-job_in-job = (goal.at.put_job-next-requires c).After-job_in-job in
     let loop : At-loop-i = (goal.at.put_job-next-requires c).At-loop-i in
-    record { fits = omega (arith, (entry after-job-in).requires.room, loop.loop-i.invariant.2.kept) }
-
-pub overflow_add-i : goal.overflow_add-i
-overflow_add-i c =
-    let after-job-in : After-job_in-job = (goal.at.overflow_add-i c).After-job_in-job in
-    omega (arith, few (entry after-job-in))
+    record { fits = omega (arith, (entry after-job-in).requires.room, loop.loop-i.invariant.1.kept) }
 
 pub loop-i-preserved : goal.loop-i-preserved
 loop-i-preserved c =
@@ -97,13 +87,4 @@ loop-i-preserved c =
     let start_back = to_z-of_z {w = w32} {z = (get_or starts (place read) (pos 0))} (search rules) in
     let next : Wrote _ _ (job_line (job_in (bytes read) (place read)).number (get_or starts (place read) (pos 0))) _ _ =
     rw (number-there read, start_back) at put.put_job-next.ensures.wrote in
-    (omega arith, omega arith, rw (listed_more (bytes read) starts (place read) room) (wrote-more loop.invariant.2 next))
-
-pub shape_of-out : goal.shape_of-out
-shape_of-out c = c.loop-i.invariant.2.kept
-
-pub returns : goal.returns
-returns c =
-    let s : Start = (goal.at.returns c).Start in
-    let all : c.loop-i.i ≡ s.args.n = omega (arith, c.loop-i.invariant.0) in
-    rw all at c.loop-i.invariant.2
+    (omega arith, rw (listed_more (bytes read) starts (place read) room) (wrote-more loop.invariant.1 next))
