@@ -1,6 +1,6 @@
 -- The contract of each public call as a relation of its inputs and outcomes. Definitions only; that these relations are the
 -- contracts of the code is shown in Generated.
-use Rattle.std.specs.Prelude.{ℕ, ◌≡◌, refl, Bool, true, false, List, ◌++◌, eqb, ltb, ℤ, length, drop, Result, Ok, Err, is_err, ⊤}
+use Rattle.std.specs.Prelude.{ℕ, ◌≡◌, refl, Bool, true, false, List, ◌++◌, eqb, ℤ, length, drop, Result, Ok, Err, is_err, ⊤}
 use Rattle.std.specs.Borrow.{Bor}
 use Rattle.refusals.specs.declared.Reason.{Reason}
 use Rattle.profiles.specs.Answer.{Finding, lookup_of}

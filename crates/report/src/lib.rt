@@ -16,11 +16,11 @@ use starting::LEFT_OUT;
 use text::Writer;
 
 // The bytes between the figures of a line and at its end, and the one for a job that is left out.
-const SPACE: u8 = 32;
+const SPACE: u8 = b' ';
 
-const NEWLINE: u8 = 10;
+const NEWLINE: u8 = b'\n';
 
-const MINUS: u8 = 45;
+const MINUS: u8 = b'-';
 
 // The most jobs of an order.
 const MOST_JOBS: usize = 48;
