@@ -6,7 +6,7 @@ use crate::lines::{between, place_of};
 use careful::{at, first_other};
 use fields::Job;
 use packed::Refusal;
-use reader::{Moved, Opened, Read};
+use reader::Moved;
 
 // A word.
 pub fn put_word(word: &[u8]) {
@@ -46,9 +46,9 @@ pub fn put_refused_field(number: u32, field: u32) {
 
 // A refusal, its place and its field.
 pub fn put_refusal(refusal: Refusal) {
-    put_refused(refusal.number);
-    put_count(refusal.place as u64);
-    put_count(refusal.field as u64);
+    put_refused(refusal.number());
+    put_count(refusal.place() as u64);
+    put_count(refusal.figure() as u64);
 }
 
 // The number at a place; of ten and more of one kind how many they are. Returns the place past them.
@@ -124,20 +124,19 @@ fn put_job(job: Job) {
 }
 
 // What opening a reader gave.
-pub fn put_opened(opened: Opened) {
+pub fn put_opened(opened: Result<usize, Refusal>) {
     match opened {
-        Opened::Accepted(count) => put_count(count as u64),
-        Opened::Refused(number) => put_refused(number),
+        Ok(count) => put_count(count as u64),
+        Err(refusal) => put_refused(refusal.number()),
     }
 }
 
 // What a step of a reader gave, and the place after it.
 pub fn put_moved(moved: Moved) {
-    let answer = moved.answer;
-    match answer {
-        Read::Job(job) => put_job(job),
-        Read::End => put_word(b" end"),
-        Read::Refused(refusal) => put_refusal(refusal),
+    match moved.answer {
+        Ok(Some(job)) => put_job(job),
+        Ok(None) => put_word(b" end"),
+        Err(refusal) => put_refusal(refusal),
     }
     put_count(moved.place as u64);
 }

@@ -5,18 +5,18 @@ use case_lines::{
     count_setting, part, put, put_buffer, put_bytes, put_count, put_refusal, put_refused,
     read_numbers, setting,
 };
-use framing::Framed;
-use pack::Packed;
+use framing::FrameOrder;
+use packed::Refusal;
 use unpack::Unpacked;
 
 // What unpacking answered.
-fn put_unpacked(answer: Unpacked) {
+fn put_unpacked(answer: Result<Unpacked, Refusal>) {
     match answer {
-        Unpacked::Refused(refusal) => put_refusal(refusal),
-        Unpacked::Jobs(jobs, t0) => {
-            put_count(jobs as u64);
-            put(t0);
+        Ok(unpacked) => {
+            put_count(unpacked.jobs as u64);
+            put(unpacked.t0);
         }
+        Err(refusal) => put_refusal(refusal),
     }
 }
 
@@ -29,10 +29,10 @@ fn unpack(line: &[u8], bytes: &[u8]) {
 }
 
 // What packing answered.
-pub fn put_packed(answer: Packed) {
+pub fn put_packed(answer: Result<usize, Refusal>) {
     match answer {
-        Packed::Refused(refusal) => put_refusal(refusal),
-        Packed::Bytes(written) => put_count(written as u64),
+        Ok(written) => put_count(written as u64),
+        Err(refusal) => put_refusal(refusal),
     }
 }
 
@@ -47,13 +47,13 @@ fn pack(line: &[u8]) {
 }
 
 // What making a frame's order answered.
-fn put_framed(answer: Framed) {
+fn put_framed(answer: Result<FrameOrder, Refusal>) {
     match answer {
-        Framed::Refused(refusal) => put_refusal(refusal),
-        Framed::Made(made) => {
+        Ok(made) => {
             put_count(made.bytes as u64);
             put_count(made.frame as u64);
         }
+        Err(refusal) => put_refusal(refusal),
     }
 }
 

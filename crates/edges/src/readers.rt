@@ -16,10 +16,8 @@ fn step(line: &[u8], order: &[u8]) {
 // `read`: a reader is opened over an order, and takes a step from a place.
 fn read(line: &[u8], order: &[u8]) {
     let reading = reader_struct::read_at(order, place_setting(line, b't'));
-    let opened = reading.opened;
-    let moved = reading.moved;
-    put_opened(opened);
-    put_moved(moved);
+    put_opened(reading.opened);
+    put_moved(reading.moved);
 }
 
 // Runs a case that is for one of these calls; false for any other.
