@@ -1,6 +1,6 @@
 -- Over the calls: whatever an outcome of the writer that its contract allows has written, every outcome of Legal and of Best on it
 -- says yes. Each call stands with any arguments, its answer, and its parameters at exit.
-use Rattle.std.specs.Prelude.{ℕ, ◌≤◌, ◌≡◌, refl, true, List, ℤ, length, take}
+use Rattle.std.specs.Prelude.{ℕ, ◌≤◌, ◌≡◌, refl, true, List, ℤ, length, take, Ok}
 use Rattle.std.proofs.Common.{◌∙◌}
 use contract.Lifetimes.{Lfts}
 use denote.Triple.Clauses.{AtExit}
@@ -21,7 +21,6 @@ use Rattle.best_plan.proofs.best.Reads as best-reads
 use Rattle.plan_writer.specs.Calls.{bytes_for}
 use Rattle.plan_writer.specs.OwnPlans.{OwnPlan, own-plan}
 use Rattle.plan_writer.specs.Answers.{PlanWritten, plan-written}
-use Rattle.pack.specs.declared.Packed.TheVariants.{Bytes}
 use Rattle.plan_writer.specs.contracts.write_plan as write
 use Rattle.plan_writer.proofs.write_plan.Reads as write-reads
 use Rattle.own_plans.specs.Own.{own-accepted, own-legal, own-best}
@@ -34,7 +33,7 @@ best-passed order plan work e room =
     (stages-fine (legal_checks order plan) (room_checks area (length work))).1 (e, (room-fine area (length work)).1 room)
 
 -- A call of the writer that answers with a number of bytes.
-module _ (κs : Lfts 3) (a : Args write.signature κs) (k : ℕ) (x : AtExit write.ended κs) (h : write-reads.Post κs a (Bytes k) x) where
+module _ (κs : Lfts 3) (a : Args write.signature κs) (k : ℕ) (x : AtExit write.ended κs) (h : write-reads.Post κs a (Ok k) x) where
   abbrev order : List ℕ
   order = a.0.now
 

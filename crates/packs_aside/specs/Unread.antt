@@ -3,7 +3,7 @@
 use Rattle.std.specs.Prelude.{ℕ, ◌≡◌, List, ℤ}
 use Rattle.packed.specs.Judge.{fine, judge}
 use Rattle.packed.specs.Refusals.{order_checks}
-use Rattle.pack.specs.declared.Packed.{Packed}
+use Rattle.pack.specs.Answer.{Packed}
 use Rattle.checking.specs.declared.Checked.{Checked}
 use Rattle.checking.proofs.legal.Reads as legal
 use Rattle.extending.specs.declared.Extended.{Extended}

@@ -11,7 +11,7 @@ use Rattle.packed.specs.Packed.{count_of, order_of}
 use Rattle.packed.specs.Refusals.{order_checks}
 use Rattle.packed_plan.specs.Plan.{kept_in}
 use Rattle.legal.specs.Legal.{weight_kept}
-use Rattle.pack.specs.declared.Packed.{Packed}
+use Rattle.pack.specs.Answer.{Packed}
 use Rattle.planner.specs.declared.Planned.{Planned}
 use Rattle.planner.specs.Calls.{plan_verdict, planned_by, starts_by}
 use Rattle.halves.specs.declared.HalvesPlanned.{HalvesPlanned}
