@@ -10,7 +10,7 @@ ghost use Rattle.report.specs.Writing.{front_words, kept_words, CanRefuse, CanLi
 use area::AREA;
 use fields::{header_at, job_in};
 use packed::Refusal;
-use planner::{Figures, Planned, plan};
+use planner::{Figures, plan};
 use starting::LEFT_OUT;
 use text::{put_byte, put_figure, put_number};
 
@@ -42,8 +42,8 @@ pub fn put_refusal(out: &mut [u8], refusal: Refusal) -> usize
     requires { CanRefuse refusal out.old }
     ensures { Wrote out.old 0 (refusal_line refusal) out.new result }
 {
-    let next = put_front(out, refusal.number, refusal.place as u32);
-    put_figure(out, next, refusal.field, NEWLINE)
+    let next = put_front(out, refusal.number(), refusal.place() as u32);
+    put_figure(out, next, refusal.figure(), NEWLINE)
 }
 
 // How many jobs are kept, and the weights kept and lost, a space behind each: at most 33 bytes.
@@ -127,8 +127,8 @@ fn plan_and_tell(bytes: &[u8], starts: &mut [i32], work: &mut [i32], out: &mut [
     ensures { Wrote out.old 0 (report_of bytes.now) out.new result }
 {
     match plan(bytes, starts, work) {
-        Planned::Refused(refusal) => put_refusal(out, refusal),
-        Planned::Made(figures) => tell_plan(bytes, figures, starts, out),
+        Ok(figures) => tell_plan(bytes, figures, starts, out),
+        Err(refusal) => put_refusal(out, refusal),
     }
 }
 
