@@ -1,5 +1,5 @@
 -- The laws of one order more: the figures of an answer as numbers, that they can be joined, and what the calls leave.
-use Rattle.std.specs.Prelude.{ℕ, ◌≤◌, ◌<◌, ◌≡◌, refl, Bool, true, false, ◌&&◌, List, [], ◌∷◌, ltb, leb, ℤ, length, get_or, set, drop, replicate}
+use Rattle.std.specs.Prelude.{ℕ, ◌≤◌, ◌<◌, ◌≡◌, refl, Bool, true, false, ◌&&◌, List, [], ◌∷◌, ltb, leb, ℤ, length, get_or, set, drop, replicate, Ok, Err}
 use Rattle.std.proofs.Common.{sym, ◌∙◌, arith, length-append, get_or-take}
 use Rattle.std.proofs.Math.Path.{ap}
 use Rattle.std.proofs.Math.Bool.{and-eq-true_iff}
@@ -7,6 +7,7 @@ use Rattle.std.proofs.Math.Option.{Option}
 use Rattle.std.proofs.lemmas.List.{set-append_left}
 use borrow.Author.Tests.{le-leb, lt-leb}
 use borrow.Table.Steps.{cases}
+use Rattle.refusals.specs.declared.Reason.TheVariants.{BufferTooShort, NoSheet}
 use Rattle.packed.specs.declared.Refusal.{Refusal}
 use Rattle.packed.specs.Judge.{Verdict, fine, refused}
 use Rattle.packed.specs.Packed.{order_of}
@@ -131,11 +132,11 @@ takes-says figures work room space e =
     record { long = room; fitting = fitting-passes (sheet_in figures) s.1; few = s.0; space = space }
 
 module _ (figures bytes : List ℕ) (work : List ℤ) where
-  pub figures-short : length figures < 26 → AddCall figures bytes work 10 figures work
+  pub figures-short : length figures < 26 → AddCall figures bytes work (Err BufferTooShort) figures work
   unfolding add_refusal add_after add_work_after
   figures-short h = let e = lt-leb 26 (length figures) h in record { answer = rw e; lent = rw e; area = rw e }
 
-  pub work-short : length work < area → AddCall figures bytes work 10 figures work
+  pub work-short : length work < area → AddCall figures bytes work (Err BufferTooShort) figures work
   unfolding add_refusal add_after add_work_after
   work-short h =
       let e = lt-leb area (length work) h in
@@ -144,7 +145,7 @@ module _ (figures bytes : List ℕ) (work : List ℤ) where
       (λ d. record { answer = rw d; lent = rw d; area = rw d })
 
   module _ (room : 26 ≤ length figures) (space : area ≤ length work) where
-    pub add-refused : takes_one (sheet_in figures) ≡ false → AddCall figures bytes work 18 figures work
+    pub add-refused : takes_one (sheet_in figures) ≡ false → AddCall figures bytes work (Err NoSheet) figures work
     unfolding add_refusal add_after add_work_after
     add-refused e =
         let a = le-leb 26 (length figures) room in
@@ -152,7 +153,7 @@ module _ (figures bytes : List ℕ) (work : List ℤ) where
         record { answer = rw (a, b, e); lent = rw (a, b, e); area = rw (a, b, e) }
 
     pub add_done : takes_one (sheet_in figures) ≡ true → (figures' : List ℕ) → figures' ≡ sheet_over (with_order (sheet_in figures) bytes) figures
-        → (work' : List ℤ) → work' ≡ cleared work → AddCall figures bytes work 0 figures' work'
+        → (work' : List ℤ) → work' ≡ cleared work → AddCall figures bytes work (Ok tt) figures' work'
     unfolding add_refusal add_after add_work_after
     add_done e figures' is work' clears =
         let a = le-leb 26 (length figures) room in

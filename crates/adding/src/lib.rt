@@ -13,6 +13,7 @@ ghost use Rattle.adding.specs.Adding.{CanAdd, Added, Numbered, Light, Countable}
 use area::{AREA, clear};
 use packed::Refusal;
 use planner::{Figures, plan};
+use refusals::Reason;
 use sheet::{FEASIBLE, FIGURES, JOBS, KEPT, MOST, OFFERED, TOP, is_sheet, join_into, none};
 
 // The most jobs of an order.
@@ -73,10 +74,9 @@ fn add_cleared(figures: &mut [u32], bytes: &[u8], work: &mut [i32])
     ensures clears { work.new ≡ cleared work.old }
 {
     let clean = add_into(figures, bytes, work);
-    if clean {
-        return;
+    if !clean {
+        clear(work);
     }
-    clear(work);
 }
 
 // Whether the numbers are a sheet's that has room for one order more.
@@ -84,24 +84,19 @@ fn takes_one(figures: &[u32]) -> bool
     requires { figure_count ≤ length figures.now }
     ensures { result ≡ takes_one (sheet_in figures.now) }
 {
-    let many = figures[0];
-    let known = is_sheet(figures);
-    known & (many < MOST)
+    is_sheet(figures) && figures[0] < MOST
 }
 
-// The same for any numbers and room. Returns the refusal: 10 with too little room, 18 for no sheet or a full one, 0 for none.
-pub fn add(figures: &mut [u32], bytes: &[u8], work: &mut [i32]) -> u32
+// The same for any numbers and room. Refused with too little room, and for no sheet or a full one.
+pub fn add(figures: &mut [u32], bytes: &[u8], work: &mut [i32]) -> Result<(), Reason>
     ensures { AddCall figures.old bytes.now work.old result figures.new work.new }
 {
-    if figures.len() < FIGURES {
-        return 10;
+    if figures.len() < FIGURES || work.len() < AREA {
+        return Err(Reason::BufferTooShort);
     }
-    if work.len() < AREA {
-        return 10;
+    if !takes_one(figures) {
+        return Err(Reason::NoSheet);
     }
-    if takes_one(figures) {
-        add_cleared(figures, bytes, work);
-        return 0;
-    }
-    18
+    add_cleared(figures, bytes, work);
+    Ok(())
 }

@@ -1,6 +1,6 @@
 -- Laws of clearing: number by number, and that the cleared area depends on what is behind it alone.
-use Rattle.std.specs.Prelude.{ℕ, zero, suc, ◌+◌, ◌≤◌, ◌<◌, ◌≡◌, refl, List, [], ◌∷◌, ◌++◌, ℤ, pos, length, drop, set, replicate}
-use Rattle.std.proofs.Common.{ap, arith, length-append, drop_at}
+use Rattle.std.specs.Prelude.{ℕ, zero, suc, ◌+◌, ◌≤◌, ◌<◌, ◌≡◌, refl, List, [], ◌∷◌, ◌++◌, ℤ, pos, length, take, drop, set, replicate}
+use Rattle.std.proofs.Common.{ap, arith, length-append, length-take-le, drop_at}
 use Rattle.std.proofs.lemmas.List.{length-replicate}
 use Rattle.area.specs.Area.{area, cleared_to, cleared}
 
@@ -49,3 +49,9 @@ cleared-next k l h = let e : k + 1 ≡ suc k = omega arith in rw e (zeros-next k
 pub cleared-all : (k : ℕ) (l : List ℤ) → k ≡ area → cleared_to k l ≡ cleared l
 unfolding cleared
 cleared-all k l e = ap (λ (n : ℕ). cleared_to n l) e
+
+-- Zeros for the front of an area clear it.
+pub cleared-front : (front l : List ℤ) → area ≤ length l → front ≡ replicate (length (take area l)) (pos 0)
+    → front ++ drop area l ≡ cleared l
+unfolding cleared cleared_to
+cleared-front front l h e = rw (e, length-take-le area l h)

@@ -12,9 +12,5 @@ pub fn clear(work: &mut [i32])
     requires { area ≤ length work.old }
     ensures { work.new ≡ cleared work.old }
 {
-    let mut k = 0;
-    while k < AREA {
-        work[k] = 0;
-        k += 1;
-    }
+    work[..AREA].fill(0);
 }

@@ -3,8 +3,7 @@ use mathlib.Core.List.{List}
 use contract.Lifetimes.{Lfts}
 use lib.IntN.{ℤ}
 use Rattle.seconds.specs.Determined.{Determines, determined, two}
-use Rattle.better.specs.Answer.{joined_of, out_after}
-use Rattle.better.specs.declared.Joined.{Joined}
+use Rattle.better.specs.Answer.{Joined, joined_of, out_after}
 use Rattle.better.proofs.better_of.Reads as better-of
 
 pub better-of-determined : (κs : Lfts 3) → Determines {Z = Joined × List ℤ} (better-of.Post κs) (λ r x. (r, x.1.1.0.now))

@@ -1,12 +1,17 @@
 -- The answer of better-of and the lent numbers after the call, for every input, and its numbers for each case (R14, R26).
 -- Definitions only.
-use Rattle.std.specs.Prelude.{ℕ, cond, List, ltb, ℤ, length}
+use Rattle.std.specs.Prelude.{ℕ, cond, List, ltb, ℤ, length, Result, Ok, Err}
 use Rattle.std.proofs.Math.Option.{Option, none, some}
+use Rattle.refusals.specs.Numbers.{number_of}
+use Rattle.refusals.specs.declared.Reason.{Reason}
+use Rattle.refusals.specs.declared.Reason.TheVariants.{ProfileNotValid, BufferTooShort}
 use Rattle.order.specs.Job.{Point}
 use Rattle.profile.specs.Profile.{better_of}
 use Rattle.profiles.specs.Numbers.{most_numbers, alternating, profile_in, written_over}
-use Rattle.better.specs.declared.Joined.{Joined}
-use Rattle.better.specs.declared.Joined.TheVariants.{NotValid, NoRoom, Points}
+
+-- The points written, or why none are.
+abbrev pub Joined : Type 0
+Joined = Result ℕ Reason
 
 -- The better of two profiles; none unless both are there.
 abbrev pub better_in : Option (List Point) → Option (List Point) → Option (List Point)
@@ -16,8 +21,8 @@ better_in (some ps) (some qs) = some (better_of ps qs)
 
 -- The answer for it, with so much room.
 abbrev pub joined_in : Option (List Point) → ℕ → Joined
-joined_in none room = NotValid
-joined_in (some ps) room = cond (ltb room most_numbers) NoRoom (Points (length ps))
+joined_in none room = Err ProfileNotValid
+joined_in (some ps) room = cond (ltb room most_numbers) (Err BufferTooShort) (Ok (length ps))
 
 -- The lent numbers after the call.
 abbrev pub out_in : Option (List Point) → List ℤ → List ℤ
@@ -33,12 +38,10 @@ out_after p q out = out_in (better_in (profile_in p) (profile_in q)) out
 
 -- The refusal number that stands for each case,
 abbrev pub join_refusal : Joined → ℕ
-join_refusal NotValid = 8
-join_refusal NoRoom = 10
-join_refusal (Points n) = 0
+join_refusal (Err r) = number_of r
+join_refusal (Ok n) = 0
 
 -- and the points written.
 abbrev pub points_written : Joined → ℕ
-points_written NotValid = 0
-points_written NoRoom = 0
-points_written (Points n) = n
+points_written (Err r) = 0
+points_written (Ok n) = n

@@ -1,18 +1,17 @@
 -- What the code of better-of learns on its way, as the answer of the call and the lent numbers after it.
-use Rattle.std.specs.Prelude.{ℕ, ◌*◌, ◌/◌, ◌≤◌, ◌<◌, ◌≡◌, refl, true, false, List, ltb, ℤ, length, take, drop}
+use Rattle.std.specs.Prelude.{ℕ, ◌*◌, ◌/◌, ◌≤◌, ◌<◌, ◌≡◌, refl, true, false, List, ltb, ℤ, length, take, drop, Ok, Err}
 use Rattle.std.proofs.Common.{ap, ap₂, ◌∙◌, arith, take_at}
 use Rattle.std.proofs.Math.Option.{Option, none, some}
 use Rattle.seconds.specs.Signed.{signed}
+use Rattle.refusals.specs.declared.Reason.TheVariants.{ProfileNotValid, BufferTooShort}
 use Rattle.order.specs.Job.{Point}
 use Rattle.profile.specs.Profile.{better_of}
 use Rattle.profile.proofs.Closure.{valid-better_of}
 use Rattle.profiles.specs.Numbers.{most_numbers, alternating, profile_in, holds_profile, written_over}
 use Rattle.profiles.specs.Places.{points_of}
 use Rattle.profiles.specs.NumbersLaws.{alternating-length, profile-back, profile-holds, profile-there, profile-not}
-use Rattle.better.specs.Answer.{better_in, joined_in, out_in, joined_of, out_after, points_written}
+use Rattle.better.specs.Answer.{Joined, better_in, joined_in, out_in, joined_of, out_after, points_written}
 use Rattle.better.specs.Merging.{Joinable, Merged}
-use Rattle.better.specs.declared.Joined.{Joined}
-use Rattle.better.specs.declared.Joined.TheVariants.{NotValid, NoRoom, Points}
 
 module _ (p q was : List ℤ) where
   -- The answer and the lent numbers after the call are as they should be.
@@ -24,11 +23,11 @@ module _ (p q was : List ℤ) where
   joins-by o e = rw e (refl, refl)
 
   -- The first is no valid profile,
-  pub joins-first-not : holds_profile p ≡ false → Joins NotValid was
+  pub joins-first-not : holds_profile p ≡ false → Joins (Err ProfileNotValid) was
   joins-first-not e = joins-by none (ap (λ (o : Option (List Point)). better_in o (profile_in q)) (profile-not p e))
 
   -- or the second is none.
-  pub joins-second-not : holds_profile q ≡ false → Joins NotValid was
+  pub joins-second-not : holds_profile q ≡ false → Joins (Err ProfileNotValid) was
   joins-second-not e = joins-by none (ap (better_in (profile_in p)) (profile-not q e) ∙ go (profile_in p))
     where
       go : (o : Option (List Point)) → better_in o none ≡ none
@@ -41,13 +40,13 @@ module _ (p q was : List ℤ) where
   both-valid e f = ap₂ better_in (profile-there p e) (profile-there q f)
 
   -- and the room is too little,
-  pub joins-no-room : holds_profile p ≡ true → holds_profile q ≡ true → length was < most_numbers → Joins NoRoom was
+  pub joins-no-room : holds_profile p ≡ true → holds_profile q ≡ true → length was < most_numbers → Joins (Err BufferTooShort) was
   joins-no-room e f h =
       let short : ltb (length was) most_numbers ≡ true = omega signed in
       rw short at (joins-by (some (better_of (points_of p) (points_of q))) (both-valid e f))
 
   -- or the better of them is written.
-  pub joins-written : (n : ℕ) (out : List ℤ) → Joinable p q was → Merged p q was n out → Joins (Points (n / 2)) out
+  pub joins-written : (n : ℕ) (out : List ℤ) → Joinable p q was → Merged p q was n out → Joins (Ok (n / 2)) out
   joins-written n out g m =
       let better = better_of (points_of p) (points_of q) in
       let room = g.room in

@@ -8,15 +8,7 @@ ghost use Rattle.better.specs.Answer.{joined_of, out_after};
 ghost use Rattle.better.specs.Merging.{first_goes_at, Joinable, Merged};
 
 use profiles::{MOST_NUMBERS, valid};
-
-// What joining two profiles gives: one of them not valid (refusal 8), too little room (refusal 10), or
-// the number of points written.
-#[derive(Clone, Copy)]
-pub enum Joined {
-    NotValid,
-    NoRoom,
-    Points(usize),
-}
+use refusals::Reason;
 
 // The weight below all.
 const BELOW_ALL: i32 = -1;
@@ -48,9 +40,10 @@ fn merge(p: &[i32], q: &[i32], out: &mut [i32]) -> usize
     let mut j = 0;
     let mut n = 0;
     let mut last = BELOW_ALL;
+    // By turns from either profile, so no `for` fits.
     while i < p.len() || j < q.len() {
-        let mut time = 0;
-        let mut weight = 0;
+        let time;
+        let weight;
         if first_goes(p, i, q, j) {
             time = p[i];
             weight = p[i + 1];
@@ -70,20 +63,16 @@ fn merge(p: &[i32], q: &[i32], out: &mut [i32]) -> usize
     n
 }
 
-// The better of two profiles, written to the front of `out`; what is past it stays.
-pub fn better_of(p: &[i32], q: &[i32], out: &mut [i32]) -> Joined
+// The better of two profiles, written to the front of `out`; what is past it stays. How many points it has.
+pub fn better_of(p: &[i32], q: &[i32], out: &mut [i32]) -> Result<usize, Reason>
     ensures answer { result ≡ joined_of p.now q.now out.old }
     ensures lent { out.new ≡ out_after p.now q.now out.old }
 {
-    if !valid(p) {
-        return Joined::NotValid;
-    }
-    if !valid(q) {
-        return Joined::NotValid;
+    if !valid(p) || !valid(q) {
+        return Err(Reason::ProfileNotValid);
     }
     if out.len() < MOST_NUMBERS {
-        return Joined::NoRoom;
+        return Err(Reason::BufferTooShort);
     }
-    let written = merge(p, q, out);
-    Joined::Points(written / 2)
+    Ok(merge(p, q, out) / 2)
 }

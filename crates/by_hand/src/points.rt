@@ -1,12 +1,18 @@
 // Profiles by trial: the outcomes of all choices gathered, and from them, or from the points of two
-// profiles, the points at which the greatest weight to be had rises.
+// profiles, the points at which the greatest weight to be had rises. An outcome or a point is a pair, of its
+// time and its weight.
 ghost use Rattle.std.specs.Prelude.{◌≤◌};
 
-use crate::choices::{Outcome, choices, run, tally_of};
-use careful::{at, more, plus, put};
+use crate::choices::{choices, run, tally_of};
+use careful::{front, jobs_of, more, plus, put};
 
-// The most outcomes that are gathered: those of four points and ten jobs.
-const MOST: usize = 4096;
+// The most outcomes of a profile's extension, of two profiles' points and of an order's choices: those of four
+// points and ten jobs, of 301 points twice, and of ten jobs.
+const EXTENDED: usize = 4096;
+
+const JOINED: usize = 602;
+
+const RUN: usize = 1024;
 
 // The most points and numbers of a profile, the second before its earliest time, its latest time and its
 // greatest weight.
@@ -20,250 +26,190 @@ const LATEST: i32 = 100_015;
 
 const HEAVIEST: i32 = 300;
 
-// What is reached by a time: the greatest weight of the outcomes or points at or before it, -1 where there
-// is none, and the earliest time of those that have it.
+// What is reached by a time: the greatest weight of the outcomes or points at or before it, and the earliest
+// time of those that have it.
 #[derive(Clone, Copy)]
 pub struct Reached {
     pub weight: i32,
     pub time: i32,
 }
 
-// The time of an outcome or a point.
-fn time_of(pairs: &[i32], place: usize) -> i32 {
-    if place < MOST {
-        return at(pairs, 2 * place);
-    }
-    0
-}
-
-// The weight of an outcome or a point.
-fn weight_of(pairs: &[i32], place: usize) -> i32 {
-    if place < MOST {
-        return at(pairs, 2 * place + 1);
-    }
-    0
-}
-
-// Puts a pair behind those gathered. Returns how many there are.
-fn put_pair(pairs: &mut [i32], many: usize, time: i32, weight: i32) -> usize {
-    if many < MOST {
-        put(pairs, 2 * many, time);
-        put(pairs, 2 * many + 1, weight);
-        return many + 1;
-    }
-    many
-}
-
-// Puts a feasible outcome, with the weight of the point it was run from, behind those gathered.
-fn put_outcome(pairs: &mut [i32], many: usize, outcome: Outcome, before: i32) -> usize {
-    if outcome.feasible {
-        return put_pair(pairs, many, outcome.free, plus(before, outcome.weight));
-    }
-    many
-}
-
-// Every choice of the first so many jobs run from a point, behind what is gathered.
-fn gather(
-    numbers: &[i32],
-    jobs: usize,
-    time: i32,
-    weight: i32,
-    pairs: &mut [i32],
+// The pairs gathered: the first so many of a room.
+#[derive(Drop)]
+struct Gathered<const ROOM: usize> {
+    pairs: [[i32; 2]; ROOM],
     many: usize,
-) -> usize {
-    let end = choices(jobs);
-    let mut count = many;
-    let mut choice = 0;
-    while choice < end {
-        count = put_outcome(pairs, count, run(numbers, jobs, time, choice), weight);
-        choice += 1;
-    }
-    count
 }
 
-// Every choice run from every point of a profile, behind what is gathered. An order of no jobs gathers the
-// points themselves.
-fn gather_all(profile: &[i32], numbers: &[i32], pairs: &mut [i32], many: usize) -> usize {
-    let points = profile.len() / 2;
-    let jobs = numbers.len() / 7;
-    let mut count = many;
-    let mut i = 0;
-    while i < points {
-        count = gather(
-            numbers,
-            jobs,
-            time_of(profile, i),
-            weight_of(profile, i),
-            pairs,
-            count,
-        );
-        i += 1;
-    }
-    count
-}
-
-// Whether a pair above a weight comes before the pair found so far: earlier, or as early and heavier.
-fn comes_first(pairs: &[i32], place: usize, found: usize, many: usize, above: i32) -> bool {
-    let weight = weight_of(pairs, place);
-    if weight <= above {
-        return false;
-    }
-    if found >= many {
-        return true;
-    }
-    let time = time_of(pairs, place);
-    let other = time_of(pairs, found);
-    (time < other) | ((time == other) & (weight_of(pairs, found) < weight))
-}
-
-// The earliest pair above a weight, the heaviest of those; where there is none, how many pairs there are.
-fn next_rise(pairs: &[i32], many: usize, above: i32) -> usize {
-    let mut found = many;
-    let mut i = 0;
-    while i < many {
-        if comes_first(pairs, i, found, many, above) {
-            found = i;
+impl<const ROOM: usize> Gathered<ROOM> {
+    // None as yet.
+    fn new() -> Gathered<ROOM> {
+        Gathered {
+            pairs: [[0; 2]; ROOM],
+            many: 0,
         }
-        i += 1;
     }
-    found
+
+    // All that are gathered.
+    fn all(&self) -> &[[i32; 2]] {
+        front(&self.pairs, self.many)
+    }
+
+    // One more; in a full room nothing is written.
+    fn put(&mut self, pair: [i32; 2]) {
+        if self.many < ROOM {
+            self.pairs[self.many] = pair;
+            self.many += 1;
+        }
+    }
+
+    // What every choice of jobs comes to, run from a point.
+    fn put_run(&mut self, jobs: &[[i32; 7]], [time, weight]: [i32; 2]) {
+        for choice in 0..choices(jobs.len()) {
+            let outcome = run(jobs, time, choice);
+            if outcome.feasible {
+                self.put([outcome.free, plus(weight, outcome.weight)]);
+            }
+        }
+    }
+
+    // The same from every point of a profile. No jobs gather the points themselves.
+    fn put_runs(&mut self, profile: &[i32], jobs: &[[i32; 7]]) {
+        for point in points_of(profile) {
+            self.put_run(jobs, *point);
+        }
+    }
 }
 
-// The profile of the pairs gathered: a point at each time at which the greatest weight by then rises.
-// Returns how many points there are.
-fn write_profile(pairs: &[i32], many: usize, out: &mut [i32]) -> usize
+// The numbers of a profile, point by point.
+fn points_of(profile: &[i32]) -> &[[i32; 2]] {
+    profile.as_chunks().0
+}
+
+// Whether a pair comes before another: earlier, or as early and heavier.
+fn comes_first([time, weight]: [i32; 2], [other_time, other_weight]: [i32; 2]) -> bool {
+    time < other_time || (time == other_time && weight > other_weight)
+}
+
+// The earliest pair above a weight, the heaviest of those.
+fn next_rise(pairs: &[[i32; 2]], above: i32) -> Option<[i32; 2]> {
+    let mut first: Option<[i32; 2]> = None;
+    for pair in pairs {
+        if pair[1] > above && first.is_none_or(|other| comes_first(*pair, other)) {
+            first = Some(*pair);
+        }
+    }
+    first
+}
+
+// The profile of pairs: a point at each time at which the greatest weight by then rises. Returns how many
+// points there are.
+fn write_profile(pairs: &[[i32; 2]], out: &mut [i32]) -> usize
     ensures { result ≤ 301 }
 {
     let mut above = -1;
-    let mut points = 0;
-    while points < POINTS {
-        let next = next_rise(pairs, many, above);
-        if next >= many {
-            return points;
-        }
-        above = weight_of(pairs, next);
-        put(out, 2 * points, time_of(pairs, next));
-        put(out, 2 * points + 1, above);
-        points += 1;
+    for point in 0..POINTS {
+        let Some(next) = next_rise(pairs, above) else {
+            return point;
+        };
+        let [time, weight] = next;
+        put(out, 2 * point, time);
+        put(out, 2 * point + 1, weight);
+        above = weight;
     }
-    points
+    POINTS
 }
 
 // A profile extended by an order. Returns how many points there are.
 pub fn extend(profile: &[i32], numbers: &[i32], out: &mut [i32]) -> usize
     ensures { result ≤ 301 }
 {
-    let mut pairs = [0; 8192];
-    let many = gather_all(profile, numbers, &mut pairs, 0);
-    write_profile(&pairs, many, out)
+    let mut gathered = Gathered::<EXTENDED>::new();
+    gathered.put_runs(profile, jobs_of(numbers));
+    write_profile(gathered.all(), out)
 }
 
 // The better of two profiles. Returns how many points there are.
 pub fn join(one: &[i32], other: &[i32], out: &mut [i32]) -> usize
     ensures { result ≤ 301 }
 {
-    let mut pairs = [0; 1204];
-    let some = gather_all(one, &one[0..0], &mut pairs, 0);
-    let many = gather_all(other, &other[0..0], &mut pairs, some);
-    write_profile(&pairs, many, out)
+    let mut gathered = Gathered::<JOINED>::new();
+    gathered.put_runs(one, &[]);
+    gathered.put_runs(other, &[]);
+    write_profile(gathered.all(), out)
 }
 
-// How many points the profile of the first so many jobs has.
-fn points_after(numbers: &[i32], jobs: usize, t0: i32) -> usize {
-    let mut pairs = [0; 2048];
-    let mut out = [0; 602];
-    let many = gather(numbers, jobs, t0, 0, &mut pairs, 0);
-    write_profile(&pairs, many, &mut out)
+// How many points the profile of jobs has.
+fn points_after(jobs: &[[i32; 7]], t0: i32) -> usize {
+    let mut gathered = Gathered::<RUN>::new();
+    gathered.put_run(jobs, [t0, 0]);
+    write_profile(gathered.all(), &mut [])
 }
 
 // The points after each job, summed.
 pub fn point_total(numbers: &[i32], t0: i32) -> u64 {
-    let jobs = numbers.len() / 7;
+    let jobs = jobs_of(numbers);
     let mut total = 0;
-    let mut k = 0;
-    while k < jobs {
-        k += 1;
-        total = more(total, points_after(numbers, k, t0) as u64);
+    for k in 0..jobs.len() {
+        total = more(total, points_after(&jobs[..=k], t0) as u64);
     }
     total
 }
 
-// What is reached by a time with a pair too: a heavier one counts, and of the same weight an earlier one.
-fn with_pair(so_far: Reached, time: i32, weight: i32, t: i32) -> Reached {
-    let heavier = so_far.weight < weight;
-    let sooner = (so_far.weight == weight) & (time < so_far.time);
-    if (time <= t) & (heavier | sooner) {
-        return Reached {
-            weight: weight,
-            time: time,
-        };
+// What is reached with a pair too: a heavier one counts, and of the same weight an earlier one.
+fn with_pair(so_far: Option<Reached>, [time, weight]: [i32; 2]) -> Reached {
+    let new = Reached { weight, time };
+    let Some(old) = so_far else { return new };
+    let sooner = weight == old.weight && time < old.time;
+    if weight > old.weight || sooner {
+        new
+    } else {
+        old
     }
-    so_far
 }
 
-// What the pairs reach by a time.
-fn reached_by(pairs: &[i32], many: usize, t: i32) -> Reached {
-    let mut reached = Reached {
-        weight: -1,
-        time: LATEST,
-    };
-    let mut i = 0;
-    while i < many {
-        reached = with_pair(reached, time_of(pairs, i), weight_of(pairs, i), t);
-        i += 1;
+// What the pairs reach by a time, if anything.
+fn reached_by(pairs: &[[i32; 2]], t: i32) -> Option<Reached> {
+    let mut reached = None;
+    for pair in pairs {
+        if pair[0] <= t {
+            reached = Some(with_pair(reached, *pair));
+        }
     }
     reached
 }
 
-// The weight that a profile gives at a time, -1 where it gives none.
-pub fn look_up(profile: &[i32], t: i32) -> i32 {
-    let reached = reached_by(profile, profile.len() / 2, t);
-    reached.weight
+// The weight that a profile gives at a time, if it gives one.
+pub fn look_up(profile: &[i32], t: i32) -> Option<i32> {
+    reached_by(points_of(profile), t).map(|reached| reached.weight)
 }
 
 // What an order is worth at a time: what the outcomes of all its choices reach by then.
-pub fn worth(numbers: &[i32], t0: i32, t: i32) -> Reached {
-    let mut pairs = [0; 2048];
-    let many = gather(numbers, numbers.len() / 7, t0, 0, &mut pairs, 0);
-    reached_by(&pairs, many, t)
+pub fn worth(numbers: &[i32], t0: i32, t: i32) -> Option<Reached> {
+    let mut gathered = Gathered::<RUN>::new();
+    gathered.put_run(jobs_of(numbers), [t0, 0]);
+    reached_by(gathered.all(), t)
 }
 
 // Whether times and weights rise, all within their ranges.
-fn rises(numbers: &[i32], points: usize) -> bool {
-    let mut time = TOO_EARLY;
-    let mut weight = -1;
-    let mut all = true;
-    let mut i = 0;
-    while i < points {
-        let next_time = time_of(numbers, i);
-        let next_weight = weight_of(numbers, i);
-        all = all & (time < next_time) & (weight < next_weight);
-        time = next_time;
-        weight = next_weight;
-        i += 1;
+fn rises(points: &[[i32; 2]]) -> bool {
+    let mut last = [TOO_EARLY, -1];
+    for point in points {
+        if point[0] <= last[0] || point[1] <= last[1] {
+            return false;
+        }
+        last = *point;
     }
-    all & (time <= LATEST) & (weight <= HEAVIEST)
+    last[0] <= LATEST && last[1] <= HEAVIEST
 }
 
 // Whether numbers are a profile: pairs whose times and weights rise within their ranges.
 pub fn is_profile(numbers: &[i32]) -> bool {
-    let many = numbers.len();
-    if many > NUMBERS {
-        return false;
-    }
-    (many % 2 == 0) & rises(numbers, many / 2)
-}
-
-// The last weight of a profile, 0 where it is empty.
-fn last_weight(profile: &[i32]) -> i32 {
-    if profile.len() == 0 {
-        return 0;
-    }
-    at(profile, profile.len() - 1)
+    numbers.len() <= NUMBERS && numbers.len() % 2 == 0 && rises(points_of(numbers))
 }
 
 // Whether a profile and an order are too heavy together. The choice that keeps nothing loses all weights.
 pub fn too_heavy(profile: &[i32], numbers: &[i32]) -> bool {
-    let nothing = tally_of(numbers, 0);
-    HEAVIEST < plus(last_weight(profile), nothing.lost)
+    let last_weight = profile.last().copied().unwrap_or(0);
+    HEAVIEST < plus(last_weight, tally_of(numbers, 0).lost)
 }

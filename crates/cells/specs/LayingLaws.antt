@@ -1,11 +1,9 @@
 -- Cells laid and counted one by one.
 use Rattle.std.specs.Prelude.{ℕ, zero, suc, ◌+◌, ◌≤◌, ◌<◌, ◌≡◌, refl, Bool, true, false, cond, List, ℤ, pos, length, set}
 use Rattle.std.proofs.Common.{sym, ap, ap₂, ◌∙◌, ⊎_elim, eq-or-lt_of_le, arith, length-set, get_or-set_same, get_or-set_other}
+use Rattle.std.specs.Int.{from_bool}
 use Rattle.codes.specs.Code.{at0}
 use Rattle.cells.specs.Laying.{is_point, before, rises_to, Laid}
-
-pub laid_none : (f : ℕ → ℤ) (from at : ℕ) (work : List ℤ) → Laid f from from at work work
-laid_none f from at work = record { size = refl; laid = λ x a b. absurd (omega arith); stays = λ k h. refl }
 
 pub laid_more : {f : ℕ → ℤ} {from x at : ℕ} {was work : List ℤ} → Laid f from x at was work → from ≤ x → at + x < length was
     → (z : ℤ) → z ≡ f x → Laid f from (x + 1) at was (set work (at + x) z)
@@ -23,6 +21,11 @@ laid_more {f} {from} {x} {at} {was} {work} l low room z is = record {
 
     up_to : (y : ℕ) → y < x + 1 → y ≤ x
     up_to y h = omega arith
+
+-- A test as a number.
+pub one-if : (b : Bool) → from_bool b ≡ cond b 1 0
+one-if true = refl
+one-if false = refl
 
 -- One more is counted where it is greater than the one before.
 pub rises-more : (f : ℕ → ℤ) (x : ℕ) {n : ℕ} → n ≡ rises_to f x → (y : ℕ) → y ≡ suc x → (last z : ℤ) → last ≡ before f x → z ≡ f x

@@ -2,23 +2,24 @@
 // weight is kept, and past it a number past all. Loops over cells do not wait for each other. Assumes nothing.
 #![tactic(auto)]
 
-ghost use Rattle.std.specs.Prelude.{◌≡◌, cond, [], ◌+◌, ◌-◌, ◌≤◌, pos, ◌+ℤ◌, ◌-ℤ◌, ◌≤ℤ◌, length};
+ghost use Rattle.std.specs.Prelude.{◌≡◌, [], ◌+◌, ◌-◌, ◌≤◌, pos, ◌+ℤ◌, ◌-ℤ◌, ◌≤ℤ◌, length};
 ghost use Rattle.codes.specs.Code.{at0, lightness, points_at, past_all};
 ghost use Rattle.cells.specs.Cells.{wide, Cells, Put, CanCount, CanRun, CanSpread};
 ghost use Rattle.cells.specs.Cells.{moved_on, CanMove, CanMoveAll, CanPushCells, PushedCells};
 ghost use Rattle.cells.specs.Laying.{rises_to, Laid, CanLower, lowered};
 
-use clock::{greater, lesser};
 use codes::{PAST, Prefix, light_in};
 
 // The cells of a row.
 pub const WIDE: usize = 320;
 
+pub type Row = [i32; WIDE];
+
 // A row for cells.
-pub fn blank_row() -> [i32; 320]
+pub fn blank_row() -> Row
     ensures { length result ≡ wide }
 {
-    [0; 320]
+    [0; WIDE]
 }
 
 // How many cells a list has whose last number is this.
@@ -50,10 +51,8 @@ fn put_run(row: &mut [i32], from: usize, end: usize, top: i32)
     requires { CanRun row.old from end top }
     ensures { Put (λ x. top -ℤ pos x) from end row.old row.new }
 {
-    let mut x = from;
-    while x < end {
+    for x in from..end {
         row[x] = below(top, x);
-        x += 1;
     }
 }
 
@@ -62,11 +61,7 @@ pub fn wipe(row: &mut [i32], from: usize, end: usize)
     requires { (from ≤ end) × (end ≤ length row.old) }
     ensures { Put (λ x. past_all) from end row.old row.new }
 {
-    let mut x = from;
-    while x < end {
-        row[x] = PAST;
-        x += 1;
-    }
+    row[from..end].fill(PAST);
 }
 
 // The cells of a list, in a row that has none.
@@ -74,16 +69,11 @@ fn put_list(work: &[i32], list: Prefix, row: &mut [i32])
     requires { CanSpread work.now list row.old × Cells row.old [] }
     ensures { Cells row.new (points_at work.now list) }
 {
-    let place = list.place;
-    let count = list.count;
-    let mut i = 0;
     let mut x = 0;
-    while i < count {
-        let code = work[place + i];
+    for &code in &work[list.place..list.place + list.count] {
         let end = cells_to(code);
         put_run(row, x, end, above(code, end - 1));
         x = end;
-        i += 1;
     }
 }
 
@@ -101,7 +91,7 @@ fn moved_on(cell: i32, x: usize, limit: i32, delta: i32) -> i32
     requires { CanMove cell x limit delta }
     ensures { result ≡ moved_on limit delta cell x }
 {
-    greater(cell, below(limit, x)) + delta
+    cell.max(below(limit, x)) + delta
 }
 
 // The first so many cells moved on.
@@ -110,14 +100,13 @@ fn move_cells(row: &[i32], end: usize, limit: i32, delta: i32, gain: usize, push
     ensures { Put (λ y. moved_on limit delta (at0 row.now (y - gain)) (y - gain)) gain (gain + end)
         pushed.old pushed.new }
 {
-    let mut x = 0;
-    while x < end {
+    for x in 0..end {
         pushed[gain + x] = moved_on(row[x], x, limit, delta);
-        x += 1;
     }
 }
 
 // The first so many cells pushed by a job: those lighter than the job are of the time of the first.
+// (a) `end` and `gain` stay beside the whole rows: this function's contract says what stays of the row pushed to behind them.
 pub fn push_cells(row: &[i32], end: usize, limit: i32, delta: i32, gain: usize, pushed: &mut [i32])
     requires { CanPushCells row.now end limit delta gain pushed.old }
     ensures { PushedCells row.now end limit delta gain pushed.old pushed.new }
@@ -127,15 +116,9 @@ pub fn push_cells(row: &[i32], end: usize, limit: i32, delta: i32, gain: usize, 
     put_run(pushed, 0, gain, first);
 }
 
-// One if so, else none.
-pub fn one_if(so: bool) -> u32
-    ensures { result ≡ cond so 1 0 }
-{
-    so as u32
-}
-
 // The lesser of both, cell by cell, laid at a place of the work area too. Returns how many of them are greater than the one
 // before: as many of the cells before the last are points.
+// (a) `end` and `at` stay beside the whole rows: this function's contract says what stays of them behind the end and before the place.
 pub fn lower(row: &mut [i32], pushed: &[i32], end: usize, work: &mut [i32], at: usize) -> u32
     requires { CanLower row.old pushed.now end work.old at }
     ensures row { Put (lowered row.old pushed.now) 0 end row.old row.new }
@@ -144,14 +127,12 @@ pub fn lower(row: &mut [i32], pushed: &[i32], end: usize, work: &mut [i32], at: 
 {
     let mut n = 0;
     let mut last = PAST;
-    let mut x = 0;
-    while x < end {
-        let cell = lesser(row[x], pushed[x]);
+    for x in 0..end {
+        let cell = row[x].min(pushed[x]);
         row[x] = cell;
         work[at + x] = cell;
-        n += one_if(last < cell);
+        n += u32::from(last < cell);
         last = cell;
-        x += 1;
     }
     n
 }

@@ -7,18 +7,18 @@ ghost use Rattle.seconds.specs.Ranges.{InTime, min_z, max_z};
 
 use profiles::REST;
 
-// The lesser of two times.
+// The lesser of two times. It and `greater` stay by name: docs/DECISIONS.md and the README have them.
 pub fn lesser(a: i32, b: i32) -> i32
     ensures { result ≡ min_z a b }
 {
-    if a <= b { a } else { b }
+    a.min(b)
 }
 
 // The greater of two times.
 pub fn greater(a: i32, b: i32) -> i32
     ensures { result ≡ max_z a b }
 {
-    if a <= b { b } else { a }
+    a.max(b)
 }
 
 // When the bus is free again after a finish.

@@ -2,10 +2,10 @@
 // the weight. The smaller number is the earlier point and, at one time, the heavier. Assumes nothing.
 #![tactic(auto)]
 
-ghost use Rattle.std.specs.Prelude.{◌≡◌, ◌≤◌, pos, ◌≤ℤ◌};
+ghost use Rattle.std.specs.Prelude.{◌≡◌, ◌≤◌, ◌<◌, ◌^◌, pos, ◌≤ℤ◌};
 ghost use Rattle.seconds.specs.Ranges.{InFree};
 ghost use Rattle.seconds.specs.Limits.{most_weight};
-ghost use Rattle.codes.specs.Code.{since, code_of, lightness, point_of, limit_of};
+ghost use Rattle.codes.specs.Code.{since, code_of, lightness, point_of, limit_of, end_of};
 ghost use Rattle.codes.specs.Held.{Inside, After};
 
 // The numbers for each second, and how light a point of no weight is.
@@ -26,6 +26,16 @@ pub struct Prefix {
     pub count: usize,
 }
 
+impl Prefix {
+    // The place after its last point.
+    pub fn end(self) -> usize
+        requires { end_of self < 2 ^ 64 }
+        ensures { result ≡ end_of self }
+    {
+        self.place + self.count
+    }
+}
+
 // The seconds since the earliest time.
 fn since(time: i32) -> usize
     requires { InFree time }
@@ -42,12 +52,12 @@ pub fn code_of(time: i32, weight: usize) -> i32
     (since(time) * SECOND + (LIGHTEST - weight)) as i32
 }
 
-// The greatest number of a point at a time.
+// The greatest number of a point at a time: that of no weight.
 pub fn limit_by(time: i32) -> i32
     requires { InFree time }
     ensures { result ≡ limit_of time }
 {
-    (since(time) * SECOND + LIGHTEST) as i32
+    code_of(time, 0)
 }
 
 // How light a point is: LIGHTEST less its weight.
@@ -79,9 +89,10 @@ pub fn after(work: &[i32], place: usize, end: usize, limit: i32) -> usize
     requires { Inside work.now place end }
     ensures { After work.now place end limit result }
 {
-    let mut e = end;
-    while place < e && limit < work[e - 1] {
-        e -= 1;
+    for i in (place..end).rev() {
+        if work[i] <= limit {
+            return i + 1;
+        }
     }
-    e
+    place
 }

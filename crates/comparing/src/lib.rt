@@ -2,7 +2,7 @@
 // wrote, and counts of what was met. Every function is safe and ends.
 #![tactic(auto)]
 
-use careful::{all_are, at, front};
+use careful::{all_are, at, front, more};
 use pack::Packed;
 use packed::Refusal;
 
@@ -52,6 +52,11 @@ pub fn no_choice(found: bool) -> u32 {
         return 0;
     }
     11
+}
+
+// Counts one more where something holds.
+pub fn count(so_far: &mut u64, holds: bool) {
+    *so_far = more(*so_far, holds as u64);
 }
 
 // Writes a count behind a word.

@@ -1,6 +1,6 @@
 -- R51 over the calls: what planning, extending and lookup answer on an easier order is no worse, whatever outcomes their generated
 -- contracts allow. Definitions only.
-use Rattle.std.specs.Prelude.{ℕ, ◌≤◌, ◌≡◌, List, [], ◌∷◌, ℤ, pos, ◌≤ℤ◌}
+use Rattle.std.specs.Prelude.{ℕ, ◌≤◌, ◌≡◌, List, [], ◌∷◌, ℤ, pos, ◌≤ℤ◌, Ok, Err, Some, None}
 use Rattle.std.proofs.Math.Option.{Option, none, some}
 use contract.Lifetimes.{Lfts}
 use denote.Triple.Clauses.{AtExit}
@@ -8,9 +8,7 @@ use denote.Triple.Entry.{Args}
 use Rattle.profile.specs.NoWorse.{AtLeast}
 use Rattle.packed.specs.Judge.{no_refusal}
 use Rattle.packed.specs.Packed.{t0_of}
-use Rattle.profiles.specs.Answer.{lookup_of}
-use Rattle.profiles.specs.declared.Finding.{Finding}
-use Rattle.profiles.specs.declared.Finding.TheVariants.{NotValid, Found, NotFound}
+use Rattle.profiles.specs.Answer.{Finding, lookup_of}
 use Rattle.profiles.specs.contracts.lookup as lookup
 use Rattle.profiles.proofs.lookup.Reads as lookup-reads
 use Rattle.planner.specs.Calls.{PlanNumbers, plan_numbers}
@@ -22,9 +20,9 @@ use Rattle.easier.specs.EasierBytes.{EasierBytes}
 
 -- The weight that an answer of lookup tells, if it tells one.
 abbrev pub weight_told : Finding → Option ℕ
-weight_told NotValid = none
-weight_told (Found w) = some w
-weight_told NotFound = none
+weight_told (Err r) = none
+weight_told (Ok (Some w)) = some w
+weight_told (Ok None) = none
 
 -- Of two lists of numbers, what lookup answers on the new one is at every time at least what it answers on the old.
 abbrev pub NumbersNoWorse : List ℤ → List ℤ → Type 0

@@ -1,36 +1,57 @@
 // The question and the choice between two openings, by either tie rule, compared with the planner by trial:
 // the answer, and that nothing is left in the work area.
-use crate::counts::{Run, expect};
+use crate::counts::Run;
+use crate::orders::{Order, packed};
 use by_hand::Reached;
-use careful::{front_bytes, more};
-use comparing::{MARK, leaves, pack_order, records_kind, says};
+use careful::more;
+use comparing::{MARK, leaves, records_kind, says};
 use openings::Answer;
+use refusals::Reason;
 use ties::Chosen;
 
 // Which of two openings of the same weight must win: the one that reaches it sooner, of both at once the
-// first; or always the first.
+// first; or always the first. It is matched where it is asked, and no closure is handed down: one would bring a
+// `requires` to every function on the way.
 #[derive(Clone, Copy)]
 enum Rule {
     Sooner,
     First,
 }
 
-// Whether the second of two openings of the same weight must win.
-fn to_second(rule: Rule, one: Reached, other: Reached) -> bool {
-    match rule {
-        Rule::Sooner => other.time < one.time,
-        Rule::First => false,
-    }
+// An opening: its bytes, and what it reaches by the time that is asked.
+#[derive(Clone, Copy)]
+struct Opening<'a> {
+    bytes: &'a [u8],
+    reached: Option<Reached>,
 }
 
-// Which opening must win by what each reaches, 0 where neither reaches anything.
-fn winner(rule: Rule, one: Reached, other: Reached) -> u32 {
-    let heavier = one.weight < other.weight;
-    let tied = (one.weight == other.weight) & to_second(rule, one, other);
-    if heavier | tied {
-        return 2;
+// Which of two openings wins.
+#[derive(Clone, Copy, PartialEq, Eq)]
+enum Winner {
+    First,
+    Second,
+}
+
+// Which of two openings must win by what each reaches by the time, by weight and by a rule.
+fn heavier(rule: Rule, one: Reached, other: Reached) -> Winner {
+    let sooner = match rule {
+        Rule::Sooner => other.time < one.time,
+        Rule::First => false,
+    };
+    if one.weight < other.weight || (one.weight == other.weight && sooner) {
+        return Winner::Second;
     }
-    (one.weight >= 0) as u32
+    Winner::First
+}
+
+// Which opening must win, if either reaches anything.
+fn must_win(rule: Rule, first: Opening<'_>, second: Opening<'_>) -> Option<Winner> {
+    match (first.reached, second.reached) {
+        (Some(one), Some(other)) => Some(heavier(rule, one, other)),
+        (Some(_), None) => Some(Winner::First),
+        (None, Some(_)) => Some(Winner::Second),
+        (None, None) => None,
+    }
 }
 
 // The question by a rule.
@@ -50,120 +71,83 @@ fn hand<'a>(rule: Rule, first: &'a [u8], second: &'a [u8], t: i32, work: &mut [i
 }
 
 // Whether an answer names the opening that must win, and the kind of its records.
-fn is_answer(answer: Answer, first: u8, second: u8, won: u32) -> bool {
-    let chosen = answer.chosen;
-    match chosen {
-        Chosen::Refused(refusal) => says(refusal, 11, 0) & (won == 0) & (answer.kind == 0),
-        Chosen::First => (won == 1) & (answer.kind == first as u32),
-        Chosen::Second => (won == 2) & (answer.kind == second as u32),
+fn is_answer(answer: Answer, first: &[u8], second: &[u8], won: Option<Winner>) -> bool {
+    let kind = answer.kind;
+    match answer.chosen {
+        Chosen::Refused(refusal) => {
+            let number = Reason::NoFeasibleChoice.number();
+            won.is_none() && kind == 0 && says(refusal, number, 0)
+        }
+        Chosen::First => won == Some(Winner::First) && kind == records_kind(first) as u32,
+        Chosen::Second => won == Some(Winner::Second) && kind == records_kind(second) as u32,
     }
 }
 
 // Whether the question on two openings agrees.
-fn question_agrees(rule: Rule, first: &[u8], second: &[u8], t: i32, won: u32) -> bool {
+fn question_agrees(rule: Rule, first: &[u8], second: &[u8], t: i32, won: Option<Winner>) -> bool {
     let mut work = [MARK; 14_750];
     let answer = ask(rule, first, second, t, &mut work);
-    is_answer(answer, records_kind(first), records_kind(second), won) & leaves(&work, 0)
+    is_answer(answer, first, second, won) && leaves(&work, 0)
 }
 
 // The records of a packed order.
 fn records(bytes: &[u8]) -> &[u8] {
-    if bytes.len() < 4 {
-        return bytes;
-    }
-    &bytes[4..]
+    &bytes[bytes.len().min(4)..]
 }
 
-// Whether a part is the records of the opening that must win, or empty where neither may.
-fn is_part(part: &[u8], first: &[u8], second: &[u8], won: u32) -> bool {
-    if won == 0 {
-        return part.len() == 0;
-    }
-    if won == 2 {
-        return check::same(part, records(second));
-    }
-    check::same(part, records(first))
-}
-
-// Whether the choice between two openings agrees.
-fn choice_agrees<'a>(rule: Rule, first: &'a [u8], second: &'a [u8], t: i32, won: u32) -> bool {
-    let mut work = [MARK; 14_750];
-    let part = hand(rule, first, second, t, &mut work);
-    is_part(part, first, second, won) & leaves(&work, 0)
-}
-
-// The question and the choice between two openings by a rule.
-fn check_rule<'a>(
-    run: Run,
+// Whether the choice between two openings agrees: the records of the one that must win, or no byte where
+// neither may.
+fn choice_agrees<'a>(
     rule: Rule,
     first: &'a [u8],
     second: &'a [u8],
     t: i32,
-    won: u32,
-) -> Run {
-    let asked = question_agrees(rule, first, second, t, won);
-    let chosen = choice_agrees(rule, first, second, t, won);
-    expect(expect(run, asked), chosen)
+    won: Option<Winner>,
+) -> bool {
+    let mut work = [MARK; 14_750];
+    let part = hand(rule, first, second, t, &mut work);
+    let expected = match won {
+        None => &[],
+        Some(Winner::First) => records(first),
+        Some(Winner::Second) => records(second),
+    };
+    part == expected && leaves(&work, 0)
 }
 
-// A run with a question more; the rules differ on it where the second is sooner.
-fn with_question(so_far: Run, differ: bool) -> Run {
-    let mut run = so_far;
+// The question and the choice between two openings by a rule. Returns which must win.
+fn check_rule(
+    run: &mut Run,
+    rule: Rule,
+    first: Opening<'_>,
+    second: Opening<'_>,
+    t: i32,
+) -> Option<Winner> {
+    let won = must_win(rule, first, second);
+    run.expect(question_agrees(rule, first.bytes, second.bytes, t, won));
+    run.expect(choice_agrees(rule, first.bytes, second.bytes, t, won));
+    won
+}
+
+// Both rules on two openings; they differ where the second is sooner.
+fn check_openings(run: &mut Run, first: Opening<'_>, second: Opening<'_>, t: i32) {
+    let sooner = check_rule(run, Rule::Sooner, first, second, t);
+    let to_first = check_rule(run, Rule::First, first, second, t);
     run.questions = more(run.questions, 1);
-    run.second_sooner = more(run.second_sooner, differ as u64);
-    run
-}
-
-// Both rules on two openings, by what each reaches at a time.
-fn check_openings<'a>(
-    run: Run,
-    first: &'a [u8],
-    one: Reached,
-    second: &'a [u8],
-    other: Reached,
-    t: i32,
-) -> Run {
-    let sooner = winner(Rule::Sooner, one, other);
-    let to_first = winner(Rule::First, one, other);
-    let asked = check_rule(run, Rule::Sooner, first, second, t, sooner);
-    let both = check_rule(asked, Rule::First, first, second, t, to_first);
-    with_question(both, sooner != to_first)
-}
-
-// The choice between two packed orders, both ways round.
-fn check_both<'a>(
-    run: Run,
-    first: &'a [u8],
-    one: Reached,
-    second: &'a [u8],
-    other: Reached,
-    t: i32,
-) -> Run {
-    let straight = check_openings(run, first, one, second, other, t);
-    check_openings(straight, second, other, first, one, t)
+    run.second_sooner = more(run.second_sooner, (sooner != to_first) as u64);
 }
 
 // The choice between two orders at a time, both ways round.
-pub fn check_choice(
-    run: Run,
-    one: &[i32],
-    one_t0: i32,
-    other: &[i32],
-    other_t0: i32,
-    t: i32,
-) -> Run {
-    let mut first = [0; 94];
-    let mut second = [0; 94];
-    let size = pack_order(one_t0, one, &mut first);
-    let other_size = pack_order(other_t0, other, &mut second);
-    let worth = by_hand::worth(one, one_t0, t);
-    let other_worth = by_hand::worth(other, other_t0, t);
-    check_both(
-        run,
-        front_bytes(&first, size),
-        worth,
-        front_bytes(&second, other_size),
-        other_worth,
-        t,
-    )
+pub fn check_choice(run: &mut Run, one: Order<'_>, other: Order<'_>, t: i32) {
+    let mut space = [0; 94];
+    let first = Opening {
+        bytes: packed(one, &mut space),
+        reached: by_hand::worth(one.numbers, one.t0, t),
+    };
+    let mut other_space = [0; 94];
+    let second = Opening {
+        bytes: packed(other, &mut other_space),
+        reached: by_hand::worth(other.numbers, other.t0, t),
+    };
+    check_openings(run, first, second, t);
+    check_openings(run, second, first, t);
 }

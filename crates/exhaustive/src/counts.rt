@@ -1,10 +1,9 @@
-// A run so far: the seeds, what was met, what was compared, and how often an answer differed. It is a value
-// that every trial takes and gives back.
+// A run so far: the seeds, what was met, what was compared, and how often an answer differed.
 use careful::more;
 use comparing::write_count;
 
 // How a run stands.
-#[derive(Clone, Copy)]
+#[derive(Clone, Copy, Default)]
 pub struct Run {
     pub seed: u64,
     pub halves_seed: u64,
@@ -21,53 +20,24 @@ pub struct Run {
     pub mismatches: u64,
 }
 
-// A run that begins with two seeds.
-pub fn new_run(seed: u64, halves_seed: u64) -> Run {
-    Run {
-        seed: seed,
-        halves_seed: halves_seed,
-        orders: 0,
-        feasible: 0,
-        ties: 0,
-        points: 0,
-        lookups: 0,
-        questions: 0,
-        second_sooner: 0,
-        halves: 0,
-        offending: 0,
-        seconds: 0,
-        mismatches: 0,
+impl Run {
+    // Counts a mismatch where an answer differs.
+    pub fn expect(&mut self, agrees: bool) {
+        self.mismatches = more(self.mismatches, !agrees as u64);
     }
-}
 
-// Counts a mismatch where an answer differs.
-pub fn expect(so_far: Run, agrees: bool) -> Run {
-    let mut run = so_far;
-    run.mismatches = more(run.mismatches, !agrees as u64);
-    run
-}
-
-// Writes what orders and profiles were met.
-fn write_met(run: Run) {
-    write_count(b"orders ", run.orders);
-    write_count(b"feasible ", run.feasible);
-    write_count(b"ties ", run.ties);
-    write_count(b"points ", run.points);
-}
-
-// Writes what was compared of openings and halves.
-fn write_compared(run: Run) {
-    write_count(b"lookups ", run.lookups);
-    write_count(b"questions ", run.questions);
-    write_count(b"second sooner ", run.second_sooner);
-    write_count(b"halves ", run.halves);
-}
-
-// Writes all counts.
-pub fn write_counts(run: Run) {
-    write_met(run);
-    write_compared(run);
-    write_count(b"offending ", run.offending);
-    write_count(b"seconds lost ", run.seconds);
-    write_count(b"mismatches ", run.mismatches);
+    // Writes all counts.
+    pub fn write_counts(&self) {
+        write_count(b"orders ", self.orders);
+        write_count(b"feasible ", self.feasible);
+        write_count(b"ties ", self.ties);
+        write_count(b"points ", self.points);
+        write_count(b"lookups ", self.lookups);
+        write_count(b"questions ", self.questions);
+        write_count(b"second sooner ", self.second_sooner);
+        write_count(b"halves ", self.halves);
+        write_count(b"offending ", self.offending);
+        write_count(b"seconds lost ", self.seconds);
+        write_count(b"mismatches ", self.mismatches);
+    }
 }

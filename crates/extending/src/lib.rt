@@ -26,7 +26,7 @@ fn extend_by_lists(profile: &[i32], bytes: &[u8], out: &mut [i32], work: &mut [i
     let header = header_at(bytes);
     let count = start_profile(work, profile);
     let last = fill_last(work, bytes, header.count, count);
-    write_list(work, last.place, last.count, out);
+    write_list(work, last, out);
     last.count
 }
 

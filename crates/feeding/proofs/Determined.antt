@@ -3,12 +3,14 @@ use Prim.Native.Nat.{ℕ}
 use mathlib.Core.List.{List}
 use contract.Lifetimes.{Lfts}
 use lib.IntN.{ℤ}
+use Rattle.std.specs.Prelude.{Result, ⊤}
+use Rattle.refusals.specs.declared.Reason.{Reason}
 use Rattle.seconds.specs.Determined.{Determines, determined}
 use Rattle.feeding.specs.Calls.{feed_refusal, feed_after, front_after, feed_work_after}
 use Rattle.feeding.proofs.feed.Reads as feed
 
 pub feed-determined : (κs : Lfts 4)
-    → Determines {Z = ℕ × List ℕ × List ℕ × List ℤ} (feed.Post κs)
+    → Determines {Z = Result ⊤ Reason × List ℕ × List ℕ × List ℤ} (feed.Post κs)
     (λ r x. (r, x.0.now, x.1.0.now, x.1.1.1.0.now))
 feed-determined κs =
     determined (feed.Post κs) (λ r x. (r, x.0.now, x.1.0.now, x.1.1.1.0.now))

@@ -1,6 +1,8 @@
 -- What the contract of feeding says of every outcome that it allows: two pieces, the second call on what the first has left, have the
 -- answer and the buffers of both as one piece; and a stream fed from the beginning has its sheet, or 18.
-use Prim.Native.Nat.{ℕ, ◌≤◌}
+use Prim.Native.Nat.{◌≤◌}
+use Rattle.std.specs.Prelude.{Result, ⊤}
+use Rattle.refusals.specs.declared.Reason.{Reason}
 use mathlib.Core.Path.{◌≡◌, refl, sym, ◌∙◌}
 use mathlib.Core.List.{◌++◌}
 use contract.Lifetimes.{Lfts}
@@ -23,7 +25,7 @@ use Rattle.feeding.proofs.feed.Reads as reads
 pub record Outcome : Type 1 where
   pub lifetimes : Lfts 4
   pub args : Args feed.signature lifetimes
-  pub answer : ℕ
+  pub answer : Result ⊤ Reason
   pub exit : AtExit feed.ended lifetimes
   pub allowed : reads.Post lifetimes args answer exit
 

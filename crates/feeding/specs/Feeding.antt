@@ -1,6 +1,7 @@
 -- What the functions that feed a piece ask and give: the state that their numbers say, and how many bytes can still come.
 -- Definitions only.
-use Rattle.std.specs.Prelude.{ℕ, ◌+◌, ◌*◌, ◌-◌, ◌≤◌, ◌<◌, min, ◌≡◌, true, false, List, ℤ, length, get_or, take, drop, set}
+use Rattle.std.specs.Prelude.{ℕ, ◌+◌, ◌*◌, ◌-◌, ◌≤◌, ◌<◌, min, ◌≡◌, true, false, List, ℤ, length, get_or, take, drop, set, Result, ⊤}
+use Rattle.refusals.specs.declared.Reason.{Reason}
 use Rattle.area.specs.Area.{area, cleared}
 use Rattle.sheet.specs.Sheet.{figure_count, most_orders, orders, sheet_in, fits}
 use Rattle.adding.specs.Adding.{CanAdd}
@@ -56,11 +57,6 @@ pub record Settles (figures room : List ℕ) (size got : ℕ) (work : List ℤ) 
   pub beyond : drop area work' ≡ drop area work
 
 -- Bytes of a piece are kept behind those that have come, while there is room.
-pub record CanKeep (room : List ℕ) (got : ℕ) (piece : List ℕ) (at n : ℕ) : Type 0 where
-  pub wide : front_room ≤ length room
-  pub has : at + n ≤ length piece
-  pub small : got + n < 65536
-
 abbrev pub Kept : List ℕ → ℕ → List ℕ → ℕ → ℕ → List ℕ → Type 0
 Kept room got piece at n room' = room' ≡ kept_in room got (take n (drop at piece))
 
@@ -109,7 +105,7 @@ pub record CanTake (feed front : List ℕ) (work : List ℤ) : Type 0 where
   pub state : is_state (state_in feed front) ≡ true
 
 -- and the numbers are the new state's then.
-pub record Taken (feed front piece : List ℕ) (work : List ℤ) (r : ℕ) (feed' front' : List ℕ) (work' : List ℤ) : Type 0 where
+pub record Taken (feed front piece : List ℕ) (work : List ℤ) (r : Result ⊤ Reason) (feed' front' : List ℕ) (work' : List ℤ) : Type 0 where
   pub answer : r ≡ many_refusal (over (run (state_in feed front) piece).done)
   pub numbers : feed' ≡ feed_over (run (state_in feed front) piece) feed
   pub room : front' ≡ (run (state_in feed front) piece).room

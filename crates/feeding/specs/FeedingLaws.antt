@@ -1,7 +1,9 @@
 -- The steps of feeding a piece: closing an entry, keeping its bytes, one turn, and what is known before and after.
-use Rattle.std.specs.Prelude.{ℕ, zero, suc, ◌+◌, ◌*◌, ◌-◌, ◌≤◌, ◌<◌, min, ◌≡◌, refl, Bool, true, false, List, [], ◌∷◌, ltb, ℤ, length, take, drop, set, get_or}
+use Rattle.std.specs.Prelude.{ℕ, zero, suc, ◌+◌, ◌*◌, ◌-◌, ◌≤◌, ◌<◌, min, ◌≡◌, refl, Bool, true, false, List, [], ◌∷◌, ◌++◌, ltb, ℤ, length, take, drop, set, get_or}
 use Rattle.std.proofs.Math.Path.{sym, ap}
-use Rattle.std.proofs.Common.{◌∙◌, arith, length-drop, take-append-drop, drop-cons, drop-drop, length-take-le, take-suc, take-add, get_or-drop}
+use Rattle.std.proofs.Common.{◌∙◌, arith, length-drop, take-append-drop, drop-cons, drop-drop, length-take-le, take-suc, take-add, take-take, take_all, get_or-drop}
+use Rattle.std.proofs.Math.Seq.{paste}
+use Rattle.std.proofs.lemmas.List.Edits.{sets, sets-eq}
 use borrow.Author.Tests.{ltb-true, ltb-false, eq-eqb, ne_eqb}
 use borrow.Table.Steps.{cases}
 use Rattle.area.specs.Area.{area}
@@ -111,6 +113,15 @@ copy_step room got piece at i front e h g =
     ∙ byte-kept (kept_in room got (take i src)) (got + i) b h
     ∙ ap (λ l. set l (got + i) b) (sym e))
 
+-- Bytes for which there is room are put one behind the other.
+kept-sets : (room : List ℕ) (got : ℕ) (x : List ℕ) → got + length x ≤ front_room → kept_in room got x ≡ sets room got x
+kept-sets room got [] h = refl
+kept-sets room got (b ∷ x) h =
+    let one : got + 1 ≡ suc got = omega arith in
+    ap (λ l. kept_in l (got + 1) x) (byte-kept room got b (omega arith))
+    ∙ ap (λ n. kept_in (set room got b) n x) one
+    ∙ kept-sets (set room got b) (suc got) x (omega arith)
+
 -- As many as there is room for are all that is kept.
 pub keep-least : (room : List ℕ) (got : ℕ) (src : List ℕ) (n m : ℕ) → n ≤ length src → got < front_room → m ≡ min n (front_room - got)
     → kept_in room got (take m src) ≡ kept_in room got (take n src)
@@ -126,6 +137,24 @@ keep-least room got src n m has h e = cases (ltb (front_room - got) n)
     (λ t. let less : n ≤ front_room - got = ltb-false (front_room - got) n t in
     let same : m ≡ n = omega arith in
     ap (λ j. kept_in room got (take j src)) same)
+
+-- So they are as a stretch copied.
+kept-copied : (room : List ℕ) (got : ℕ) (src : List ℕ) (n : ℕ) → n ≤ length src → got + n ≤ front_room → front_room ≤ length room
+    → paste room got (take n src) n ≡ kept_in room got (take n src)
+kept-copied room got src n has small wide =
+    let long : length (take n src) ≡ n = length-take-le n src has in
+    let put : kept_in room got (take n src) ≡ take got room ++ take n src ++ drop (got + length (take n src)) room =
+    kept-sets room got (take n src) (omega arith) ∙ sets-eq (take n src) room got (omega arith) in
+    ap (λ l. take got room ++ l ++ drop (got + n) room) (take-take n n src (omega arith))
+    ∙ sym (put ∙ ap (λ k. take got room ++ take n src ++ drop (got + k) room) long)
+
+-- A stretch with as many as there is room for.
+pub stretch-kept : (room : List ℕ) (got : ℕ) (src : List ℕ) (n : ℕ) → got < front_room → front_room ≤ length room
+    → n ≡ min (length src) (front_room - got) → paste room got (take n src) n ≡ kept_in room got src
+stretch-kept room got src n less wide e =
+    kept-copied room got src n (omega arith) (omega arith) wide
+    ∙ keep-least room got src (length src) n (omega arith) less e
+    ∙ ap (kept_in room got) (take_all (length src) src (omega arith))
 
 -- ---- a turn
 

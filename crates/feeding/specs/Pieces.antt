@@ -1,9 +1,11 @@
 -- What calls of feeding say together: two pieces, one call behind the other, give what both give as one piece; and a whole stream fed
 -- from the beginning gives its sheet and whether it is cut, or 18 for too many entries.
-use Rattle.std.specs.Prelude.{ℕ, ◌≤◌, ◌≡◌, true, false, List, ◌++◌, ltb, ℤ, length, get_or, replicate}
+use Rattle.std.specs.Prelude.{ℕ, ◌≤◌, ◌≡◌, true, false, List, ◌++◌, ltb, ℤ, length, get_or, replicate, Result, Err, ⊤}
 use Rattle.std.proofs.Math.Path.{refl}
 use Rattle.std.proofs.Common.{sym, ap, ◌∙◌, arith, length-take-le, ltb-true, ltb-false}
 use borrow.Table.Steps.{cases}
+use Rattle.refusals.specs.declared.Reason.{Reason}
+use Rattle.refusals.specs.declared.Reason.TheVariants.{BufferTooShort, NoSheet}
 use Rattle.area.specs.Area.{area, cleared}
 use Rattle.area.specs.Clearing.{cleared-long, cleared-twice}
 use Rattle.packed.proofs.LayoutLaws.{AreBytes}
@@ -22,7 +24,7 @@ use Rattle.feeding.specs.StateLaws.{Sized, begin-state, run-sized, run-state, ov
 
 -- Two calls that can have one outcome have every outcome in common.
 same_outcome : {feed front piece : List ℕ} {work : List ℤ} {feed' front' piece' : List ℕ} {work' : List ℤ}
-    {r : ℕ} {a b : List ℕ} {c : List ℤ} {s : ℕ} {d e : List ℕ} {f : List ℤ}
+    {r : Result ⊤ Reason} {a b : List ℕ} {c : List ℤ} {s : Result ⊤ Reason} {d e : List ℕ} {f : List ℤ}
     → FeedCall feed front piece work r a b c → FeedCall feed front piece work s d e f → FeedCall feed' front' piece' work' s d e f
     → FeedCall feed' front' piece' work' r a b c
 same_outcome x y z =
@@ -35,22 +37,22 @@ same_outcome x y z =
 
 -- A call with the same input.
 pub on_same : {feed front piece : List ℕ} {work : List ℤ} {feed' front' piece' : List ℕ} {work' : List ℤ}
-    {r : ℕ} {a b : List ℕ} {c : List ℤ} → feed ≡ feed' → front ≡ front' → piece ≡ piece' → work ≡ work'
+    {r : Result ⊤ Reason} {a b : List ℕ} {c : List ℤ} → feed ≡ feed' → front ≡ front' → piece ≡ piece' → work ≡ work'
     → FeedCall feed front piece work r a b c → FeedCall feed' front' piece' work' r a b c
 on_same e f g h x = rw (e, f, g, h) at x
 
 -- ---- two pieces
 
-module _ (feed front x y : List ℕ) (work : List ℤ) (r₁ : ℕ) (feed₁ front₁ : List ℕ) (work₁ : List ℤ)
-    (r₂ : ℕ) (feed₂ front₂ : List ℕ) (work₂ : List ℤ)
+module _ (feed front x y : List ℕ) (work : List ℤ) (r₁ : Result ⊤ Reason) (feed₁ front₁ : List ℕ) (work₁ : List ℤ)
+    (r₂ : Result ⊤ Reason) (feed₂ front₂ : List ℕ) (work₂ : List ℤ)
     (first : FeedCall feed front x work r₁ feed₁ front₁ work₁) (second : FeedCall feed₁ front₁ y work₁ r₂ feed₂ front₂ work₂) where
   -- The second call is one on what the first has left.
-  on-left : {r : ℕ} {a b : List ℕ} {c : List ℤ} → FeedCall feed front x work r a b c → FeedCall a b y c r₂ feed₂ front₂ work₂
+  on-left : {r : Result ⊤ Reason} {a b : List ℕ} {c : List ℤ} → FeedCall feed front x work r a b c → FeedCall a b y c r₂ feed₂ front₂ work₂
   on-left h =
       on_same (first.numbers ∙ sym h.numbers) (first.room ∙ sym h.room) refl (first.cleaned ∙ sym h.cleaned) second
 
   -- A piece that is not taken changes nothing, whatever it is.
-  not_taken : (r : ℕ) → ((piece : List ℕ) → FeedCall feed front piece work r feed front work)
+  not_taken : (r : Result ⊤ Reason) → ((piece : List ℕ) → FeedCall feed front piece work r feed front work)
       → FeedCall feed front (x ++ y) work r₂ feed₂ front₂ work₂
   not_taken r h = same_outcome (on-left (h x)) (h y) (h (x ++ y))
 
@@ -88,7 +90,7 @@ module _ (feed front x y : List ℕ) (work : List ℤ) (r₁ : ℕ) (feed₁ fro
     many-taken : over between.done ≡ true → FeedCall feed front (x ++ y) work r₂ feed₂ front₂ work₂
     many-taken o =
         let stays : run between y ≡ between = run-over between y o in
-        let after : FeedCall feed front (x ++ y) work 18 (feed_over between feed) between.room (cleared work) =
+        let after : FeedCall feed front (x ++ y) work (Err NoSheet) (feed_over between feed) between.room (cleared work) =
         rw (stays, o) at at_once in
         same_outcome (on-left left)
         (no-state (feed_over between feed) between.room y (cleared work) (over-long between feed sized) sized.wide (cleared-long work)
@@ -118,17 +120,17 @@ module _ (feed front x y : List ℕ) (work : List ℤ) (r₁ : ℕ) (feed₁ fro
   -- Feeding x and then y is feeding x ++ y: the second call's answer and buffers are those of one call with both.
   pub two-pieces : AreBytes x → FeedCall feed front (x ++ y) work r₂ feed₂ front₂ work₂
   two-pieces bytes = cases (ltb (length feed) feed_count)
-      (λ s. not_taken 10 (λ p. numbers-short feed front p work (ltb-true (length feed) feed_count s)))
+      (λ s. not_taken (Err BufferTooShort) (λ p. numbers-short feed front p work (ltb-true (length feed) feed_count s)))
       (λ s. let long : feed_count ≤ length feed = ltb-false (length feed) feed_count s in
       cases (ltb (length front) front_room)
-      (λ t. not_taken 10 (λ p. front-short feed front p work long (ltb-true (length front) front_room t)))
+      (λ t. not_taken (Err BufferTooShort) (λ p. front-short feed front p work long (ltb-true (length front) front_room t)))
       (λ t. let wide : front_room ≤ length front = ltb-false (length front) front_room t in
       cases (ltb (length work) area)
-      (λ u. not_taken 10 (λ p. area-short feed front p work long wide (ltb-true (length work) area u)))
+      (λ u. not_taken (Err BufferTooShort) (λ p. area-short feed front p work long wide (ltb-true (length work) area u)))
       (λ u. let space : area ≤ length work = ltb-false (length work) area u in
       cases (is_state (state_in feed front))
       (λ e. both-taken bytes long wide space e)
-      (λ e. not_taken 18 (λ p. no-state feed front p work long wide space e)))))
+      (λ e. not_taken (Err NoSheet) (λ p. no-state feed front p work long wide space e)))))
 
 -- ---- a whole stream
 
@@ -136,7 +138,7 @@ module _ (feed front x y : List ℕ) (work : List ℤ) (r₁ : ℕ) (feed₁ fro
 abbrev pub begin : List ℕ
 begin = replicate feed_count 0
 
-module _ (front stream : List ℕ) (work : List ℤ) (r : ℕ) (feed' front' : List ℕ) (work' : List ℤ)
+module _ (front stream : List ℕ) (work : List ℤ) (r : Result ⊤ Reason) (feed' front' : List ℕ) (work' : List ℤ)
     (wide : front_room ≤ length front) (space : area ≤ length work) (call : FeedCall begin front stream work r feed' front' work') where
   abbrev end : State
   end = run (edge no_sheet front) stream

@@ -1,5 +1,7 @@
 -- A state in numbers: which numbers are a state's, a state written back over them, and what the call of feeding answers by its checks.
-use Rattle.std.specs.Prelude.{ℕ, ◌≤◌, ◌<◌, ◌≡◌, Bool, true, false, ◌&&◌, List, [], ◌∷◌, ◌++◌, leb, ltb, eqb, ℤ, length, get_or, take, drop, set}
+use Rattle.std.specs.Prelude.{ℕ, ◌≤◌, ◌<◌, ◌≡◌, Bool, true, false, ◌&&◌, List, [], ◌∷◌, ◌++◌, leb, ltb, eqb, ℤ, length, get_or, take, drop, set, Result, Ok, Err, ⊤}
+use Rattle.refusals.specs.declared.Reason.{Reason}
+use Rattle.refusals.specs.declared.Reason.TheVariants.{BufferTooShort, NoSheet}
 use Rattle.std.proofs.Common.{sym, ap, ◌∙◌, append_assoc, arith, length-append, take-append-drop, drop-cons, drop-drop, take-add, length-take-le}
 use Rattle.std.proofs.Math.Bool.{and-eq-true_iff}
 use Rattle.std.proofs.lemmas.List.{set_at}
@@ -146,7 +148,7 @@ pub taken-by : (feed front piece : List ℕ) (work : List ℤ) → feed_count �
     → (begun : Part) → begun ≡ part_in feed
     → (part : Part) (feed₁ front₁ : List ℕ) (work₁ : List ℤ) → Fed begun feed front piece work part feed₁ front₁ work₁
     → length feed₁ ≡ length feed → (many : Bool) → many ≡ over (sheet_in feed₁) → (feed₂ : List ℕ) → feed₂ ≡ put_part feed₁ part
-    → (work₂ : List ℤ) → work₂ ≡ cleared work₁ → (r : ℕ) → r ≡ many_refusal many
+    → (work₂ : List ℤ) → work₂ ≡ cleared work₁ → (r : Result ⊤ Reason) → r ≡ many_refusal many
     → Taken feed front piece work r feed₂ front₁ work₂
 taken-by feed front piece work long begun b part feed₁ front₁ work₁ fed same many m feed₂ put work₂ clean r e =
     let ran : seen part feed₁ front₁ ≡ run (state_in feed front) piece =
@@ -165,22 +167,22 @@ taken-by feed front piece work long begun b part feed₁ front₁ work₁ fed sa
 -- ---- the call, by its checks
 
 module _ (feed front piece : List ℕ) (work : List ℤ) where
-  no_room : feed_fits feed front work ≡ false → FeedCall feed front piece work 10 feed front work
+  no_room : feed_fits feed front work ≡ false → FeedCall feed front piece work (Err BufferTooShort) feed front work
   unfolding feed_refusal feed_after front_after feed_work_after
   no_room e = record { answer = rw e; numbers = rw e; room = rw e; cleaned = rw e }
 
-  pub numbers-short : length feed < feed_count → FeedCall feed front piece work 10 feed front work
+  pub numbers-short : length feed < feed_count → FeedCall feed front piece work (Err BufferTooShort) feed front work
   unfolding feed_fits
   numbers-short h = no_room (rw (lt-leb feed_count (length feed) h))
 
   module _ (long : feed_count ≤ length feed) where
-    pub front-short : length front < front_room → FeedCall feed front piece work 10 feed front work
+    pub front-short : length front < front_room → FeedCall feed front piece work (Err BufferTooShort) feed front work
     unfolding feed_fits
     front-short h =
         no_room (rw (le-leb feed_count (length feed) long, lt-leb front_room (length front) h))
 
     module _ (wide : front_room ≤ length front) where
-      pub area-short : length work < area → FeedCall feed front piece work 10 feed front work
+      pub area-short : length work < area → FeedCall feed front piece work (Err BufferTooShort) feed front work
       unfolding feed_fits
       area-short h =
           no_room (rw (le-leb feed_count (length feed) long, le-leb front_room (length front) wide, lt-leb area (length work) h))
@@ -191,7 +193,7 @@ module _ (feed front piece : List ℕ) (work : List ℤ) where
         has_room =
             rw (le-leb feed_count (length feed) long, le-leb front_room (length front) wide, le-leb area (length work) space)
 
-        pub no-state : is_state (state_in feed front) ≡ false → FeedCall feed front piece work 18 feed front work
+        pub no-state : is_state (state_in feed front) ≡ false → FeedCall feed front piece work (Err NoSheet) feed front work
         unfolding feed_refusal feed_after front_after feed_work_after
         no-state e =
             record {
@@ -201,7 +203,7 @@ module _ (feed front piece : List ℕ) (work : List ℤ) where
               cleaned = rw (has_room, e);
             }
 
-        pub piece-taken : is_state (state_in feed front) ≡ true → (r : ℕ) (feed' front' : List ℕ) (work' : List ℤ)
+        pub piece-taken : is_state (state_in feed front) ≡ true → (r : Result ⊤ Reason) (feed' front' : List ℕ) (work' : List ℤ)
             → Taken feed front piece work r feed' front' work' → FeedCall feed front piece work r feed' front' work'
         unfolding feed_refusal feed_after front_after feed_work_after
         piece-taken e r feed' front' work' t =

@@ -55,11 +55,8 @@ pub fn word_at(bytes: &[u8], at: usize, count: usize) -> u64
     ensures { WordIs bytes.now at count result }
 {
     let mut word: u64 = 0;
-    let mut i = 0;
-    while i < count {
-        let byte = bytes[at + i] as u64;
-        word = word * 256 + byte;
-        i += 1;
+    for byte in &bytes[at..at + count] {
+        word = word * 256 + *byte as u64;
     }
     word
 }
@@ -115,9 +112,9 @@ pub fn job_by_kind(bytes: &[u8], kind: usize, place: usize) -> Job
         pack: pack as i32,
         critical: (past_head / CRITICAL) as i32,
         weight: (past_critical / WEIGHT) as i32,
-        ready: ready,
+        ready,
         length: (back / LENGTH) as i32,
-        deadline: deadline,
+        deadline,
     }
 }
 
@@ -140,7 +137,7 @@ pub fn header_at(bytes: &[u8]) -> Header
     let t0 = time_of(past_count / T0);
     Header {
         count: (word / COUNT) as usize,
-        t0: t0,
+        t0,
         kind: (past_count % T0) as usize,
     }
 }
@@ -162,9 +159,7 @@ pub fn put_word(bytes: &mut [u8], at: usize, count: usize, word: u64)
     ensures { bytes.new ≡ take at bytes.old ++ bytes_of count word ++ drop (at + count) bytes.old }
 {
     let mut left = word;
-    let mut i = count;
-    while i > 0 {
-        i -= 1;
+    for i in (0..count).rev() {
         bytes[at + i] = (left % 256) as u8;
         left /= 256;
     }
@@ -269,23 +264,16 @@ pub fn job_from(numbers: &[i32], at: usize) -> Job
     }
 }
 
-// A job's seven numbers, written at a place.
+// A job's seven numbers, written at a place. Tried: `copy_from_slice` of an array of them takes the way over the stack.
 pub fn put_numbers(numbers: &mut [i32], at: usize, job: Job)
     requires { at + 7 ≤ length numbers.old }
     ensures { numbers.new ≡ take at numbers.old ++ fields_of job ++ drop (at + 7) numbers.old }
 {
-    let number = job.number;
-    let pack = job.pack;
-    let critical = job.critical;
-    let weight = job.weight;
-    let ready = job.ready;
-    let length = job.length;
-    let deadline = job.deadline;
-    numbers[at] = number;
-    numbers[at + 1] = pack;
-    numbers[at + 2] = critical;
-    numbers[at + 3] = weight;
-    numbers[at + 4] = ready;
-    numbers[at + 5] = length;
-    numbers[at + 6] = deadline;
+    numbers[at] = job.number;
+    numbers[at + 1] = job.pack;
+    numbers[at + 2] = job.critical;
+    numbers[at + 3] = job.weight;
+    numbers[at + 4] = job.ready;
+    numbers[at + 5] = job.length;
+    numbers[at + 6] = job.deadline;
 }

@@ -7,7 +7,6 @@ use Rattle.std.specs.Int.Signed.{non_neg}
 use Rattle.std.specs.Int.{w32, w64}
 use Rattle.std.proofs.Math.Facts.{to_z-of_z}
 use Rattle.seconds.specs.Limits.{most_weight}
-use Rattle.seconds.specs.RangesLaws.{time-fits}
 use Rattle.seconds.specs.Signed.{signed, abs_is}
 use Rattle.order.specs.Job.{Job, one_rate, Point}
 use Rattle.order.proofs.Within.{JobWithin}
@@ -26,7 +25,7 @@ use Rattle.sweeping.specs.Sweep.{Carried, Listed, as-list, as-cells, Steppable, 
 use Rattle.sweeping.specs.SweepLaws.{readable, can-step, next-listed, same-room, listed-one, by-list, by-cells}
 use Rattle.codes.specs.declared.Prefix.{Prefix}
 use Rattle.filling.specs.declared.Task.{Task}
-use Rattle.filling.specs.Lists.{terms_of, rate_of, TaskIs, list_of, as_stretch, CanFillOne, FilledOne}
+use Rattle.filling.specs.Lists.{TaskIs, as_stretch, CanFillOne, FilledOne}
 
 -- A number, as the code reads it back from its bits.
 abbrev pub read : ℤ → ℤ
@@ -70,11 +69,8 @@ module _ (bytes : List ℕ) (k : ℕ) (order : OrderFine bytes) (there : k < cou
 
     -- So the job is told.
     pub task-is : TaskIs bytes k (record {
-      critical = eqb (of_z w32 job.critical) 1;
-      ready = read job.ready;
-      deadline = read job.deadline;
-      takes = nat_abs (read job.length);
-      gain = nat_abs (read job.weight);
+      terms = record { critical = eqb (of_z w32 job.critical) 1; ready = read job.ready; deadline = read job.deadline };
+      rate = record { takes = nat_abs (read job.length); gain = nat_abs (read job.weight) };
     })
     task-is = record {
       number = nat_abs job.number;
@@ -90,32 +86,19 @@ module _ (bytes : List ℕ) (k : ℕ) (order : OrderFine bytes) (there : k < cou
 
 -- ---- a job told
 
--- Its times are read back from their bits.
-abbrev read_back : Task → Task
-read_back task = record {
-  critical = task.critical;
-  ready = read task.ready;
-  deadline = read task.deadline;
-  takes = task.takes;
-  gain = task.gain;
-}
-
-pub read-task : {bytes : List ℕ} {k : ℕ} {task : Task} → TaskIs bytes k task → TaskIs bytes k (read_back task)
-read-task t = rw (to_z-of_z (time-fits t.starts), to_z-of_z (time-fits t.ends)) t
-
 module _ {bytes : List ℕ} {k : ℕ} {task : Task} (t : TaskIs bytes k task) where
-  weight_is : (job_in bytes k).weight ≡ task.gain
+  weight_is : (job_in bytes k).weight ≡ task.rate.gain
   weight_is = ap (λ (j : Job). j.weight) t.is
 
-  critical-is : (job_in bytes k).critical ≡ task.critical
+  critical-is : (job_in bytes k).critical ≡ task.terms.critical
   critical-is = ap (λ (j : Job). j.critical) t.is
 
-  step_is : (ps : List Point) → list_step (job_in bytes k) ps ≡ stepped (terms_of task) (rate_of task) ps
-  step_is ps = ap (λ (j : Job). list_step j ps) t.is ∙ any-number t.number (terms_of task) (rate_of task) ps
+  step_is : (ps : List Point) → list_step (job_in bytes k) ps ≡ stepped task.terms task.rate ps
+  step_is ps = ap (λ (j : Job). list_step j ps) t.is ∙ any-number t.number task.terms task.rate ps
 
   -- A profile can be stepped by it,
   task-can : (ps : List Point) → JobWithin (job_in bytes k) → ((p : Point) → In p ps → p.weight + (job_in bytes k).weight ≤ most_weight)
-      → Steppable (terms_of task) (rate_of task) ps
+      → Steppable task.terms task.rate ps
   task-can ps limits light = record {
     starts = t.starts;
     ends = t.ends;
@@ -125,26 +108,26 @@ module _ {bytes : List ℕ} {k : ℕ} {task : Task} (t : TaskIs bytes k task) wh
     weightless = λ kept. omega (arith, weight_is, limits.weightless (critical-is ∙ kept));
   }
 
-  module _ {list : Stretch} {celled : Bool} {work pushed row : List ℤ} (f : CanFillOne bytes k list celled work pushed row) where
-    own-can : Steppable (terms_of task) (rate_of task) f.ps
+  module _ {from : Stretch} {celled : Bool} {work pushed row : List ℤ} (f : CanFillOne bytes k from celled work pushed row) where
+    own-can : Steppable task.terms task.rate f.ps
     own-can = task-can f.ps f.limits f.light
 
-    roomy : Roomy (terms_of task) f.ps (list_of list) work pushed
+    roomy : Roomy task.terms f.ps from.list work pushed
     roomy = record { room = f.room; room_more = λ free. f.room_more (critical-is ∙ free); buffer = f.buffer }
 
   -- as a list,
-  module _ {list : Stretch} {work pushed : List ℤ} (f : CanFillOne bytes k list false work pushed []) where
-    own-list : Listed f.ps (list_of list) list.points work
+  module _ {from : Stretch} {work pushed : List ℤ} (f : CanFillOne bytes k from false work pushed []) where
+    own-list : Listed f.ps from.list from.points work
     own-list = by-list refl f.holds
 
-    pub list-can : CanStep (terms_of task) (rate_of task) (list_of list) work pushed
+    pub list-can : CanStep task.terms task.rate from.list work pushed
     list-can = can-step own-list (own-can f) (roomy f)
 
-    module _ {r : Prefix} {work' pushed' : List ℤ} (s : Stepped (terms_of task) (rate_of task) (list_of list) work r work' pushed') where
+    module _ {r : Prefix} {work' pushed' : List ℤ} (s : Stepped task.terms task.rate from.list work r work' pushed') where
       pub list-readable : Readable work' r
       list-readable = readable (next-listed own-list (own-can f) (roomy f) s)
 
-      pub list-filled : FilledOne bytes k list false work [] (as_stretch r) task.gain work' pushed' []
+      pub list-filled : FilledOne bytes k from false work [] (as_stretch r) task.rate.gain work' pushed' []
       list-filled = record {
         weighs = sym weight_is;
         size = s.size;
@@ -159,13 +142,13 @@ module _ {bytes : List ℕ} {k : ℕ} {task : Task} (t : TaskIs bytes k task) wh
       }
 
   -- and by its cells.
-  module _ {list : Stretch} {work pushed row : List ℤ} (f : CanFillOne bytes k list true work pushed row) where
-    pub cells-can : CanSweep (terms_of task) (rate_of task) (list_of list) work pushed row
-    cells-can = record { ps = f.ps; points = list.points; carried = by-cells refl f.holds; can = own-can f; roomy = roomy f }
+  module _ {from : Stretch} {work pushed row : List ℤ} (f : CanFillOne bytes k from true work pushed row) where
+    pub cells-can : CanSweep task.terms task.rate from.list work pushed row
+    cells-can = record { ps = f.ps; points = from.points; carried = by-cells refl f.holds; can = own-can f; roomy = roomy f }
 
     pub cells-filled : {r : Stretch} {work' pushed' row' : List ℤ}
-        → Swept (terms_of task) (rate_of task) (list_of list) list.points work row r work' pushed' row'
-        → FilledOne bytes k list true work row r task.gain work' pushed' row'
+        → Swept task.terms task.rate from.list from.points work row r work' pushed' row'
+        → FilledOne bytes k from true work row r task.rate.gain work' pushed' row'
     cells-filled {r} {work'} {row' = row'} s = record {
       weighs = sym weight_is;
       size = s.size;
@@ -175,5 +158,5 @@ module _ {bytes : List ℕ} {k : ℕ} {task : Task} (t : TaskIs bytes k task) wh
       buffer = s.buffer;
       next = λ ps h light.
           let n = s.next ps (by-cells refl h) (task-can ps f.limits light) in
-          as-cells (subst (λ (qs : List Point). Carried qs (list_of r) r.points work' row') (sym (step_is ps)) n);
+          as-cells (subst (λ (qs : List Point). Carried qs r.list r.points work' row') (sym (step_is ps)) n);
     }

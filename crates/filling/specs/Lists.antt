@@ -11,30 +11,30 @@ use Rattle.points.specs.Steps.{list_step}
 use Rattle.packed.specs.Packed.{count_of, job_in, jobs_in}
 use Rattle.packed.proofs.Accepted.{OrderFine}
 use Rattle.area.specs.Area.{area}
-use Rattle.codes.specs.Code.{at0, list_at}
+use Rattle.codes.specs.Code.{at0, list_at, end_of}
 use Rattle.codes.specs.Held.{Held}
 use Rattle.codes.specs.declared.Prefix.{Prefix}
-use Rattle.pushing.specs.declared.Rate.{Rate}
 use Rattle.pushing.specs.Pushes.{RateFits}
-use Rattle.stepping.specs.declared.Terms.{Terms}
 use Rattle.stepping.specs.Stepping.{Buffer}
 use Rattle.reading.specs.Reading.{Stands, Says}
 use Rattle.cells.specs.Cells.{reach, wide}
 use Rattle.sweeping.specs.declared.Stretch.{Stretch}
 use Rattle.sweeping.specs.Sweep.{Holds}
 use Rattle.filling.specs.declared.Task.{Task}
-use Rattle.filling.specs.declared.NextList.{NextList}
-use Rattle.filling.specs.declared.NextCells.{NextCells}
 use Rattle.filling.specs.declared.Sofar.{Sofar}
 use Rattle.filling.specs.declared.Totals.{Totals}
 
 -- ---- the lists of all prefixes
 
--- The numbers at the place of the first k jobs, for each k up to n, as many as are counted, say the profile of that prefix,
--- from some points to start with. All of them end by `used`.
-pub record Lists (P : List Point) (js : List Job) (n : ℕ) (places counts : List ℕ) (used : ℕ) (work : List ℤ) : Type 0 where
-  pub stands : (k : ℕ) → k ≤ n → Says work (get_or places k 0) (get_or counts k 0) (extend P (take k js))
-  pub ends : (k : ℕ) → k ≤ n → get_or places k 0 + get_or counts k 0 ≤ used
+-- The note of the list after the first k jobs.
+abbrev pub noted : List Prefix → ℕ → Prefix
+noted notes k = get_or notes k (record { place = 0; count = 0 })
+
+-- The numbers noted for the first k jobs, for each k up to n, say the profile of that prefix, from some points to start with. All
+-- of them end by `used`.
+pub record Lists (P : List Point) (js : List Job) (n : ℕ) (notes : List Prefix) (used : ℕ) (work : List ℤ) : Type 0 where
+  pub stands : (k : ℕ) → k ≤ n → Says work (noted notes k).place (noted notes k).count (extend P (take k js))
+  pub ends : (k : ℕ) → k ≤ n → end_of (noted notes k) ≤ used
 
 -- The points of the lists after each of the first k jobs.
 abbrev pub points_to : List Point → List Job → ℕ → ℕ
@@ -49,58 +49,40 @@ pub record CanRead (bytes : List ℕ) (k : ℕ) : Type 0 where
   pub there : k < count_of bytes
 
 -- its terms and its one rate are then told.
-abbrev pub terms_of : Task → Terms
-terms_of r = record { critical = r.critical; ready = r.ready; deadline = r.deadline }
-
-abbrev pub rate_of : Task → Rate
-rate_of r = record { takes = r.takes; gain = r.gain }
-
 pub record TaskIs (bytes : List ℕ) (k : ℕ) (r : Task) : Type 0 where
   pub number : ℕ
-  pub is : job_in bytes k ≡ one_rate number r.critical r.gain r.ready r.takes r.deadline
-  pub starts : InTime r.ready
-  pub ends : InTime r.deadline
-  pub fits : RateFits (rate_of r)
+  pub is : job_in bytes k ≡ one_rate number r.terms.critical r.rate.gain r.terms.ready r.rate.takes r.terms.deadline
+  pub starts : InTime r.terms.ready
+  pub ends : InTime r.terms.deadline
+  pub fits : RateFits r.rate
 
--- A list by its numbers, and a list as it is told.
-abbrev pub list_of : Stretch → Prefix
-list_of list = record { place = list.place; count = list.count }
-
+-- A list that stands says itself: it has as many points as numbers.
 abbrev pub as_stretch : Prefix → Stretch
-as_stretch list = record { place = list.place; count = list.count; points = list.count }
-
-abbrev pub listed_as : NextList → Stretch
-listed_as r = record { place = r.place; count = r.count; points = r.count }
-
-abbrev pub carried_as : NextCells → Stretch
-carried_as r = record { place = r.place; count = r.count; points = r.points }
-
-abbrev pub reached_by : Sofar → Stretch
-reached_by r = record { place = r.place; count = r.count; points = r.count }
+as_stretch list = record { list = list; points = list.count }
 
 -- The job at a place can be stepped by: the order is accepted, some profile is held, and there is room and weight for the next.
-pub record CanFillOne (bytes : List ℕ) (k : ℕ) (list : Stretch) (celled : Bool) (work pushed row : List ℤ) : Type 0 where
+pub record CanFillOne (bytes : List ℕ) (k : ℕ) (from : Stretch) (celled : Bool) (work pushed row : List ℤ) : Type 0 where
   pub read : CanRead bytes k
   pub ps : List Point
-  pub holds : Holds ps (list_of list) list.points work row celled
+  pub holds : Holds ps from.list from.points work row celled
   pub light : (p : Point) → In p ps → p.weight + (job_in bytes k).weight ≤ most_weight
   pub limits : JobWithin (job_in bytes k)
-  pub room : list.place + list.count + reach ps ≤ length work
-  pub room_more : (job_in bytes k).critical ≡ false → list.place + list.count + 319 < length work
+  pub room : end_of from.list + reach ps ≤ length work
+  pub room_more : (job_in bytes k).critical ≡ false → end_of from.list + 319 < length work
   pub buffer : Buffer pushed
 
 -- Every such profile is held in the same way, stepped by the job, and its weight is told.
-pub record FilledOne (bytes : List ℕ) (k : ℕ) (list : Stretch) (celled : Bool) (work row : List ℤ) (r : Stretch) (weight : ℕ)
+pub record FilledOne (bytes : List ℕ) (k : ℕ) (from : Stretch) (celled : Bool) (work row : List ℤ) (r : Stretch) (weight : ℕ)
     (work' pushed' row' : List ℤ) : Type 0 where
   pub weighs : weight ≡ (job_in bytes k).weight
   pub size : length work' ≡ length work
-  pub stays : (i : ℕ) → i < list.place + list.count → at0 work' i ≡ at0 work i
-  pub further : list.place + list.count ≤ r.place + r.count
-  pub few : r.place + r.count ≤ list.place + list.count + r.count + cond (job_in bytes k).critical 0 1
+  pub stays : (i : ℕ) → i < end_of from.list → at0 work' i ≡ at0 work i
+  pub further : end_of from.list ≤ end_of r.list
+  pub few : end_of r.list ≤ end_of from.list + r.list.count + cond (job_in bytes k).critical 0 1
   pub buffer : Buffer pushed'
-  pub next : (ps : List Point) → Holds ps (list_of list) list.points work row celled
+  pub next : (ps : List Point) → Holds ps from.list from.points work row celled
       → ((p : Point) → In p ps → p.weight + (job_in bytes k).weight ≤ most_weight)
-      → Holds (list_step (job_in bytes k) ps) (list_of r) r.points work' row' celled
+      → Holds (list_step (job_in bytes k) ps) r.list r.points work' row' celled
 
 -- ---- all jobs
 
@@ -114,28 +96,25 @@ pub record CanFill (bytes : List ℕ) (n count : ℕ) (work : List ℤ) : Type 0
   pub room : area ≤ length work
 
 -- And noted: the first of them is, and there is a note for each.
-pub record CanFillLists (bytes : List ℕ) (n : ℕ) (work : List ℤ) (places counts : List ℕ) : Type 0 where
-  pub filling : CanFill bytes n (get_or counts 0 0) work
-  pub first : get_or places 0 0 ≡ 0
-  pub room_places : most_jobs < length places
-  pub room_counts : most_jobs < length counts
+pub record CanFillLists (bytes : List ℕ) (n : ℕ) (work : List ℤ) (notes : List Prefix) : Type 0 where
+  pub filling : CanFill bytes n (noted notes 0).count work
+  pub first : (noted notes 0).place ≡ 0
+  pub room : most_jobs < length notes
 
 -- They are filled, from that profile; the points of all and the weight of all jobs are told.
-pub record Filled (bytes : List ℕ) (n count : ℕ) (work : List ℤ) (totals : Totals) (places counts : List ℕ) (work' : List ℤ)
-    : Type 0 where
+pub record Filled (bytes : List ℕ) (n count : ℕ) (work : List ℤ) (totals : Totals) (notes : List Prefix) (work' : List ℤ) : Type 0 where
   pub used : ℕ
   pub small : used ≤ area
-  pub lists : Lists (list_at work 0 count) (jobs_in bytes) n places counts used work'
+  pub lists : Lists (list_at work 0 count) (jobs_in bytes) n notes used work'
   pub total : totals.points ≡ points_to (list_at work 0 count) (jobs_in bytes) n
   pub weighs : totals.weight ≡ weight_of (jobs_in bytes)
 
 -- And the last is held.
-pub record FilledAll (bytes : List ℕ) (n count : ℕ) (work : List ℤ) (totals : Totals) (celled : Bool) (places counts : List ℕ)
+pub record FilledAll (bytes : List ℕ) (n count : ℕ) (work : List ℤ) (totals : Totals) (celled : Bool) (notes : List Prefix)
     (work' row' : List ℤ) : Type 0 where
-  pub filled : Filled bytes n count work totals places counts work'
+  pub filled : Filled bytes n count work totals notes work'
   pub many : ℕ
-  pub last : Holds (extend (list_at work 0 count) (jobs_in bytes)) (record { place = get_or places n 0; count = get_or counts n 0 }) many work'
-      row' celled
+  pub last : Holds (extend (list_at work 0 count) (jobs_in bytes)) (noted notes n) many work' row' celled
 
 -- The last of them stands.
 pub record FilledLast (bytes : List ℕ) (count : ℕ) (work : List ℤ) (r : Prefix) (work' : List ℤ) : Type 0 where
@@ -143,37 +122,34 @@ pub record FilledLast (bytes : List ℕ) (count : ℕ) (work : List ℤ) (r : Pr
   pub is : list_at work' r.place r.count ≡ extend (list_at work 0 count) (jobs_in bytes)
 
 -- On the way: those of the first k jobs are, the last of them is held as it is noted, and the part in use ends with it.
-pub record Filling (bytes : List ℕ) (count : ℕ) (work₀ : List ℤ) (k : ℕ) (list : Stretch) (celled : Bool) (points weight : ℕ)
-    (places counts : List ℕ) (work row : List ℤ) : Type 0 where
+pub record Filling (bytes : List ℕ) (count : ℕ) (work₀ : List ℤ) (k : ℕ) (last : Stretch) (celled : Bool) (totals : Totals)
+    (notes : List Prefix) (work row : List ℤ) : Type 0 where
   pub size : length work ≡ length work₀
-  pub lists : Lists (list_at work₀ 0 count) (jobs_in bytes) k places counts (list.place + list.count) work
-  pub noted_place : get_or places k 0 ≡ list.place
-  pub noted_count : get_or counts k 0 ≡ list.count
-  pub holds : Holds (extend (list_at work₀ 0 count) (take k (jobs_in bytes))) (list_of list) list.points work row celled
-  pub room : list.place + list.count ≤ (k + 1) * (last_weight (list_at work₀ 0 count) + weight + 1)
-  pub total : points ≡ points_to (list_at work₀ 0 count) (jobs_in bytes) k
-  pub weighs : weight ≡ weight_of (take k (jobs_in bytes))
-  pub room_places : most_jobs < length places
-  pub room_counts : most_jobs < length counts
+  pub lists : Lists (list_at work₀ 0 count) (jobs_in bytes) k notes (end_of last.list) work
+  pub note : noted notes k ≡ last.list
+  pub holds : Holds (extend (list_at work₀ 0 count) (take k (jobs_in bytes))) last.list last.points work row celled
+  pub room : end_of last.list ≤ (k + 1) * (last_weight (list_at work₀ 0 count) + totals.weight + 1)
+  pub total : totals.points ≡ points_to (list_at work₀ 0 count) (jobs_in bytes) k
+  pub weighs : totals.weight ≡ weight_of (take k (jobs_in bytes))
+  pub room_notes : most_jobs < length notes
 
 -- ---- as lists, and by cells
 
 -- Those of some jobs are filled as lists.
-pub record FilledSofar (bytes : List ℕ) (n count : ℕ) (work : List ℤ) (r : Sofar) (places counts : List ℕ) (work' : List ℤ)
-    : Type 0 where
+pub record FilledSofar (bytes : List ℕ) (n count : ℕ) (work : List ℤ) (r : Sofar) (notes : List Prefix) (work' : List ℤ) : Type 0 where
   pub order : r.jobs ≤ n
-  pub filling : Filling bytes count work r.jobs (reached_by r) false r.points r.weight places counts work' []
+  pub filling : Filling bytes count work r.jobs (as_stretch r.list) false r.totals notes work' []
 
 -- So they were from some work area on, and there is a row for cells;
-pub record CanFillCells (bytes : List ℕ) (n : ℕ) (sofar : Sofar) (work : List ℤ) (places counts : List ℕ) (row : List ℤ) : Type 0 where
+pub record CanFillCells (bytes : List ℕ) (n : ℕ) (sofar : Sofar) (work : List ℤ) (notes : List Prefix) (row : List ℤ) : Type 0 where
   pub count : ℕ
   pub work₀ : List ℤ
   pub can : CanFill bytes n count work₀
-  pub filled : FilledSofar bytes n count work₀ sofar places counts work
+  pub filled : FilledSofar bytes n count work₀ sofar notes work
   pub size : length row ≡ wide
 
 -- then all are, from every one from which they were.
-abbrev pub FilledCells : List ℕ → ℕ → Sofar → List ℤ → List ℕ → List ℕ → Totals → List ℕ → List ℕ → List ℤ → List ℤ → Type 0
-FilledCells bytes n sofar work places counts r places' counts' work' row' =
-    (count : ℕ) (work₀ : List ℤ) → CanFill bytes n count work₀ → FilledSofar bytes n count work₀ sofar places counts work
-    → FilledAll bytes n count work₀ r true places' counts' work' row'
+abbrev pub FilledCells : List ℕ → ℕ → Sofar → List ℤ → List Prefix → Totals → List Prefix → List ℤ → List ℤ → Type 0
+FilledCells bytes n sofar work notes r notes' work' row' =
+    (count : ℕ) (work₀ : List ℤ) → CanFill bytes n count work₀ → FilledSofar bytes n count work₀ sofar notes work
+    → FilledAll bytes n count work₀ r true notes' work' row'

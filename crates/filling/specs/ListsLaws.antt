@@ -38,7 +38,8 @@ use Rattle.sweeping.specs.declared.Stretch.{Stretch}
 use Rattle.stepping.specs.Stepping.{Buffer}
 use Rattle.sweeping.specs.Sweep.{Holds, as-list, as-cells}
 use Rattle.sweeping.specs.SweepLaws.{by-list, spread-carried, holds-few, holds-say, holds-counted}
-use Rattle.filling.specs.Lists.{Lists, points_to, list_of, CanFillOne, FilledOne, CanFill, FilledAll, FilledLast, Filling}
+use Rattle.filling.specs.declared.Totals.{Totals}
+use Rattle.filling.specs.Lists.{noted, Lists, points_to, as_stretch, CanFillOne, FilledOne, CanFill, FilledAll, FilledLast, Filling}
 
 -- ---- the jobs of an order
 
@@ -180,39 +181,36 @@ module _ {bytes : List ℕ} {n count : ℕ} {work₀ : List ℤ} (all : CanFill 
   start-counted = rw (start_is P-rises) (sym (list_length work₀ 0 count))
 
   -- Nothing is filled yet but the profile to start with.
-  pub filling-start : {places counts : List ℕ} → get_or places 0 0 ≡ 0 → get_or counts 0 0 ≡ count → most_jobs < length places
-      → most_jobs < length counts
-      → Filling bytes count work₀ 0 (record { place = 0; count = count; points = count }) false 0 0 places counts work₀ []
-  filling-start first counted room_places room_counts = record {
+  pub filling-start : {notes : List Prefix} (list : Prefix) → list.place ≡ 0 → list.count ≡ count → noted notes 0 ≡ list
+      → most_jobs < length notes → Filling bytes count work₀ 0 (as_stretch list) false (record { points = 0; weight = 0 }) notes work₀ []
+  filling-start list front counted is room_notes = record {
     size = refl;
     lists = record {
-      stands = λ k h. let z : k ≡ 0 = omega arith in rw (z, first, counted) (held-says start-held start-counted);
-      ends = λ k h. let z : k ≡ 0 = omega arith in rw (z, first, counted) (omega arith);
+      stands = λ k h. let z : k ≡ 0 = omega arith in rw (z, is, front, counted) (held-says start-held start-counted);
+      ends = λ k h. let z : k ≡ 0 = omega arith in rw (z, is) (omega arith);
     };
-    noted_place = first;
-    noted_count = counted;
+    note = is;
     holds = as-list (record {
       rises = profile_of-rises (outcomes [] P);
-      held = start-held;
-      count = start-counted;
-      told = start-counted;
-      room = omega (arith, start-room, all.room);
+      held = rw front start-held;
+      count = counted ∙ start-counted;
+      told = counted ∙ start-counted;
+      room = omega (arith, front, counted, start-room, all.room);
     });
-    room = omega (arith, rising-short (last_weight P) P-rises (last-heaviest P-rises), list_length work₀ 0 count);
+    room = omega (arith, front, counted, rising-short (last_weight P) P-rises (last-heaviest P-rises), list_length work₀ 0 count);
     total = refl;
     weighs = refl;
-    room_places = room_places;
-    room_counts = room_counts;
+    room_notes = room_notes;
   }
 
-  module _ {k : ℕ} {list : Stretch} {celled : Bool} {points weight : ℕ} {places counts : List ℕ} {work row : List ℤ}
-      (f : Filling bytes count work₀ k list celled points weight places counts work row)
+  module _ {k : ℕ} {last : Stretch} {celled : Bool} {totals : Totals} {notes : List Prefix} {work row : List ℤ}
+      (f : Filling bytes count work₀ k last celled totals notes work row)
     where
-      abbrev place : ℕ
-      place = list.place
+      abbrev used : ℕ
+      used = end_of last.list
 
-      abbrev many : ℕ
-      many = list.count
+      abbrev weight : ℕ
+      weight = totals.weight
 
       abbrev here : List Point
       here = extend P (take k js)
@@ -222,7 +220,7 @@ module _ {bytes : List ℕ} {n count : ℕ} {work₀ : List ℤ} (all : CanFill 
       here-reach = reach_few here (suc (last_weight P + weight)) (λ p m.
           omega (arith, extend-light (take k js) P-rises (jobs-take k js (jobs-fit bytes all.order)) p m, f.weighs))
 
-      few : many ≤ suc (last_weight P + weight)
+      few : last.list.count ≤ suc (last_weight P + weight)
       few = omega (arith, holds-few f.holds, here-reach)
 
       reach-light : last_weight P + weight ≤ 300
@@ -246,7 +244,7 @@ module _ {bytes : List ℕ} {n count : ℕ} {work₀ : List ℤ} (all : CanFill 
         here-light p m =
             omega (arith, extend-light (take k js) P-rises (jobs-take k js (jobs-fit bytes all.order)) p m, f.weighs, next-light)
 
-        pub next-can : {pushed : List ℤ} → Buffer pushed → CanFillOne bytes k list celled work pushed row
+        pub next-can : {pushed : List ℤ} → Buffer pushed → CanFillOne bytes k last celled work pushed row
         next-can b = record {
           read = record { order = all.order; there = there };
           ps = here;
@@ -257,31 +255,31 @@ module _ {bytes : List ℕ} {n count : ℕ} {work₀ : List ℤ} (all : CanFill 
             arith,
             f.size,
             all.room,
-            room_fits (k + 1) (last_weight P + weight) (place + many + reach here)
-                (room-critical k (last_weight P + weight) (place + many) (reach here) f.room (omega (arith, here-reach)))
+            room_fits (k + 1) (last_weight P + weight) (used + reach here)
+                (room-critical k (last_weight P + weight) (used) (reach here) f.room (omega (arith, here-reach)))
                 (omega (arith, few-jobs)) reach-light,
           );
           room_more = λ free. omega (
             arith,
             f.size,
             all.room,
-            room-more k (last_weight P + weight) (place + many) f.room (omega (arith, few-jobs))
+            room-more k (last_weight P + weight) (used) f.room (omega (arith, few-jobs))
                 (omega (arith, next-light, limits.weighty free)),
           );
           buffer = b;
         }
 
         -- and with its list there is one more.
-        module _ {r : Stretch} {w : ℕ} {work' pushed' row' : List ℤ} (one : FilledOne bytes k list celled work row r w work' pushed' row') where
-          abbrev place' : ℕ
-          place' = r.place
+        module _ {r : Stretch} {w : ℕ} {work' pushed' row' : List ℤ} (one : FilledOne bytes k last celled work row r w work' pushed' row') where
+          abbrev used' : ℕ
+          used' = end_of r.list
 
           abbrev count' : ℕ
-          count' = r.count
+          count' = r.list.count
 
-          next-holds : Holds (extend P (take (k + 1) js)) (list_of r) r.points work' row' celled
+          next-holds : Holds (extend P (take (k + 1) js)) r.list r.points work' row' celled
           next-holds =
-              subst (λ (qs : List Point). Holds qs (list_of r) r.points work' row' celled)
+              subst (λ (qs : List Point). Holds qs r.list r.points work' row' celled)
               (list-next bytes all.order k there P-rises) (one.next here f.holds here-light)
 
           next-weighs : weight + w ≡ weight_of (take (k + 1) js)
@@ -296,12 +294,12 @@ module _ {bytes : List ℕ} {n count : ℕ} {work₀ : List ℤ} (all : CanFill 
                     omega (arith, extend-light (take (k + 1) js) P-rises (jobs-take (k + 1) js (jobs-fit bytes all.order)) p m, next-weighs)),
               )
 
-          next-room : place' + count' ≤ (k + 1 + 1) * (last_weight P + (weight + w) + 1)
+          next-room : used' ≤ (k + 1 + 1) * (last_weight P + (weight + w) + 1)
           next-room =
               let same : last_weight P + weight + w + 1 ≡ last_weight P + (weight + w) + 1 = omega arith in
               rw (← same) (by job.critical refl)
             where
-              by : (c : Bool) → job.critical ≡ c → place' + count' ≤ (k + 1 + 1) * (last_weight P + weight + w + 1)
+              by : (c : Bool) → job.critical ≡ c → used' ≤ (k + 1 + 1) * (last_weight P + weight + w + 1)
               by true e =
                   let none : w ≡ 0 = one.weighs ∙ limits.weightless e in
                   let more : ◌≡◌ {A = ℕ} (cond job.critical 0 1) 0 = rw e in
@@ -309,113 +307,98 @@ module _ {bytes : List ℕ} {n count : ℕ} {work₀ : List ℤ} (all : CanFill 
                   rw z (omega (
                     arith,
                     one.few,
-                    room-critical k (last_weight P + weight) (place + many) count' f.room (omega (arith, next-few)),
+                    room-critical k (last_weight P + weight) (used) count' f.room (omega (arith, next-few)),
                   ))
               by false e =
                   let more : ◌≡◌ {A = ℕ} (cond job.critical 0 1) 1 = rw e in
                   omega (
                     arith,
                     one.few,
-                    room-merged k (last_weight P + weight) w (place + many) count' f.room
+                    room-merged k (last_weight P + weight) w (used) count' f.room
                         (omega (arith, one.weighs, limits.weighty e)) next-few,
                   )
 
-          abbrev places' : List ℕ
-          places' = set places (k + 1) place'
+          abbrev notes' : List Prefix
+          notes' = set notes (k + 1) r.list
 
-          abbrev counts' : List ℕ
-          counts' = set counts (k + 1) count'
+          abbrev totals' : Totals
+          totals' = record { points = totals.points + r.points; weight = weight + w }
 
-          new-place : (i : ℕ) → i ≡ k + 1 → get_or places' i 0 ≡ place'
-          new-place i e =
-              ap (λ (x : ℕ). get_or places' x 0) e ∙ get_or-set_same places (k + 1) place' 0 (omega (arith, f.room_places, few-jobs))
+          new-note : (i : ℕ) → i ≡ k + 1 → noted notes' i ≡ r.list
+          new-note i e = ap (noted notes') e ∙ get_or-set_same notes (k + 1) r.list _ (omega (arith, f.room_notes, few-jobs))
 
-          new-count : (i : ℕ) → i ≡ k + 1 → get_or counts' i 0 ≡ count'
-          new-count i e =
-              ap (λ (x : ℕ). get_or counts' x 0) e ∙ get_or-set_same counts (k + 1) count' 0 (omega (arith, f.room_counts, few-jobs))
+          old-note : (i : ℕ) → i ≤ k → noted notes' i ≡ noted notes i
+          old-note i h = get_or-set_other notes (k + 1) i r.list _ (omega arith)
 
-          old-place : (i : ℕ) → i ≤ k → get_or places' i 0 ≡ get_or places i 0
-          old-place i h = get_or-set_other places (k + 1) i place' 0 (omega arith)
-
-          old-count : (i : ℕ) → i ≤ k → get_or counts' i 0 ≡ get_or counts i 0
-          old-count i h = get_or-set_other counts (k + 1) i count' 0 (omega arith)
-
-          lists-more : Lists P js (k + 1) places' counts' (place' + count') work'
+          lists-more : Lists P js (k + 1) notes' used' work'
           lists-more = record {
             stands = λ i h. ⊎_elim
-                (λ e. rw (new-place i e, new-count i e, e) (holds-say next-holds))
+                (λ e. rw (new-note i e, e) (holds-say next-holds))
                 (λ l. old-stands i (omega arith)) (eq-or-lt_of_le h);
             ends = λ i h. ⊎_elim
-                (λ e. rw (new-place i e, new-count i e) (omega arith))
+                (λ e. rw (new-note i e) (omega arith))
                 (λ l. old-ends i (omega arith)) (eq-or-lt_of_le h);
           }
             where
-              old-ends : (i : ℕ) → i ≤ k → get_or places' i 0 + get_or counts' i 0 ≤ place' + count'
-              old-ends i m = rw (old-place i m, old-count i m) (omega (arith, f.lists.ends i m, one.further))
+              old-ends : (i : ℕ) → i ≤ k → end_of (noted notes' i) ≤ used'
+              old-ends i m = rw (old-note i m) (omega (arith, f.lists.ends i m, one.further))
 
-              old-stands : (i : ℕ) → i ≤ k → Says work' (get_or places' i 0) (get_or counts' i 0) (extend P (take i js))
-              old-stands i m =
-                  rw (old-place i m, old-count i m)
-                  (says_stays (place + many) one.stays (f.lists.ends i m) (f.lists.stands i m))
+              old-stands : (i : ℕ) → i ≤ k → Says work' (noted notes' i).place (noted notes' i).count (extend P (take i js))
+              old-stands i m = rw (old-note i m) (says_stays used one.stays (f.lists.ends i m) (f.lists.stands i m))
 
-          pub filling-more : Filling bytes count work₀ (k + 1) r celled (points + r.points) (weight + w) places' counts' work' row'
+          pub filling-more : Filling bytes count work₀ (k + 1) r celled totals' notes' work' row'
           filling-more =
               let e : k + 1 ≡ suc k = omega arith in
               record {
                 size = one.size ∙ f.size;
                 lists = lists-more;
-                noted_place = new-place (k + 1) refl;
-                noted_count = new-count (k + 1) refl;
+                note = new-note (k + 1) refl;
                 holds = next-holds;
                 room = next-room;
                 total = rw e (ap₂ ◌+◌ f.total (holds-counted next-holds ∙ ap (λ (i : ℕ). length (extend P (take i js))) e));
                 weighs = next-weighs;
-                room_places = omega (arith, length-set places (k + 1) place', f.room_places);
-                room_counts = omega (arith, length-set counts (k + 1) count', f.room_counts);
+                room_notes = omega (arith, length-set notes (k + 1) r.list, f.room_notes);
               }
 
       -- A list whose cells are spread is held by them.
-      pub filling-spread : celled ≡ false → {row' : List ℤ} → Cells row' (points_at work (list_of list))
-          → Filling bytes count work₀ k list true points weight places counts work row'
+      pub filling-spread : celled ≡ false → {row' : List ℤ} → Cells row' (points_at work last.list)
+          → Filling bytes count work₀ k last true totals notes work row'
       filling-spread e c = record {
         size = f.size;
         lists = f.lists;
-        noted_place = f.noted_place;
-        noted_count = f.noted_count;
+        note = f.note;
         holds = as-cells (spread-carried (by-list e f.holds) c);
         room = f.room;
         total = f.total;
         weighs = f.weighs;
-        room_places = f.room_places;
-        room_counts = f.room_counts;
+        room_notes = f.room_notes;
       }
 
       -- After all jobs the last list is held,
-      pub filling-last : k ≡ n → Holds (extend P js) (list_of list) list.points work row celled
+      pub filling-last : k ≡ n → Holds (extend P js) last.list last.points work row celled
       filling-last e =
           let every : take k js ≡ js = ap (λ (i : ℕ). take i js) (e ∙ all.jobs) ∙ jobs-all bytes in
-          subst (λ (is : List Job). Holds (extend P is) (list_of list) list.points work row celled) every f.holds
+          subst (λ (is : List Job). Holds (extend P is) last.list last.points work row celled) every f.holds
 
       -- and all are filled.
-      pub filling-all : k ≡ n → FilledAll bytes n count work₀ (record { points = points; weight = weight }) celled places counts work row
+      pub filling-all : k ≡ n → FilledAll bytes n count work₀ totals celled notes work row
       filling-all e =
           let every : take k js ≡ js = ap (λ (i : ℕ). take i js) (e ∙ all.jobs) ∙ jobs-all bytes in
-          let place_is : get_or places n 0 ≡ place = rw e at f.noted_place in
-          let count-is : get_or counts n 0 ≡ many = rw e at f.noted_count in
+          let note_is : noted notes n ≡ last.list = rw e at f.note in
           record {
             filled = record {
-              used = place + many;
-              small = room_fits k (last_weight P + weight) (place + many) f.room (omega (arith, few-jobs)) reach-light;
+              used = used;
+              small = room_fits k (last_weight P + weight) used f.room (omega (arith, few-jobs)) reach-light;
               lists = rw e at f.lists;
               total = rw e at f.total;
               weighs = f.weighs ∙ ap weight_of every;
             };
-            many = list.points;
-            last = rw (place_is, count-is) (filling-last e);
+            many = last.points;
+            last = rw note_is (filling-last e);
           }
 
       -- The sums stay small.
-      pub sums-small : (points ≤ 301 * k) × (weight ≤ 300)
+      pub sums-small : (totals.points ≤ 301 * k) × (weight ≤ 300)
       sums-small = (rw f.total (total-few k), omega (arith, reach-light))
         where
           total-few : (i : ℕ) → points_to P js i ≤ 301 * i
@@ -432,9 +415,8 @@ module _ {bytes : List ℕ} {n count : ℕ} {work₀ : List ℤ} (all : CanFill 
 -- ---- what stands is read
 
 -- The points of each prefix stand.
-pub lists-stand : {P : List Point} {js : List Job} {n : ℕ} {places counts : List ℕ} {used : ℕ} {work : List ℤ}
-    → Lists P js n places counts used work → used ≤ length work → (k : ℕ) → k ≤ n
-    → Stands work (get_or places k 0) (get_or counts k 0)
+pub lists-stand : {P : List Point} {js : List Job} {n : ℕ} {notes : List Prefix} {used : ℕ} {work : List ℤ}
+    → Lists P js n notes used work → used ≤ length work → (k : ℕ) → k ≤ n → Stands work (noted notes k).place (noted notes k).count
 lists-stand l room k h = record { held = (l.stands k h).held; room = omega (arith, l.ends k h) }
 
 -- A last list that is held somewhere is the profile extended by all jobs.

@@ -2,13 +2,13 @@
 // behind it the list after each job of a packed order. Assumes nothing.
 #![tactic(auto)]
 
-ghost use Rattle.std.specs.Prelude.{◌≡◌, true, false, cond, [], ◌∷◌, length, get_or};
+ghost use Rattle.std.specs.Prelude.{◌≡◌, true, false, [], ◌∷◌, length};
 ghost use Rattle.profile.specs.Profile.{last_weight, start_point};
 ghost use Rattle.profiles.specs.Numbers.{holds_profile};
 ghost use Rattle.profiles.specs.Places.{points_of};
 ghost use Rattle.codes.specs.Held.{Held};
 ghost use Rattle.stepping.specs.Stepping.{Buffer};
-ghost use Rattle.filling.specs.Lists.{CanRead, TaskIs, as_stretch, listed_as, carried_as, CanFillOne, FilledOne};
+ghost use Rattle.filling.specs.Lists.{noted, CanRead, TaskIs, as_stretch, CanFillOne, FilledOne};
 ghost use Rattle.filling.specs.Lists.{CanFillLists, FilledSofar, CanFillCells, FilledCells, Filled, CanFill, FilledLast};
 ghost use Rattle.filling.specs.Begin.{CanStart, CanBegin, Begun};
 
@@ -19,41 +19,28 @@ use pushing::Rate;
 use stepping::{Terms, step};
 use sweeping::{Stretch, many_late, settle, sweep};
 
-// A job as it steps a list: on what terms it runs, the seconds that it takes, and the weight that it counts.
+// A note for the list before each job and after the last.
+const NOTES: usize = 49;
+
+// A job as it steps a list: on what terms it runs, and its one rate.
 #[derive(Clone, Copy)]
 struct Task {
-    critical: bool,
-    ready: i32,
-    deadline: i32,
-    takes: usize,
-    gain: usize,
+    terms: Terms,
+    rate: Rate,
 }
 
 // The list after one more job, the weight of the job, and whether many points of the list are past the job's ready time.
 #[derive(Clone, Copy)]
 struct NextList {
-    place: usize,
-    count: usize,
+    list: Prefix,
     weight: usize,
     late: bool,
 }
 
-// The same where a stretch says the list: its numbers, the list's points, and the weight of the job.
+// The same where a stretch says the list.
 #[derive(Clone, Copy)]
 struct NextCells {
-    place: usize,
-    count: usize,
-    points: usize,
-    weight: usize,
-}
-
-// How far the lists are filled as lists: after so many jobs, the list after them, the points of all lists and the weight of all jobs.
-#[derive(Clone, Copy)]
-struct Sofar {
-    jobs: usize,
-    place: usize,
-    count: usize,
-    points: usize,
+    stretch: Stretch,
     weight: usize,
 }
 
@@ -64,50 +51,45 @@ pub struct Totals {
     pub weight: usize,
 }
 
+// How far the lists are filled as lists: after so many jobs, the list after them, and the totals.
+#[derive(Clone, Copy)]
+struct Sofar {
+    jobs: usize,
+    list: Prefix,
+    totals: Totals,
+}
+
 // The job at a place, from its bytes.
 fn task_in(bytes: &[u8], k: usize) -> Task
     requires { CanRead bytes.now k }
     ensures { TaskIs bytes.now k result }
 {
     let job = job_in(bytes, k);
-    let takes = job.length as usize;
-    let gain = job.weight as usize;
-    Task {
+    let terms = Terms {
         critical: job.critical == 1,
         ready: job.ready,
         deadline: job.deadline,
-        takes: takes,
-        gain: gain,
-    }
+    };
+    let rate = Rate {
+        takes: job.length as usize,
+        gain: job.weight as usize,
+    };
+    Task { terms, rate }
 }
 
 // The list after the job at a place, from the list before it, by the three cases.
 fn list_one(work: &mut [i32], bytes: &[u8], k: usize, list: Prefix, pushed: &mut [i32]) -> NextList
     requires { CanFillOne bytes.now k (as_stretch list) false work.old pushed.old [] }
-    ensures { FilledOne bytes.now k (as_stretch list) false work.old [] (listed_as result) result.weight work.new
+    ensures { FilledOne bytes.now k (as_stretch list) false work.old [] (as_stretch result.list) result.weight work.new
         pushed.new [] }
 {
     let task = task_in(bytes, k);
-    let ready = task.ready;
-    let gain = task.gain;
-    let terms = Terms {
-        critical: task.critical,
-        ready: ready,
-        deadline: task.deadline,
-    };
-    let rate = Rate {
-        takes: task.takes,
-        gain: gain,
-    };
-    let next = step(work, list, terms, rate, pushed);
-    let place = next.place;
-    let count = next.count;
-    let late = many_late(work, next, ready);
+    let list = step(work, list, task.terms, task.rate, pushed);
+    let late = many_late(work, list, task.terms.ready);
     NextList {
-        place: place,
-        count: count,
-        weight: gain,
-        late: late,
+        list,
+        weight: task.rate.gain,
+        late,
     }
 }
 
@@ -116,35 +98,18 @@ fn cells_one(
     work: &mut [i32],
     bytes: &[u8],
     k: usize,
-    list: Stretch,
+    from: Stretch,
     pushed: &mut [i32],
     row: &mut [i32],
 ) -> NextCells
-    requires { CanFillOne bytes.now k list true work.old pushed.old row.old }
-    ensures { FilledOne bytes.now k list true work.old row.old (carried_as result) result.weight work.new
-        pushed.new row.new }
+    requires { CanFillOne bytes.now k from true work.old pushed.old row.old }
+    ensures { FilledOne bytes.now k from true work.old row.old result.stretch result.weight work.new pushed.new row.new }
 {
     let task = task_in(bytes, k);
-    let gain = task.gain;
-    let before = Prefix {
-        place: list.place,
-        count: list.count,
-    };
-    let terms = Terms {
-        critical: task.critical,
-        ready: task.ready,
-        deadline: task.deadline,
-    };
-    let rate = Rate {
-        takes: task.takes,
-        gain: gain,
-    };
-    let next = sweep(work, before, list.points, terms, rate, pushed, row);
+    let stretch = sweep(work, from, task.terms, task.rate, pushed, row);
     NextCells {
-        place: next.place,
-        count: next.count,
-        points: next.points,
-        weight: gain,
+        stretch,
+        weight: task.rate.gain,
     }
 }
 
@@ -155,61 +120,44 @@ fn buffer() -> [i32; 304]
     [PAST; 304]
 }
 
-// A note for the list before each job and after the last.
-pub fn notes() -> [usize; 49]
-    ensures { length result ≡ 49 }
+// Notes for the lists, of which the first stands at the front.
+pub fn notes(count: usize) -> [Prefix; NOTES]
+    ensures long { length result ≡ 49 }
+    ensures first { noted result 0 ≡ record { place = 0; count = count } }
 {
-    [0; 49]
+    [Prefix { place: 0, count }; NOTES]
 }
 
-// Up to which job lists go on: no further where many points are late.
-fn until(late: bool, k: usize, n: usize) -> usize
-    ensures { result ≡ cond late k n }
-{
-    if late { k } else { n }
-}
-
-// The lists after each of the n jobs, behind a first list at the front, as long as few points are past a job's ready time. Their
-// places and counts are noted behind that of the first list, which is noted at 0.
-fn fill_by_lists(
-    work: &mut [i32],
-    bytes: &[u8],
-    n: usize,
-    places: &mut [usize],
-    counts: &mut [usize],
-) -> Sofar
-    requires { CanFillLists bytes.now n work.old places.old counts.old }
-    ensures { FilledSofar bytes.now n (get_or counts.old 0 0) work.old result places.new
-        counts.new work.new }
+// The lists after each of the n jobs, behind a first list at the front, as long as few points are past a job's ready time. They
+// are noted behind the first, which is noted at 0.
+fn fill_by_lists(work: &mut [i32], bytes: &[u8], n: usize, notes: &mut [Prefix]) -> Sofar
+    requires { CanFillLists bytes.now n work.old notes.old }
+    ensures { FilledSofar bytes.now n (noted notes.old 0).count work.old result notes.new work.new }
 {
     let mut pushed = buffer();
-    let mut list = Prefix {
-        place: 0,
-        count: counts[0],
+    let mut list = notes[0];
+    let mut totals = Totals {
+        points: 0,
+        weight: 0,
     };
-    let mut points = 0;
-    let mut weight = 0;
-    let mut end = n;
-    let mut k = 0;
-    while k < end {
+    for k in 0..n {
         let next = list_one(work, bytes, k, list, &mut pushed);
-        list = Prefix {
-            place: next.place,
-            count: next.count,
-        };
-        points += next.count;
-        weight += next.weight;
-        k += 1;
-        places[k] = next.place;
-        counts[k] = next.count;
-        end = until(next.late, k, n);
+        list = next.list;
+        totals.points += list.count;
+        totals.weight += next.weight;
+        notes[k + 1] = list;
+        if next.late {
+            return Sofar {
+                jobs: k + 1,
+                list,
+                totals,
+            };
+        }
     }
     Sofar {
-        jobs: k,
-        place: list.place,
-        count: list.count,
-        points: points,
-        weight: weight,
+        jobs: n,
+        list,
+        totals,
     }
 }
 
@@ -219,70 +167,40 @@ fn fill_by_cells(
     bytes: &[u8],
     n: usize,
     sofar: Sofar,
-    places: &mut [usize],
-    counts: &mut [usize],
+    notes: &mut [Prefix],
     row: &mut [i32],
 ) -> Totals
-    requires { CanFillCells bytes.now n sofar work.old places.old counts.old row.old }
-    ensures { FilledCells bytes.now n sofar work.old places.old counts.old result
-        places.new counts.new work.new row.new }
+    requires { CanFillCells bytes.now n sofar work.old notes.old row.old }
+    ensures { FilledCells bytes.now n sofar work.old notes.old result notes.new work.new row.new }
 {
     let mut pushed = buffer();
-    let standing = Prefix {
-        place: sofar.place,
-        count: sofar.count,
+    spread(work, sofar.list, row);
+    let mut last = Stretch {
+        list: sofar.list,
+        points: sofar.list.count,
     };
-    spread(work, standing, row);
-    let mut list = Stretch {
-        place: sofar.place,
-        count: sofar.count,
-        points: sofar.count,
-    };
-    let mut points = sofar.points;
-    let mut weight = sofar.weight;
-    let mut k = sofar.jobs;
-    while k < n {
-        let next = cells_one(work, bytes, k, list, &mut pushed, row);
-        list = Stretch {
-            place: next.place,
-            count: next.count,
-            points: next.points,
-        };
-        points += next.points;
-        weight += next.weight;
-        k += 1;
-        places[k] = next.place;
-        counts[k] = next.count;
+    let mut totals = sofar.totals;
+    for k in sofar.jobs..n {
+        let next = cells_one(work, bytes, k, last, &mut pushed, row);
+        last = next.stretch;
+        totals.points += last.points;
+        totals.weight += next.weight;
+        notes[k + 1] = last.list;
     }
-    Totals {
-        points: points,
-        weight: weight,
-    }
+    totals
 }
 
 // The lists after each of the n jobs, behind a first list at the front: as lists, and from the first with many late points on by cells.
-pub fn fill_lists(
-    work: &mut [i32],
-    bytes: &[u8],
-    n: usize,
-    places: &mut [usize],
-    counts: &mut [usize],
-) -> Totals
-    requires { CanFillLists bytes.now n work.old places.old counts.old }
-    ensures { Filled bytes.now n (get_or counts.old 0 0) work.old result places.new
-        counts.new work.new }
+pub fn fill_lists(work: &mut [i32], bytes: &[u8], n: usize, notes: &mut [Prefix]) -> Totals
+    requires { CanFillLists bytes.now n work.old notes.old }
+    ensures { Filled bytes.now n (noted notes.old 0).count work.old result notes.new work.new }
 {
-    let sofar = fill_by_lists(work, bytes, n, places, counts);
-    let points = sofar.points;
-    let weight = sofar.weight;
+    let sofar = fill_by_lists(work, bytes, n, notes);
     if sofar.jobs < n {
         let mut row = blank_row();
-        return fill_by_cells(work, bytes, n, sofar, places, counts, &mut row);
+        return fill_by_cells(work, bytes, n, sofar, notes, &mut row);
     }
-    Totals {
-        points: points,
-        weight: weight,
-    }
+    sofar.totals
 }
 
 // The list after all of the n jobs, from a first list at the front.
@@ -290,25 +208,14 @@ pub fn fill_last(work: &mut [i32], bytes: &[u8], n: usize, count: usize) -> Pref
     requires { CanFill bytes.now n count work.old }
     ensures { FilledLast bytes.now count work.old result work.new }
 {
-    let mut places = notes();
-    let mut counts = notes();
-    places[0] = 0;
-    counts[0] = count;
-    let sofar = fill_by_lists(work, bytes, n, &mut places, &mut counts);
-    let last = Prefix {
-        place: sofar.place,
-        count: sofar.count,
-    };
+    let mut noted = notes(count);
+    let sofar = fill_by_lists(work, bytes, n, &mut noted);
     if sofar.jobs < n {
         let mut row = blank_row();
-        fill_by_cells(work, bytes, n, sofar, &mut places, &mut counts, &mut row);
-        let carried = Prefix {
-            place: places[n],
-            count: counts[n],
-        };
-        return settle(work, carried, &row);
+        fill_by_cells(work, bytes, n, sofar, &mut noted, &mut row);
+        return settle(work, noted[n], &row);
     }
-    last
+    sofar.list
 }
 
 // The list before the first job: the bus is free at `t0` with nothing kept.
@@ -324,13 +231,10 @@ pub fn start_profile(work: &mut [i32], numbers: &[i32]) -> usize
     requires { CanBegin numbers.now work.old }
     ensures { Begun (points_of numbers.now) result work.new }
 {
-    let mut i = 0;
-    let mut many = 0;
-    while i < numbers.len() {
-        let weight = numbers[i + 1] as usize;
-        work[many] = code_of(numbers[i], weight);
-        i += 2;
-        many += 1;
+    let many = numbers.len() / 2;
+    for k in 0..many {
+        let weight = numbers[2 * k + 1] as usize;
+        work[k] = code_of(numbers[2 * k], weight);
     }
     many
 }

@@ -4,8 +4,7 @@ use mathlib.Core.List.{List}
 use lib.ListN.{length}
 use contract.Lifetimes.{Lfts}
 use Rattle.seconds.specs.Determined.{Determines, determined, two}
-use Rattle.framing.specs.Answer.{framed_of, order_after}
-use Rattle.framing.specs.declared.Framed.{Framed}
+use Rattle.framing.specs.Answer.{Framed, framed_of, order_after}
 use Rattle.framing.proofs.frame.Reads as frame
 
 pub frame-determined : (κs : Lfts 2) → Determines {Z = Framed × List ℕ} (frame.Post κs) (λ r x. (r, x.1.0.now))

@@ -7,12 +7,11 @@ use lib.ListN.{length}
 use contract.Lifetimes.{Lfts}
 use denote.Triple.Clauses.{AtExit}
 use denote.Triple.Entry.{Args}
-use Rattle.packed.specs.Judge.{at_place}
-use Rattle.framing.specs.Answer.{refusal_of}
+use Rattle.std.proofs.Common.{Ok}
+use Rattle.packed.specs.Judge.{at_place, refusal_of}
+use Rattle.framing.specs.Answer.{Framed}
 use Rattle.framing.specs.AnswerSays.{FrameRefusal, frame-refusal, Unfit, sixteen-is, FrameWritten, frame-written}
-use Rattle.framing.specs.declared.Framed.{Framed}
 use Rattle.framing.specs.declared.FrameOrder.{FrameOrder}
-use Rattle.framing.specs.declared.Framed.TheVariants.{Made}
 use Rattle.framing.specs.contracts.frame as frame
 use Rattle.framing.proofs.frame.Reads as reads
 
@@ -23,5 +22,5 @@ module _ (κs : Lfts 2) (a : Args frame.signature κs) (r : Framed) (x : AtExit 
   pub outcome-sixteen : (p : ℕ) → refusal_of r ≡ at_place 16 p ↔ Unfit a.0.now p
   outcome-sixteen p = rw h.0 (sixteen-is a.0.now (length a.1.0.now) p)
 
-  pub outcome-written : (made : FrameOrder) → r ≡ Made made → FrameWritten a.0.now x.1.0.now made
+  pub outcome-written : (made : FrameOrder) → r ≡ Ok made → FrameWritten a.0.now x.1.0.now made
   outcome-written made e = frame-written a.0.now a.1.0.now x.1.0.now made (sym h.0 ∙ e) h.1

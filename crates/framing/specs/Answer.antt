@@ -1,16 +1,19 @@
 -- The answer of framing and the lent bytes after the call, for every input, and its numbers for each case (R42, R43, R26).
 -- Definitions only.
-use Rattle.std.specs.Prelude.{ℕ, List, ◌++◌, ℤ, length, drop}
+use Rattle.std.specs.Prelude.{ℕ, List, ◌++◌, ℤ, length, drop, Result, Ok, Err}
 use Rattle.packed.specs.declared.Refusal.{Refusal}
-use Rattle.packed.specs.Judge.{no_refusal, Verdict, fine, refused, judge}
+use Rattle.packed.specs.Judge.{Verdict, fine, refused, judge}
 use Rattle.frames.specs.Frames.{frame_of, frame_bytes, frame_checks}
-use Rattle.framing.specs.declared.Framed.{Framed}
-use Rattle.framing.specs.declared.Framed.TheVariants.{Refused, Made}
+use Rattle.framing.specs.declared.FrameOrder.{FrameOrder}
+
+-- What framing answers: a refusal, or the order that was written.
+abbrev pub Framed : Type 0
+Framed = Result FrameOrder Refusal
 
 -- The answer for a verdict on repeating jobs: the bytes of the order of one frame, and the frame.
 abbrev pub framed_by : List ℤ → Verdict → Framed
-framed_by zs fine = Made (record { bytes = length (frame_bytes zs); frame = frame_of zs })
-framed_by zs (refused r) = Refused r
+framed_by zs fine = Ok (record { bytes = length (frame_bytes zs); frame = frame_of zs })
+framed_by zs (refused r) = Err r
 
 -- The lent bytes after the call: with no refusal the packed order stands in front, and the rest stays.
 abbrev pub order_by : List ℤ → List ℕ → Verdict → List ℕ
@@ -25,17 +28,12 @@ framed_of zs room = framed_by zs (judge (frame_checks zs room))
 abbrev pub order_after : List ℤ → List ℕ → List ℕ
 order_after zs order = order_by zs order (judge (frame_checks zs (length order)))
 
--- The refusal that stands for each case,
-abbrev pub refusal_of : Framed → Refusal
-refusal_of (Refused r) = r
-refusal_of (Made f) = no_refusal
-
--- the bytes written,
+-- The bytes written, 0 where it refuses,
 abbrev pub bytes_written : Framed → ℕ
-bytes_written (Refused r) = 0
-bytes_written (Made f) = f.bytes
+bytes_written (Err r) = 0
+bytes_written (Ok f) = f.bytes
 
 -- and the frame.
 abbrev pub frame_told : Framed → ℕ
-frame_told (Refused r) = 0
-frame_told (Made f) = f.frame
+frame_told (Err r) = 0
+frame_told (Ok f) = f.frame

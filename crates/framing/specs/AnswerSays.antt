@@ -1,13 +1,13 @@
 -- What an answer of framing says: with 16 the first job that may not repeat, and with bytes that planning accepts them as the order of
 -- the frame, whose every job leaves the bus free by its end.
-use Rattle.std.specs.Prelude.{ℕ, ◌+◌, ◌*◌, ◌%◌, ◌≤◌, ◌<◌, ◌≡◌, refl, Bool, ◌↔◌, ◌≢◌, List, [], ◌++◌, T, ltb, eqb, ℤ, pos, length, take, drop}
+use Rattle.std.specs.Prelude.{ℕ, ◌+◌, ◌*◌, ◌%◌, ◌≤◌, ◌<◌, ◌≡◌, refl, Bool, ◌↔◌, ◌≢◌, List, [], ◌++◌, T, ltb, eqb, ℤ, pos, length, take, drop, Ok, Err}
 use Rattle.std.proofs.Common.{sym, ap, ◌∙◌, arith, take_at, ltb-true, ltb-false, lt-ltb, le-ltb, eqb-true, eq-eqb}
 use Rattle.std.proofs.Math.Logic.Iff
 use borrow.Table.Steps.{cases}
 use Rattle.order.specs.Job.{Order}
 use Rattle.order.specs.Later.{AllInFrame}
 use Rattle.packed.specs.declared.Refusal.{Refusal}
-use Rattle.packed.specs.Judge.{plainly, at_place, no_refusal, Verdict, fine, refused, judge}
+use Rattle.packed.specs.Judge.{plainly, at_place, no_refusal, refusal_of, Verdict, fine, refused, judge}
 use Rattle.packed.specs.JudgeLaws.{stages-fine, Tells, judge-tells, every_number, number-passes, given-before}
 use Rattle.packed.specs.Layout.{record_bytes}
 use Rattle.packed.specs.Packed.{kind_of, order_from, order_of}
@@ -20,10 +20,8 @@ use Rattle.frames.specs.Frames.{given_checks, made_checks, making_checks, frame_
 use Rattle.frames.proofs.GivenLaws.{unfit-is-first}
 use Rattle.frames.specs.Facts.{MakingFine}
 use Rattle.frames.proofs.FrameLaws.{frame-kind, making-fine, made-fine, inside-frame}
-use Rattle.framing.specs.Answer.{framed_by, order_by, framed_of, order_after, refusal_of, bytes_written, frame_told}
-use Rattle.framing.specs.declared.Framed.{Framed}
+use Rattle.framing.specs.Answer.{Framed, framed_by, order_by, framed_of, order_after, bytes_written, frame_told}
 use Rattle.framing.specs.declared.FrameOrder.{FrameOrder}
-use Rattle.framing.specs.declared.Framed.TheVariants.{Refused, Made}
 
 -- ---- the order written
 
@@ -48,7 +46,7 @@ order-says zs f =
     (back.0, rw (back.1, back.2))
 
 -- Every answer with bytes says so.
-pub frame-written : (zs : List ℤ) (was order : List ℕ) (made : FrameOrder) → framed_of zs (length was) ≡ Made made
+pub frame-written : (zs : List ℤ) (was order : List ℕ) (made : FrameOrder) → framed_of zs (length was) ≡ Ok made
     → order ≡ order_after zs was → FrameWritten zs order made
 unfolding record_bytes
 frame-written zs was order made e lent = go (judge (frame_checks zs (length was))) refl
@@ -56,7 +54,7 @@ frame-written zs was order made e lent = go (judge (frame_checks zs (length was)
     go : (v : Verdict) → judge (frame_checks zs (length was)) ≡ v → FrameWritten zs order made
     go (refused r) f = let z : ◌≡◌ {A = ℕ} 0 1 = cc in absurd (omega arith)
     go fine f =
-        let told : framed_by zs fine ≡ Made made = ap (framed_by zs) (sym f) ∙ e in
+        let told : framed_by zs fine ≡ Ok made = ap (framed_by zs) (sym f) ∙ e in
         let long : length (frame_bytes zs) ≡ made.bytes = ap bytes_written told in
         let frame : frame_of zs ≡ made.frame = ap frame_told told in
         let behind : List ℕ = drop (length (frame_bytes zs)) was in
@@ -182,5 +180,5 @@ frame-says zs room e = rw e (refl, refl, refl)
 
 -- Every other number of a refused answer is 0.
 pub refused-else-0 : (a : Framed) → (refusal_of a).number ≢ 0 → (bytes_written a ≡ 0) × (frame_told a ≡ 0)
-refused-else-0 (Refused r) h = (refl, refl)
-refused-else-0 (Made f) h = absurd (h refl)
+refused-else-0 (Err r) h = (refl, refl)
+refused-else-0 (Ok f) h = absurd (h refl)

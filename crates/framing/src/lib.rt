@@ -6,26 +6,20 @@ ghost use Rattle.std.specs.Prelude.{◌≡◌, length};
 ghost use Rattle.repeating.specs.Repeating.{CanCount};
 ghost use Rattle.framing.specs.Answer.{framed_of, order_after};
 
-use judge::{MOST_JOBS, MOST_WEIGHT, Verdict};
-use packed::{Refusal, plainly};
+use judge::{MOST_JOBS, MOST_WEIGHT};
+use packed::Refusal;
+use refusals::Reason;
 use repeating::LONGEST_FRAME;
 
 // An order of one frame: its bytes, and the frame in seconds.
-#[derive(Clone, Copy)]
+#[derive(Clone, Copy, PartialEq, Eq)]
 pub struct FrameOrder {
     pub bytes: usize,
     pub frame: u32,
 }
 
-// What framing gives: a refusal, or the order that was written.
-#[derive(Clone, Copy)]
-pub enum Framed {
-    Refused(Refusal),
-    Made(FrameOrder),
-}
-
 // Writes the order of a frame that is not too long, if it is an order and there is room for it.
-fn make(numbers: &[i32], frame: u32, order: &mut [u8]) -> Framed
+fn make(numbers: &[i32], frame: u32, order: &mut [u8]) -> Result<FrameOrder, Refusal>
     requires { CanCount numbers.now frame }
     ensures answer { result ≡ framed_of numbers.now (length order.old) }
     ensures lent { order.new ≡ order_after numbers.now order.old }
@@ -34,36 +28,29 @@ fn make(numbers: &[i32], frame: u32, order: &mut [u8]) -> Framed
     let count = made.count as usize;
     let weight = made.weight as u64;
     if count > MOST_JOBS {
-        return Framed::Refused(plainly(3));
+        return Err(Reason::TooManyJobs.into());
     }
     if weight > MOST_WEIGHT {
-        return Framed::Refused(plainly(9));
+        return Err(Reason::TooMuchWeight.into());
     }
-    let written = 4 + 8 * count;
-    if order.len() < written {
-        return Framed::Refused(plainly(10));
+    let bytes = 4 + 8 * count;
+    if order.len() < bytes {
+        return Err(Reason::BufferTooShort.into());
     }
     fields::put_header(order, 0, count, 0);
     picking::write_repeats(numbers, count, order);
-    Framed::Made(FrameOrder {
-        bytes: written,
-        frame: frame,
-    })
+    Ok(FrameOrder { bytes, frame })
 }
 
 // The packed order of one frame of repeating jobs, six numbers each, written to the front of `order`; what is past it stays.
-pub fn frame(numbers: &[i32], order: &mut [u8]) -> Framed
+pub fn frame(numbers: &[i32], order: &mut [u8]) -> Result<FrameOrder, Refusal>
     ensures answer { result ≡ framed_of numbers.now (length order.old) }
     ensures lent { order.new ≡ order_after numbers.now order.old }
 {
-    match repeating::judge_given(numbers) {
-        Verdict::Refused(refusal) => Framed::Refused(refusal),
-        Verdict::Fine => {
-            let frame = repeating::frame_of(numbers);
-            if frame > LONGEST_FRAME as u64 {
-                return Framed::Refused(plainly(17));
-            }
-            make(numbers, frame as u32, order)
-        }
+    repeating::judge_given(numbers)?;
+    let frame = repeating::frame_of(numbers);
+    if frame > LONGEST_FRAME as u64 {
+        return Err(Reason::FrameTooLong.into());
     }
+    make(numbers, frame as u32, order)
 }

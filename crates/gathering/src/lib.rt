@@ -6,8 +6,6 @@ ghost use Rattle.std.specs.Prelude.{◌≡◌, cond, ◌+◌, ◌<◌, length, s
 ghost use Rattle.cells.specs.Laying.{is_point};
 ghost use Rattle.gathering.specs.Points.{CanGather, Gathered};
 
-use cells::one_if;
-
 // A cell written at a place, and the place after it where it is a point.
 fn keep(work: &mut [i32], at: usize, cell: i32, next: i32) -> usize
     requires { at < length work.old }
@@ -15,7 +13,7 @@ fn keep(work: &mut [i32], at: usize, cell: i32, next: i32) -> usize
     ensures written { work.new ≡ set work.old at cell }
 {
     work[at] = cell;
-    at + one_if(cell < next) as usize
+    at + usize::from(cell < next)
 }
 
 // The points of the first so many cells, of which the last is one, written at the front. Returns how many they are.
@@ -24,12 +22,8 @@ pub fn gather(row: &[i32], end: usize, work: &mut [i32]) -> usize
     ensures { Gathered row.now end work.old result work.new }
 {
     let mut n = 0;
-    let mut x = 0;
-    while x < end {
-        let a = row[x];
-        let b = row[x + 1];
-        n = keep(work, n, a, b);
-        x += 1;
+    for x in 0..end {
+        n = keep(work, n, row[x], row[x + 1]);
     }
     n
 }

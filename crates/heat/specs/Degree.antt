@@ -1,17 +1,17 @@
 -- What the tests on a degree say of the answer.
-use Rattle.std.specs.Prelude.{◌≡◌, true, false, ℕ, ◌+◌, ◌*◌, ℤ, pos, negsuc, ◌-ℤ◌, nat_abs, ◌≤ℤ◌, ◌<ℤ◌}
+use Rattle.std.specs.Prelude.{◌≡◌, true, false, ℕ, ◌+◌, ◌*◌, ℤ, pos, negsuc, ◌-ℤ◌, nat_abs, ◌≤ℤ◌, ◌<ℤ◌, Ok, Err}
 use Rattle.std.specs.Int.Signed.{le_z, lt_z}
 use Rattle.seconds.specs.Signed.{signed}
+use Rattle.refusals.specs.declared.Reason.TheVariants.{CellTooCold}
 use Rattle.heat.specs.Heat.{degree_of, heat_at}
 use Rattle.heat.specs.Answer.{heating_of}
-use Rattle.heat.specs.declared.Heating.TheVariants.{Seconds, TooCold}
 
 -- Too cold below -30.
-pub heating-cold : (b : ℕ) → degree_of b <ℤ negsuc 29 → heating_of b ≡ TooCold
+pub heating-cold : (b : ℕ) → degree_of b <ℤ negsuc 29 → heating_of b ≡ Err CellTooCold
 heating-cold b h = let e : lt_z (degree_of b) (negsuc 29) ≡ true = omega signed in rw e
 
 -- Else as long as the two slopes say.
-pub heating-else : (b : ℕ) → negsuc 29 ≤ℤ degree_of b → heating_of b ≡ Seconds (heat_at (degree_of b))
+pub heating-else : (b : ℕ) → negsuc 29 ≤ℤ degree_of b → heating_of b ≡ Ok (heat_at (degree_of b))
 heating-else b h = let e : lt_z (degree_of b) (negsuc 29) ≡ false = omega signed in rw e
 
 -- None from 10 up,

@@ -1,11 +1,11 @@
 -- The table that heat-up read before the two slopes stood in the code, and the answer that the call gave with it: one length
 -- for each whole degree from -30 to 9, at the degree plus 30. Definitions only.
-use Rattle.std.specs.Prelude.{ℕ, cond, List, [], ◌∷◌, ℤ, pos, ◌+ℤ◌, nat_abs, get_or}
+use Rattle.std.specs.Prelude.{ℕ, cond, List, [], ◌∷◌, ℤ, pos, ◌+ℤ◌, nat_abs, get_or, Result, Ok, Err}
 use Rattle.std.specs.Int.Signed.{lt_z}
 use Rattle.seconds.specs.Limits.{coldest}
+use Rattle.refusals.specs.declared.Reason.{Reason}
+use Rattle.refusals.specs.declared.Reason.TheVariants.{CellTooCold}
 use Rattle.heat.specs.Heat.{degree_of}
-use Rattle.heat.specs.declared.Heating.{Heating}
-use Rattle.heat.specs.declared.Heating.TheVariants.{Seconds, TooCold}
 
 abbrev pub lengths : List ℕ
 lengths =
@@ -18,5 +18,5 @@ abbrev pub tabled_at : ℤ → ℕ
 tabled_at t = cond (lt_z (pos 9) t) 0 (get_or lengths (nat_abs (t +ℤ pos 30)) 0)
 
 -- The answer for a byte: refused below -30 degrees.
-abbrev pub tabled : ℕ → Heating
-tabled b = cond (lt_z (degree_of b) coldest) TooCold (Seconds (tabled_at (degree_of b)))
+abbrev pub tabled : ℕ → Result ℕ Reason
+tabled b = cond (lt_z (degree_of b) coldest) (Err CellTooCold) (Ok (tabled_at (degree_of b)))

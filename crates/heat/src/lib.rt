@@ -7,19 +7,13 @@ ghost use Rattle.seconds.specs.Limits.{coldest};
 ghost use Rattle.heat.specs.Heat.{degree_of, heat_at};
 ghost use Rattle.heat.specs.Answer.{heating_of};
 
-// The heating that a cell wants: so many seconds, or none since it is too cold (refusal 12).
-#[derive(Clone, Copy)]
-pub enum Heating {
-    Seconds(u32),
-    TooCold,
-}
+use refusals::Reason;
 
 // The degree that a byte means: above 127 it is its value less 256.
 fn degree(byte: u8) -> i32
     ensures { result ≡ degree_of byte }
 {
-    let raw = byte as i32;
-    if raw > 127 { raw - 256 } else { raw }
+    i32::from(byte.cast_signed())
 }
 
 // How far a cell of -30 degrees or more lies below a mark of at most 10.
@@ -44,12 +38,13 @@ fn seconds_at(cell: i32) -> u32
     900 + 120 * degrees_below(-10, cell)
 }
 
-pub fn heat_up(byte: u8) -> Heating
+// The seconds of heating that a cell wants; none where it is too cold.
+pub fn heat_up(byte: u8) -> Result<u32, Reason>
     ensures { result ≡ heating_of byte }
 {
     let cell = degree(byte);
     if cell < -30 {
-        return Heating::TooCold;
+        return Err(Reason::CellTooCold);
     }
-    Heating::Seconds(seconds_at(cell))
+    Ok(seconds_at(cell))
 }

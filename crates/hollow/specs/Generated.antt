@@ -1,16 +1,17 @@
 -- The relations of Contracts are the contracts of the code: for each call, what its generated contract claims of the
 -- arguments, the answer and the parameters at exit is what the relation says. A contract that changes is refused here.
-use Rattle.std.specs.Prelude.{◌≡◌, refl, List, ℕ}
+use Rattle.std.specs.Prelude.{◌≡◌, refl, List, ℕ, Result, ⊤}
 use contract.Lifetimes.{Lfts}
 use Rattle.std.specs.Borrow.{Bor}
 use denote.Triple.Clauses.{AtExit}
 use denote.Triple.Entry.{Args}
-use Rattle.profiles.specs.declared.Finding.{Finding}
+use Rattle.refusals.specs.declared.Reason.{Reason}
+use Rattle.profiles.specs.Answer.{Finding}
 use Rattle.profiles.specs.contracts.lookup as lookup
 use Rattle.profiles.proofs.lookup.Reads as lookup-reads
 use Rattle.point_records.specs.contracts.lookup_records as lookup-records
 use Rattle.point_records.proofs.Determined as records
-use Rattle.better.specs.declared.Joined.{Joined}
+use Rattle.better.specs.Answer.{Joined}
 use Rattle.better.specs.contracts.better_of as better-of
 use Rattle.better.proofs.better_of.Reads as better-of-reads
 use Rattle.unpack.specs.declared.Unpacked.{Unpacked}
@@ -39,7 +40,6 @@ use Rattle.reader_struct.proofs.read_at.Reads as read-at-reads
 use Rattle.reader_struct.proofs.Determined as readers
 use Rattle.report.specs.contracts.report as report
 use Rattle.report.proofs.report.Reads as report-reads
-use Rattle.heat.specs.declared.Heating.{Heating}
 use Rattle.heat.specs.contracts.heat_up as heat-up
 use Rattle.heat.proofs.heat_up.Reads as heat-up-reads
 use Rattle.planner.specs.declared.Planned.{Planned}
@@ -73,7 +73,6 @@ use Rattle.adding.specs.contracts.add as add
 use Rattle.adding.proofs.add.Reads as add_reads
 use Rattle.feeding.specs.contracts.feed as feed
 use Rattle.feeding.proofs.feed.Reads as feed-reads
-use Rattle.sheet_text.specs.declared.Told.{Told}
 use Rattle.sheet_text.specs.contracts.tell as tell
 use Rattle.sheet_text.proofs.tell.Reads as tell-reads
 use Rattle.hollow.specs.Promises.{planning, extending, joining_profiles, looking_up, looking_up_records, unpacking, packing, framing}
@@ -149,7 +148,7 @@ pub report-says : (κs : Lfts 2) (a : Args report.signature κs) (r : ℕ) (x : 
     → report-reads.Post κs a r x → reporting.allows (a.0.now, a.1.0.now) r x.1.0.now
 report-says κs a r x h = (h.count, h.text)
 
-pub heat-up-is : (κs : Lfts 0) (a : Args heat-up.signature κs) (r : Heating) (x : AtExit heat-up.ended κs)
+pub heat-up-is : (κs : Lfts 0) (a : Args heat-up.signature κs) (r : Result ℕ Reason) (x : AtExit heat-up.ended κs)
     → heat-up-reads.Post κs a r x ≡ heating_up.allows a.0 r tt
 heat-up-is κs a r x = refl
 
@@ -187,21 +186,21 @@ pub write-plan-is : (κs : Lfts 3) (a : Args write-plan.signature κs) (r : Pack
     ≡ writing_plan.allows (a.0.now, a.1.0.now, a.1.1.0.now) r (x.1.0.now, x.1.1.0.now)
 write-plan-is κs a r x = refl
 
-pub join_is : (κs : Lfts 2) (a : Args join.signature κs) (r : ℕ) (x : AtExit join.ended κs)
+pub join_is : (κs : Lfts 2) (a : Args join.signature κs) (r : Result ⊤ Reason) (x : AtExit join.ended κs)
     → join-reads.Post κs a r x ≡ joining_sheets.allows (a.0.now, a.1.0.now) r x.0.now
 join_is κs a r x = refl
 
-pub add_is : (κs : Lfts 3) (a : Args add.signature κs) (r : ℕ) (x : AtExit add.ended κs)
+pub add_is : (κs : Lfts 3) (a : Args add.signature κs) (r : Result ⊤ Reason) (x : AtExit add.ended κs)
     → add_reads.Post κs a r x
     ≡ adding.allows (a.0.now, a.1.0.now, a.1.1.0.now) r (x.0.now, x.1.1.0.now)
 add_is κs a r x = refl
 
-pub feed-is : (κs : Lfts 4) (a : Args feed.signature κs) (r : ℕ) (x : AtExit feed.ended κs)
+pub feed-is : (κs : Lfts 4) (a : Args feed.signature κs) (r : Result ⊤ Reason) (x : AtExit feed.ended κs)
     → feed-reads.Post κs a r x
     ≡ feeding.allows (a.0.now, a.1.0.now, a.1.1.0.now, a.1.1.1.0.now) r
     (x.0.now, x.1.0.now, x.1.1.1.0.now)
 feed-is κs a r x = refl
 
-pub tell-is : (κs : Lfts 2) (a : Args tell.signature κs) (r : Told) (x : AtExit tell.ended κs)
+pub tell-is : (κs : Lfts 2) (a : Args tell.signature κs) (r : Result ℕ Reason) (x : AtExit tell.ended κs)
     → tell-reads.Post κs a r x ≡ telling.allows (a.0.now, a.1.0, a.1.1.0.now) r x.1.1.0.now
 tell-is κs a r x = refl

@@ -1,15 +1,12 @@
 -- The contract of each public call as a relation of its inputs and outcomes. Definitions only; that these relations are the
 -- contracts of the code is shown in Generated.
-use Rattle.std.specs.Prelude.{ℕ, ◌≡◌, refl, Bool, true, false, List, ◌++◌, eqb, ltb, ℤ, length, drop}
+use Rattle.std.specs.Prelude.{ℕ, ◌≡◌, refl, Bool, true, false, List, ◌++◌, eqb, ltb, ℤ, length, drop, Result, Ok, Err, is_err, ⊤}
 use Rattle.std.specs.Borrow.{Bor}
-use Rattle.profiles.specs.Answer.{lookup_of}
-use Rattle.profiles.specs.declared.Finding.{Finding}
-use Rattle.profiles.specs.declared.Finding.TheVariants as finding
+use Rattle.refusals.specs.declared.Reason.{Reason}
+use Rattle.profiles.specs.Answer.{Finding, lookup_of}
 use Rattle.point_records.specs.Records.{flattened}
 use Rattle.point_records.specs.declared.Point.{Point}
-use Rattle.better.specs.Answer.{joined_of, out_after as joined_after}
-use Rattle.better.specs.declared.Joined.{Joined}
-use Rattle.better.specs.declared.Joined.TheVariants as joined
+use Rattle.better.specs.Answer.{Joined, joined_of, out_after as joined_after}
 use Rattle.unpack.specs.Answer.{unpack_of, numbers_after}
 use Rattle.unpack.specs.declared.Unpacked.{Unpacked}
 use Rattle.unpack.specs.declared.Unpacked.TheVariants as unpacked
@@ -30,8 +27,6 @@ use Rattle.reader_struct.specs.declared.Reader.{Reader}
 use Rattle.reader_struct.specs.declared.Stepped.{Stepped}
 use Rattle.reader_struct.specs.declared.Reading.{Reading}
 use Rattle.heat.specs.Answer.{heating_of}
-use Rattle.heat.specs.declared.Heating.{Heating}
-use Rattle.heat.specs.declared.Heating.TheVariants as heating
 use Rattle.planner.specs.Calls.{planned_of, starts_after, plan_work_after, PlanCall}
 use Rattle.extending.specs.Calls.{extended_of, out_after, extend_work_after, ExtendCall}
 use Rattle.planner.specs.declared.Planned.{Planned}
@@ -57,7 +52,6 @@ use Rattle.sheet.specs.Sheet.{join_refusal, joined_after as sheet_after, JoinCal
 use Rattle.adding.specs.Calls.{add_refusal, add_after, add_work_after, AddCall}
 use Rattle.feeding.specs.Calls.{feed_refusal, feed_after, front_after, feed_work_after, FeedCall}
 use Rattle.sheet_text.specs.SheetText.{told_of, text_after, TellCall}
-use Rattle.sheet_text.specs.declared.Told.{Told}
 use Rattle.hollow.specs.Contract.{Contract, answering, writing, over}
 
 -- ---- which answers are refusals
@@ -75,14 +69,12 @@ extend_refused (extended.Refused r) = true
 extend_refused (extended.Points n) = false
 
 abbrev join_refused : Joined → Bool
-join_refused joined.NotValid = true
-join_refused joined.NoRoom = true
-join_refused (joined.Points n) = false
+join_refused (Err r) = true
+join_refused (Ok n) = false
 
 abbrev lookup_refused : Finding → Bool
-lookup_refused finding.NotValid = true
-lookup_refused (finding.Found w) = false
-lookup_refused finding.NotFound = false
+lookup_refused (Err r) = true
+lookup_refused (Ok found) = false
 
 abbrev unpack_refused : Unpacked → Bool
 unpack_refused (unpacked.Refused r) = true
@@ -105,9 +97,9 @@ step_refused (read.Refused r) = true
 step_refused (read.Job job) = false
 step_refused read.End = false
 
-abbrev heat_refused : Heating → Bool
-heat_refused heating.TooCold = true
-heat_refused (heating.Seconds l) = false
+abbrev heat_refused : Result ℕ Reason → Bool
+heat_refused (Err r) = true
+heat_refused (Ok l) = false
 
 abbrev question_refused : Chosen → Bool
 question_refused (chosen.Refused r) = true
@@ -293,7 +285,7 @@ reporting =
 -- ---- heat-up lengths
 
 -- A byte.
-abbrev pub heating_up : Contract ℕ Heating (Unit {0})
+abbrev pub heating_up : Contract ℕ (Result ℕ Reason) (Unit {0})
 heating_up = answering heating_of heat_refused
 
 -- ---- openings
@@ -332,12 +324,8 @@ choosing rule =
 
 -- ---- sheets
 
--- Of each the answer is a refusal's number, 0 for none.
-abbrev numbered : ℕ → Bool
-numbered r = ltb 0 r
-
 -- Joining two sheets is given both. Of the first, what it leaves.
-abbrev pub joining_sheets : Contract (List ℕ × List ℕ) ℕ (List ℕ)
+abbrev pub joining_sheets : Contract (List ℕ × List ℕ) (Result ⊤ Reason) (List ℕ)
 joining_sheets =
     record {
       allows = λ x r b. JoinCall x.0 x.1 r b;
@@ -346,14 +334,14 @@ joining_sheets =
       met = λ x. record { answer = refl; lent = refl };
       only = λ x r b h. (h.answer, h.lent);
       lent = λ x. x.0;
-      refusal = numbered;
+      refusal = is_err;
     }
 
 -- One order more is given a sheet, the order's bytes and the work area. Of the first and the last, what it leaves.
 abbrev pub AddInput : Type 0
 AddInput = List ℕ × List ℕ × List ℤ
 
-abbrev pub adding : Contract AddInput ℕ (List ℕ × List ℤ)
+abbrev pub adding : Contract AddInput (Result ⊤ Reason) (List ℕ × List ℤ)
 adding =
     record {
       allows = λ x r b. AddCall x.0 x.1 x.2 r b.0 b.1;
@@ -362,14 +350,14 @@ adding =
       met = λ x. record { answer = refl; lent = refl; area = refl };
       only = λ x r b h. (h.answer, λ i. (h.lent i, h.area i));
       lent = λ x. (x.0, x.2);
-      refusal = numbered;
+      refusal = is_err;
     }
 
 -- Feeding is given the numbers and the front that are held of a stream, a piece, and the work area. Of all but the piece, what it leaves.
 abbrev pub FeedInput : Type 0
 FeedInput = List ℕ × List ℕ × List ℕ × List ℤ
 
-abbrev pub feeding : Contract FeedInput ℕ (List ℕ × List ℕ × List ℤ)
+abbrev pub feeding : Contract FeedInput (Result ⊤ Reason) (List ℕ × List ℕ × List ℤ)
 feeding =
     record {
       allows = λ x r b. FeedCall x.0 x.1 x.2 x.3 r b.0 b.1 b.2;
@@ -382,21 +370,21 @@ feeding =
       met = λ x. record { answer = refl; numbers = refl; room = refl; cleaned = refl };
       only = λ x r b h. (h.answer, λ i. (h.numbers i, h.room i, h.cleaned i));
       lent = λ x. (x.0, x.1, x.3);
-      refusal = numbered;
+      refusal = is_err;
     }
 
 -- Telling a sheet is given it, whether its stream is cut, and bytes to write the text to.
 abbrev pub TellInput : Type 0
 TellInput = List ℕ × Bool × List ℕ
 
-abbrev pub telling : Contract TellInput Told (List ℕ)
+abbrev pub telling : Contract TellInput (Result ℕ Reason) (List ℕ)
 telling =
     record {
       allows = λ x r b. TellCall x.0 x.1 x.2 r b;
       answer = λ x. told_of x.0 x.1 x.2;
       left = λ x. text_after x.0 x.1 x.2;
-      met = λ x. record { refusal = refl; bytes = refl; text = refl };
-      only = λ x r b h. (λ i. record { refusal = h.refusal i; bytes = h.bytes i }, h.text);
+      met = λ x. record { answer = refl; text = refl };
+      only = λ x r b h. (h.answer, h.text);
       lent = λ x. x.2;
-      refusal = λ r. numbered r.refusal;
+      refusal = is_err;
     }

@@ -20,9 +20,7 @@ use Rattle.packed.specs.Refusals.{room_checks}
 use Rattle.packed.proofs.Accepted.{order-fine, jobs-fit}
 use Rattle.profiles.specs.Numbers.{most_numbers, alternating, holds_profile, written_over}
 use Rattle.profiles.specs.NumbersLaws.{alternating-length, profile-back, held, profile-there}
-use Rattle.better.specs.Answer.{joined_of, out_after as joined_after, points_written as points_joined}
-use Rattle.better.specs.declared.Joined.{Joined}
-use Rattle.better.specs.declared.Joined.TheVariants.{Points as JoinedPoints}
+use Rattle.better.specs.Answer.{Joined, joined_of, out_after as joined_after, points_written as points_joined}
 use Rattle.area.specs.Area.{area}
 use Rattle.extending.specs.Calls.{profile_given, extend_judged, extend_checks, extend_verdict, extension, extended_by, extended_of}
 use Rattle.extending.specs.Calls.{Extended, ExtendCall, points_written}
@@ -209,7 +207,7 @@ module _ (P Q : List ℤ) (holds-P : holds_profile P ≡ true) (holds-Q : holds_
     long : ltb (length (lent_better b)) most_numbers ≡ false
     long = omega (signed, b.room)
 
-    better-answers : b.answer ≡ JoinedPoints (length (better_given P Q))
+    better-answers : b.answer ≡ Ok (length (better_given P Q))
     better-answers = better-call.0 ∙ rw (profile-there P holds-P, profile-there Q holds-Q, long)
 
     better-leaves : left_better b ≡ written_over (alternating (better_given P Q)) (lent_better b)

@@ -5,9 +5,7 @@ use contract.Lifetimes.{Lfts}
 use denote.Triple.Clauses.{AtExit}
 use denote.Triple.Entry.{Args}
 use Rattle.profiles.specs.Numbers.{most_numbers}
-use Rattle.better.specs.Answer.{points_written as points_joined}
-use Rattle.better.specs.declared.Joined.{Joined}
-use Rattle.better.specs.declared.Joined.TheVariants.{Points as JoinedPoints}
+use Rattle.better.specs.Answer.{Joined, points_written as points_joined}
 use Rattle.better.specs.contracts.better_of as better-of
 use Rattle.better.proofs.better_of.Reads as better-of-reads
 use Rattle.area.specs.Area.{area}
@@ -61,7 +59,7 @@ pub record BetterOf (P Q : List ℤ) : Type 0 where
 module _ {P Q : List ℤ} (b : BetterOf P Q) where
   -- It is accepted: it answers with a number of points.
   abbrev pub BetterAccepted : Type 0
-  BetterAccepted = b.answer ≡ JoinedPoints (points_joined b.answer)
+  BetterAccepted = b.answer ≡ Ok (points_joined b.answer)
 
   -- The numbers lent to write to, and those numbers at exit.
   abbrev pub lent_better : List ℤ

@@ -19,18 +19,16 @@ use Rattle.packed.specs.Packed.{count_of, order_of}
 use Rattle.packed.specs.JudgeLaws.{every_number, number-passes}
 use Rattle.packed.specs.Refusals.{header_checks, list_checks, job_checks, weight_checks, halves_checks, unpack_checks, pack_checks}
 use Rattle.plan.specs.Plan.{Answer, plan_answer}
-use Rattle.heat.specs.Answer.{refusal_of as heat_refusal, heating_of}
-use Rattle.heat.specs.declared.Heating.{Heating}
-use Rattle.heat.specs.declared.Heating.TheVariants as heating
+use Rattle.heat.specs.Heat.{heat_up}
+use Rattle.heat.specs.Answer.{refusal_of as heat_refusal, heating, heating_of}
 use Rattle.unpack.specs.Answer.{unpacked_by, unpack_of, refusal_of as unpack_refusal}
 use Rattle.pack.specs.Answer.{packed_by, pack_of, refusal_of as pack_refusal}
 use Rattle.reader.specs.Reading.{opened_by, open_of, open_refusal, step_checks, stepped_by, step_of, read_refusal}
-use Rattle.profiles.specs.Answer.{lookup_of, lookup_refusal}
-use Rattle.profiles.specs.declared.Finding.{Finding}
-use Rattle.profiles.specs.declared.Finding.TheVariants as finding
-use Rattle.better.specs.Answer.{joined_of, join_refusal}
-use Rattle.better.specs.declared.Joined.{Joined}
-use Rattle.better.specs.declared.Joined.TheVariants as joined
+use Rattle.order.specs.Job.{Point}
+use Rattle.profile.specs.Profile.{lookup}
+use Rattle.profiles.specs.Numbers.{most_numbers, profile_in}
+use Rattle.profiles.specs.Answer.{finding_of, finding_in, lookup_of, lookup_refusal}
+use Rattle.better.specs.Answer.{better_in, joined_in, joined_of, join_refusal}
 use Rattle.extending.specs.Calls.{extend_judged, extend_checks, extension, extended_by, extended_of, extend_refusal}
 use Rattle.planner.specs.Calls.{plan_checks, planned_by, planned_of, plan_numbers}
 use Rattle.halves.specs.Calls.{plan_halves_checks, with_seconds, lost_seconds, halves_of, halves_numbers}
@@ -99,19 +97,21 @@ by-verdict test cs all number past told = go (judge cs) refl
 
 -- ---- each answer
 
-heat-low : (h : Heating) → T (low (heat_refusal h))
-heat-low (heating.Seconds l) = tt
-heat-low heating.TooCold = tt
+heat-low : (o : Option ℕ) → T (low (heat_refusal (heating o)))
+heat-low none = tt
+heat-low (some l) = tt
 
-lookup-low : (f : Finding) → T (low (lookup_refusal f))
-lookup-low finding.NotValid = tt
-lookup-low (finding.Found w) = tt
-lookup-low finding.NotFound = tt
+found-low : (o : Option Point) → T (low (lookup_refusal (finding_of o)))
+found-low none = tt
+found-low (some p) = tt
 
-better-low : (j : Joined) → T (low (join_refusal j))
-better-low joined.NotValid = tt
-better-low joined.NoRoom = tt
-better-low (joined.Points n) = tt
+lookup-low : (o : Option (List Point)) (t : ℤ) → T (low (lookup_refusal (finding_in o t)))
+lookup-low none t = tt
+lookup-low (some ps) t = found-low (lookup ps t)
+
+better-low : (o : Option (List Point)) (room : ℕ) → T (low (join_refusal (joined_in o room)))
+better-low none room = tt
+better-low (some ps) room = cases (ltb room most_numbers) (λ e. rw e tt) (λ e. rw e tt)
 
 unpack-low : (bytes : List ℕ) (room : ℕ) → T (of_orders (unpack_refusal (unpack_of bytes room)).number)
 unfolding header_checks job_checks weight_checks
@@ -195,14 +195,14 @@ pub record SharedGiven : Type 0 where
 pub shared-given : SharedGiven
 shared-given =
     record {
-      heats = λ κs a r x h. rw h (heat-low (heating_of a.0));
+      heats = λ κs a r x h. rw h (heat-low (heat_up a.0));
       unpacks = λ κs a r x h. rw h.0 (unpack-low a.0.now (length a.1.0.now));
       packs = λ κs a r x h. rw h.0 (pack-low a.0 a.1.0.now (length a.1.1.0.now));
       opens = λ κs a r x h. rw h (open-low a.0.now);
       steps = λ κs a r x h. rw h (step-low a.0.now a.1.0);
-      looks-up = λ κs a r x h. rw h (lookup-low (lookup_of a.0.now a.1.0));
-      looks-up-records = λ κs a r x h. rw h (lookup-low (lookup_of (flattened a.0.now) a.1.0));
-      joins = λ κs a r x h. rw h.0 (better-low (joined_of a.0.now a.1.0.now a.1.1.0.now));
+      looks-up = λ κs a r x h. rw h (lookup-low (profile_in a.0.now) a.1.0);
+      looks-up-records = λ κs a r x h. rw h (lookup-low (profile_in (flattened a.0.now)) a.1.0);
+      joins = λ κs a r x h. rw h.0 (better-low (better_in (profile_in a.0.now) (profile_in a.1.0.now)) (length a.1.1.0.now));
       extends = λ κs a r x h.
           rw h.0 (extend-low a.0.now a.1.0.now a.1.1.0.now a.1.1.1.0.now);
       plans = λ κs a r x h. rw h.0 (plan-low a.0.now a.1.0.now a.1.1.0.now);

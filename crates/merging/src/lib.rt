@@ -2,49 +2,15 @@
 // than all before. Only what stands behind the part in use is written, so the lists before it stay. Assumes nothing.
 #![tactic(auto)]
 
-ghost use Rattle.std.specs.Prelude.{◌≡◌, cond, min, ltb};
+ghost use Rattle.std.specs.Prelude.{◌≡◌};
 ghost use Rattle.merging.specs.Turns.{CanMerge, Merged};
 ghost use Rattle.merging.specs.Joins.{CanCopyFour, CanCopy, Copied, CanLay, Laid, CanWeigh, light_before, CanJoin, Joined};
 
 use codes::{LIGHTEST, PAST, Prefix, light_in};
+use std::hint::select_unpredictable;
 
 // Lighter than every point.
 const LIGHTER_THAN_ALL: usize = LIGHTEST + 1;
-
-// One of two numbers.
-fn either(first: bool, x: i32, y: i32) -> i32
-    ensures { result ≡ cond first x y }
-{
-    if first { x } else { y }
-}
-
-// One if so, else none.
-fn one_if(so: bool) -> usize
-    ensures { result ≡ cond so 1 0 }
-{
-    so as usize
-}
-
-// None if so, else one.
-fn none_if(so: bool) -> usize
-    ensures { result ≡ cond so 0 1 }
-{
-    if so { 0 } else { 1 }
-}
-
-// The lesser of two.
-fn lesser(x: usize, y: usize) -> usize
-    ensures { result ≡ min x y }
-{
-    if x < y { x } else { y }
-}
-
-// One if a point is heavier than all before it, else none: if it is less light than the least light of them.
-fn one_if_heavier(light: usize, best: usize) -> usize
-    ensures { result ≡ cond (ltb light best) 1 0 }
-{
-    one_if(light < best)
-}
 
 // The points of two lists, past each of them a number past all, in turn; each is kept where it is heavier than all before: the
 // first of them where it is less light than `lightest`. Returns the place after the last one kept. A number that is not kept is
@@ -67,21 +33,19 @@ fn merge(
     let mut b = pushed[j];
     let mut n = at;
     let mut best = lightest;
-    let mut left = list.count + other.count;
-    while left > 0 {
+    for _ in 0..list.count + other.count {
         let c = work[i + 1];
         let d = pushed[j + 1];
         let first = a <= b;
-        let x = either(first, a, b);
-        a = either(first, c, a);
-        b = either(first, b, d);
-        i += one_if(first);
-        j += none_if(first);
+        let x = select_unpredictable(first, a, b);
+        a = select_unpredictable(first, c, a);
+        b = select_unpredictable(first, b, d);
+        i += usize::from(first);
+        j += usize::from(!first);
         work[n] = x;
         let light = light_in(x);
-        n += one_if_heavier(light, best);
-        best = lesser(light, best);
-        left -= 1;
+        n += usize::from(light < best);
+        best = light.min(best);
     }
     n
 }
@@ -101,20 +65,19 @@ fn copy_four(work: &mut [i32], from: usize, at: usize)
     work[at + 3] = d;
 }
 
-// A part copied behind itself, in whole sixteens: what is copied past its end is of no account.
+// A part copied behind itself, in whole sixteens: what is copied past its end is of no account. Not `copy_within`: the sixteens
+// were measured (docs/DECISIONS.md, "Lists are merged without waiting for a place").
 fn copy(work: &mut [i32], from: usize, at: usize, count: usize)
     requires { CanCopy from at count work.old }
     ensures { Copied from at count work.old work.new }
 {
-    let mut k = 0;
-    while k < count {
+    for k in (0..count).step_by(16) {
         let f = from + k;
         let t = at + k;
         copy_four(work, f, t);
         copy_four(work, f + 4, t + 4);
         copy_four(work, f + 8, t + 8);
         copy_four(work, f + 12, t + 12);
-        k += 16;
     }
 }
 
@@ -123,11 +86,7 @@ pub fn lay(work: &mut [i32], at: usize, pushed: &[i32], from: usize, count: usiz
     requires { CanLay at pushed.now from count work.old }
     ensures { Laid at pushed.now from count work.old work.new }
 {
-    let mut k = 0;
-    while k < count {
-        work[at + k] = pushed[from + k];
-        k += 1;
-    }
+    work[at..at + count].copy_from_slice(&pushed[from..from + count]);
 }
 
 // How light the number before a place is; lighter than all where the list begins there.
@@ -148,7 +107,7 @@ pub fn join(work: &mut [i32], list: Prefix, z: usize, pushed: &[i32], other: Pre
     ensures { Joined work.old list pushed.now other result work.new }
 {
     let place = list.place;
-    let used = place + list.count;
+    let used = list.end();
     work[used] = PAST;
     let front = z - place;
     copy(work, place, used + 1, front);

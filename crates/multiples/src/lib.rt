@@ -9,12 +9,10 @@ ghost use Rattle.multiples.specs.Multiples.{BothPositive, gcd as gcd_of, lcm as 
 pub fn gcd(a: u32, b: u32) -> u32
     ensures { result ≡ gcd_of a b }
 {
-    let mut x = a;
-    let mut y = b;
+    let (mut x, mut y) = (a, b);
+    // The steps end with the second number at 0, so no range fits.
     while y != 0 {
-        let z = x % y;
-        x = y;
-        y = z;
+        (x, y) = (y, x % y);
     }
     x
 }

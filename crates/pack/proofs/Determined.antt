@@ -5,8 +5,7 @@ use mathlib.Core.List.{List}
 use lib.ListN.{length}
 use contract.Lifetimes.{Lfts}
 use Rattle.seconds.specs.Determined.{Determines, determined, two}
-use Rattle.pack.specs.Answer.{pack_of, bytes_after}
-use Rattle.pack.specs.declared.Packed.{Packed}
+use Rattle.pack.specs.Answer.{Packed, pack_of, bytes_after}
 use Rattle.pack.proofs.pack.Reads as pack
 
 pub pack-determined : (κs : Lfts 2) → Determines {Z = Packed × List ℕ} (pack.Post κs) (λ r x. (r, x.1.1.0.now))

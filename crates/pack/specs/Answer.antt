@@ -1,17 +1,19 @@
 -- The answer of packing and the lent bytes after the call, for every input, and its numbers for each case (R22, R26).
 -- Definitions only.
-use Rattle.std.specs.Prelude.{ℕ, List, ◌++◌, ℤ, length, drop}
+use Rattle.std.specs.Prelude.{ℕ, List, ◌++◌, ℤ, length, drop, Result, Ok, Err}
 use Rattle.packed.specs.declared.Refusal.{Refusal}
-use Rattle.packed.specs.Judge.{no_refusal, Verdict, fine, refused, judge}
+use Rattle.packed.specs.Judge.{Verdict, fine, refused, judge}
 use Rattle.packed.specs.Packed.{pack_order}
 use Rattle.packed.specs.Refusals.{pack_checks}
-use Rattle.pack.specs.declared.Packed.{Packed}
-use Rattle.pack.specs.declared.Packed.TheVariants.{Refused, Bytes}
+
+-- What packing answers: a refusal, or how many bytes were written.
+abbrev pub Packed : Type 0
+Packed = Result ℕ Refusal
 
 -- The answer for a verdict on a bus-free time and numbers.
 abbrev pub packed_by : ℤ → List ℤ → Verdict → Packed
-packed_by t0 numbers fine = Bytes (length (pack_order t0 numbers))
-packed_by t0 numbers (refused r) = Refused r
+packed_by t0 numbers fine = Ok (length (pack_order t0 numbers))
+packed_by t0 numbers (refused r) = Err r
 
 -- The lent bytes after the call: with no refusal the packed order stands in front, and the rest stays.
 abbrev pub bytes_by : ℤ → List ℤ → List ℕ → Verdict → List ℕ
@@ -26,12 +28,7 @@ pack_of t0 numbers room = packed_by t0 numbers (judge (pack_checks t0 numbers ro
 abbrev pub bytes_after : ℤ → List ℤ → List ℕ → List ℕ
 bytes_after t0 numbers bytes = bytes_by t0 numbers bytes (judge (pack_checks t0 numbers (length bytes)))
 
--- The refusal that stands for each case,
-abbrev pub refusal_of : Packed → Refusal
-refusal_of (Refused r) = r
-refusal_of (Bytes n) = no_refusal
-
--- and the bytes written.
+-- The bytes written, 0 where it refuses.
 abbrev pub bytes_written : Packed → ℕ
-bytes_written (Refused r) = 0
-bytes_written (Bytes n) = n
+bytes_written (Err r) = 0
+bytes_written (Ok n) = n

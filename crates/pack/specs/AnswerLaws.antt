@@ -1,5 +1,5 @@
 -- What the code of packing learns on its way, as the answer of the call and the lent bytes after it.
-use Rattle.std.specs.Prelude.{ℕ, ◌+◌, ◌*◌, ◌/◌, ◌≤◌, ◌<◌, ◌≡◌, refl, List, ◌++◌, ℤ, length, drop}
+use Rattle.std.specs.Prelude.{ℕ, ◌+◌, ◌*◌, ◌/◌, ◌≤◌, ◌<◌, ◌≡◌, refl, List, ◌++◌, ℤ, length, drop, Ok, Err}
 use Rattle.std.proofs.Common.{sym, ap, ◌∙◌, arith}
 use borrow.Author.Tests.{lt-ltb}
 use Rattle.packed.specs.declared.Refusal.{Refusal}
@@ -13,14 +13,9 @@ use Rattle.packed.proofs.RefusalLaws.{within-is, room-fine}
 use Rattle.packed.proofs.Accepted.{numbers-fine}
 use Rattle.fields.specs.Asked.{HeaderRoom}
 use Rattle.kinds.specs.Kinds.{Whole}
-use Rattle.judge.specs.Verdicts.{verdict_of}
-use Rattle.judge.specs.Told.{refusal-told}
-use Rattle.judge.specs.declared.Verdict.TheVariants.{Refused as Said}
-use Rattle.pack.specs.Answer.{packed_by, bytes_by, pack_of, bytes_after}
+use Rattle.pack.specs.Answer.{Packed, packed_by, bytes_by, pack_of, bytes_after}
 use Rattle.pack.specs.Writing.{Packable, first_records}
 use Rattle.pack.specs.WritingLaws.{all-written}
-use Rattle.pack.specs.declared.Packed.{Packed}
-use Rattle.pack.specs.declared.Packed.TheVariants.{Refused, Bytes}
 
 module _ (t0 : ℤ) (numbers : List ℤ) (was : List ℕ) where
   -- The answer and the lent bytes after the call are as they should be.
@@ -38,14 +33,12 @@ module _ (t0 : ℤ) (numbers : List ℤ) (was : List ℕ) where
   by-stages = judge-append (number_checks t0 numbers) (room_checks (4 + record_bytes (kind_for numbers) * job_count numbers) (length was))
 
   -- The numbers are no order.
-  pub packs-refused : (r : Refusal) → verdict_of (judge (number_checks t0 numbers)) ≡ Said r → Packs (Refused r) was
-  packs-refused r e =
-      let said : judge (number_checks t0 numbers) ≡ refused r = refusal-told (judge (number_checks t0 numbers)) r e in
-      packs-by (refused r) (by-stages ∙ rw said)
+  pub packs-refused : (r : Refusal) → judge (number_checks t0 numbers) ≡ refused r → Packs (Err r) was
+  packs-refused r e = packs-by (refused r) (by-stages ∙ rw e)
 
   -- They are one, and there is room.
   pub packs-order : judge (number_checks t0 numbers) ≡ fine → 4 + record_bytes (kind_for numbers) * job_count numbers ≤ length was
-      → Packs (Bytes (length (pack_order t0 numbers))) (pack_order t0 numbers ++ drop (length (pack_order t0 numbers)) was)
+      → Packs (Ok (length (pack_order t0 numbers))) (pack_order t0 numbers ++ drop (length (pack_order t0 numbers)) was)
   packs-order order enough = packs-by fine (by-stages ∙ rw (order, (room-fine (4 + record_bytes (kind_for numbers) * job_count numbers) (length was)).1 enough))
 
   -- They are one, and are packed by the count of jobs that the code takes.
@@ -56,7 +49,7 @@ module _ (t0 : ℤ) (numbers : List ℤ) (was : List ℕ) where
     whole-jobs = let f = ((numbers-fine t0 numbers).0 order).list in record { few = f.few; whole = f.whole }
 
     -- There is too little room.
-    pub packs-no-room : length was < 4 + record_bytes (kind_for numbers) * (length numbers / 7) → Packs (Refused (plainly 10)) was
+    pub packs-no-room : length was < 4 + record_bytes (kind_for numbers) * (length numbers / 7) → Packs (Err (plainly 10)) was
     unfolding job_count
     packs-no-room l =
         packs-by (refused (plainly 10)) (by-stages ∙ rw (order, lt-ltb (length was) (4 + record_bytes (kind_for numbers) * (length numbers / 7)) l))
@@ -86,8 +79,8 @@ module _ (t0 : ℤ) (numbers : List ℤ) (was : List ℕ) where
       -- and they are written.
       pub packs-written : (bytes : List ℕ)
           → bytes ≡ first_records (kind_for numbers) numbers (length numbers / 7) (packed_header (kind_for numbers) (length numbers / 7) t0 ++ drop 4 was)
-          → Packs (Bytes (4 + record_bytes (kind_for numbers) * (length numbers / 7))) bytes
+          → Packs (Ok (4 + record_bytes (kind_for numbers) * (length numbers / 7))) bytes
       unfolding job_count
       packs-written bytes e =
           let packs = packs-order order room in
-          (ap Bytes (sym (length-packed (kind_for numbers) t0 numbers)) ∙ packs.0, e ∙ all-written (kind_for numbers) numbers was t0 ∙ packs.1)
+          (ap (λ n. Ok n) (sym (length-packed (kind_for numbers) t0 numbers)) ∙ packs.0, e ∙ all-written (kind_for numbers) numbers was t0 ∙ packs.1)

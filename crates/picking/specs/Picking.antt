@@ -12,11 +12,6 @@ pub record IsLeast (times : List ℕ) (n place : ℕ) : Type 0 where
   pub least : (p : ℕ) → p < n → get_or times place 0 ≤ get_or times p 0
   pub first : (p : ℕ) → p < place → get_or times place 0 < get_or times p 0
 
--- There is one among them.
-pub record CanPick (times : List ℕ) (n : ℕ) : Type 0 where
-  pub some : 1 ≤ n
-  pub room : n ≤ length times
-
 -- A job is ready next at its phase + a multiple of its period.
 pub record ReadyAt (zs : List ℤ) (p time : ℕ) : Type 0 where
   pub times : ℕ

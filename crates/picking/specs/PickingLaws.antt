@@ -1,6 +1,6 @@
 -- The least of the next ready times is the next repeat of the sequence, and with its job moved on by a period one repeat more is done.
-use Rattle.std.specs.Prelude.{ℕ, zero, suc, ◌+◌, ◌*◌, ◌≤◌, ◌<◌, ◌≡◌, refl, ◌≢◌, ltb, eqb, ℤ, length, get_or, drop, set}
-use Rattle.std.proofs.Common.{sym, ap, ◌∙◌, ⊎_elim, suc-mul, mul-le-mul_right, lt_of_mul-lt-mul_right, arith, length-set, drop-cons, get_or-set_same, get_or-set_other, ltb-true, ltb-false, eqb-true}
+use Rattle.std.specs.Prelude.{ℕ, zero, suc, ◌+◌, ◌*◌, ◌≤◌, ◌<◌, ◌≡◌, refl, ◌≢◌, ltb, eqb, ℤ, length, get_or, take, drop, set}
+use Rattle.std.proofs.Common.{sym, ap, ◌∙◌, ⊎_elim, suc-mul, mul-le-mul_right, lt_of_mul-lt-mul_right, arith, length-set, length-take-le, drop-cons, get_or-take, get_or-set_same, get_or-set_other, ltb-true, ltb-false, eqb-true}
 use mathlib.Core.List.Memᴰ
 use mathlib.Core.List.{List, [], ◌∷◌, Memᴰ}
 use Rattle.std.proofs.lemmas.Bool.{eqb-false}
@@ -44,6 +44,18 @@ least_stays times p place l h =
           (λ e. l.least q (ltb-true q p e))
           (λ e. let here : q ≡ p = omega (arith, ltb-false q p e) in rw here h);
       first = l.first;
+    }
+
+-- The least of the first n is it in the whole list too.
+pub least-front : (times : List ℕ) (n place : ℕ) → n ≤ length times → IsLeast (take n times) (length (take n times)) place → IsLeast times n place
+least-front times n place room l =
+    let long : length (take n times) ≡ n = length-take-le n times room in
+    let at : (p : ℕ) → p < n → get_or (take n times) p 0 ≡ get_or times p 0 = λ p h. get_or-take n times p 0 h in
+    let there : place < n = omega (arith, l.there) in
+    record {
+      there = there;
+      least = λ p h. omega (arith, l.least p (omega arith), at place there, at p h);
+      first = λ p h. omega (arith, l.first p h, at place there, at p (omega arith));
     }
 
 -- ---- what stands behind a place of a sorted list

@@ -1,6 +1,6 @@
 -- One repeat written as a job of the order: it has room in the code's types and in the order, and it is the next of the sequence.
-use Rattle.std.specs.Prelude.{ℕ, ◌+◌, ◌*◌, ◌/◌, ◌<◌, ◌≡◌, List, ℤ, pos, nat_abs, ◌+ℤ◌, length, get_or, take, drop, set}
-use Rattle.std.proofs.Common.{sym, ap, ◌∙◌, arith, Fits, SFits, to_z, of_z, to_z-of_z}
+use Rattle.std.specs.Prelude.{ℕ, ◌+◌, ◌*◌, ◌/◌, ◌≤◌, ◌<◌, ◌≡◌, List, ℤ, pos, nat_abs, ◌+ℤ◌, length, get_or, take, drop, set}
+use Rattle.std.proofs.Common.{sym, ap, ◌∙◌, arith, Fits, SFits, to_z, of_z, to_z-of_z, length-take-le}
 use Rattle.std.specs.Int.{w32}
 use Rattle.std.proofs.Math.Facts.{to_z_pos}
 use Rattle.seconds.specs.Limits.{heaviest, longest_frame}
@@ -19,8 +19,8 @@ use Rattle.frames.proofs.FrameLaws.{repeat-there, made-within}
 use Rattle.repeating.specs.Repeating.{numbers_in}
 use Rattle.repeating.specs.RepeatingLaws.{JobRead, job_read}
 use Rattle.repeating.specs.declared.Repeating.{Repeating}
-use Rattle.picking.specs.Picking.{IsLeast, CanPick, Reached, CanMake, CanPut}
-use Rattle.picking.specs.PickingLaws.{picked, one-done}
+use Rattle.picking.specs.Picking.{IsLeast, Reached, CanMake, CanPut}
+use Rattle.picking.specs.PickingLaws.{least-front, picked, one-done}
 
 -- ---- the job of a repeat
 
@@ -57,12 +57,21 @@ module _ {number ready : ℕ} {j : Repeating} (can : CanMake number ready (numbe
 -- ---- the next repeat
 
 module _ {zs : List ℤ} {k : ℕ} {next order : List ℕ} (can : CanPut zs k next order) where
-  -- There is a job to pick.
-  pub can-pick : CanPick next (length zs / 6)
+  -- There is a time for each job,
+  pub times-there : length zs / 6 ≤ length next
+  unfolding jobs_given
+  times-there = can.reached.room
+
+  -- and there is one to pick.
+  pub can-pick : 1 ≤ length (take (length zs / 6) next)
   unfolding jobs_given
   can-pick =
       let r = repeat-there can.making.given k can.more in
-      record { some = omega (arith, r.there); room = can.reached.room }
+      omega (arith, r.there, length-take-le (length zs / 6) next times-there)
+
+  -- What is picked of them is the least.
+  pub picks : (place : ℕ) → IsLeast (take (length zs / 6) next) (length (take (length zs / 6) next)) place → IsLeast next (length zs / 6) place
+  picks place l = least-front next (length zs / 6) place times-there l
 
   module _ (place : ℕ) (least : IsLeast next (length zs / 6) place) where
     -- Its next ready time is the next repeat of the sequence,

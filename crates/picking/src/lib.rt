@@ -2,29 +2,27 @@
 // (R42). Assumes nothing.
 #![tactic(auto)]
 
-ghost use Rattle.std.specs.Prelude.{◌≡◌, ◌++◌, ◌+◌, ◌*◌, take, drop};
+ghost use Rattle.std.specs.Prelude.{◌≡◌, ◌++◌, ◌+◌, ◌*◌, ◌≤◌, length, take, drop};
 ghost use Rattle.packed.specs.Layout.{encode, bytes_of, job_layout};
 ghost use Rattle.fields.specs.Fields.{fields_of};
 ghost use Rattle.pack.specs.Writing.{first_records};
 ghost use Rattle.frames.specs.Frames.{made_of, numbers_for, repeat_at, frame_numbers};
 ghost use Rattle.repeating.specs.Repeating.{numbers_in};
-ghost use Rattle.picking.specs.Picking.{IsLeast, CanPick, Reached, CanStart, CanMake, CanPut, CanWrite};
+ghost use Rattle.picking.specs.Picking.{IsLeast, Reached, CanStart, CanMake, CanPut, CanWrite};
 
 use fields::Job;
-use repeating::{MOST_REPEATING, Repeating, count_of, repeating_at};
+use repeating::{MOST_REPEATING, Repeating, count_of};
 
-// The first of the least of the first `count` numbers.
-fn least(times: &[u32], count: usize) -> usize
-    requires { CanPick times.now count }
-    ensures { IsLeast times.now count result }
+// The place of the least of some numbers, the first of those that are equal.
+fn least(times: &[u32]) -> usize
+    requires { 1 ≤ length times.now }
+    ensures { IsLeast times.now (length times.now) result }
 {
     let mut place = 0;
-    let mut p = 1;
-    while p < count {
+    for p in 1..times.len() {
         if times[p] < times[place] {
             place = p;
         }
-        p += 1;
     }
     place
 }
@@ -34,12 +32,9 @@ fn set_first(numbers: &[i32], next: &mut [u32])
     requires { CanStart numbers.now next.old }
     ensures { Reached numbers.now next.new 0 }
 {
-    let given = numbers.len() / 6;
-    let mut p = 0;
-    while p < given {
-        let job = repeating_at(numbers, 6 * p);
+    for p in 0..numbers.len() / 6 {
+        let job = Repeating::read(numbers, 6 * p);
         next[p] = count_of(job.phase);
-        p += 1;
     }
 }
 
@@ -54,7 +49,7 @@ fn job_of(number: usize, ready: u32, job: Repeating) -> Job
         pack: 0,
         critical: job.critical,
         weight: job.weight,
-        ready: ready,
+        ready,
         length: job.length,
         deadline: ready + job.deadline,
     }
@@ -68,9 +63,9 @@ fn put_next(numbers: &[i32], k: usize, next: &mut [u32], order: &mut [u8])
         ++ bytes_of 8 (encode (job_layout 0) (numbers_for numbers.now k (repeat_at numbers.now k)))
         ++ drop (4 + 8 * k + 8) order.old }
 {
-    let place = least(next, numbers.len() / 6);
+    let place = least(&next[..numbers.len() / 6]);
     let ready = next[place];
-    let job = repeating_at(numbers, 6 * place);
+    let job = Repeating::read(numbers, 6 * place);
     next[place] = ready + count_of(job.period);
     fields::put_job(order, 4 + 8 * k, 0, job_of(k, ready, job));
 }
@@ -82,9 +77,7 @@ pub fn write_repeats(numbers: &[i32], count: usize, order: &mut [u8])
 {
     let mut next = [0u32; MOST_REPEATING];
     set_first(numbers, &mut next);
-    let mut k = 0;
-    while k < count {
+    for k in 0..count {
         put_next(numbers, k, &mut next, order);
-        k += 1;
     }
 }

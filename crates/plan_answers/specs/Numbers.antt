@@ -1,11 +1,9 @@
 -- For each answer on profiles and plans the struct that says it: the refusal's numbers and the values of the rules. In a refused
 -- answer all but those of the refusal are 0 (R26). Definitions only.
 use Rattle.std.specs.Prelude.{ℕ}
-use Rattle.profiles.specs.Answer.{lookup_refusal, found_of, weight_found}
-use Rattle.profiles.specs.declared.Finding.{Finding}
-use Rattle.better.specs.Answer.{join_refusal, points_written as points_joined}
-use Rattle.better.specs.declared.Joined.{Joined}
 use Rattle.packed.specs.Judge.{refusal_of}
+use Rattle.profiles.specs.Answer.{Finding, lookup_refusal, found_of, weight_found}
+use Rattle.better.specs.Answer.{Joined, join_refusal, points_written as points_joined}
 use Rattle.extending.specs.Calls.{Extended, points_written}
 use Rattle.planner.specs.Calls.{Planned, PlanNumbers, plan_numbers}
 use Rattle.halves.specs.Calls.{HalvesPlanned, halves_numbers}

@@ -6,11 +6,10 @@ ghost use Rattle.std.specs.Prelude.{◌≡◌};
 ghost use Rattle.plan_answers.specs.Numbers.{lookup_numbers, better_numbers, extend_numbers};
 ghost use Rattle.plan_answers.specs.Numbers.{plan_figures, beside, halves_figures};
 
-use better::Joined;
 use halves::HalvesPlan;
 use packed::Refusal;
 use planner::Figures;
-use profiles::Finding;
+use refusals::Reason;
 
 // A lookup: found (1 or 0), and the weight.
 #[repr(C)]
@@ -71,21 +70,21 @@ pub struct HalvesAnswer {
 }
 
 // The answer of a lookup.
-pub fn lookup_answer(finding: Finding) -> LookupAnswer
+pub fn lookup_answer(finding: Result<Option<u32>, Reason>) -> LookupAnswer
     ensures { result ≡ lookup_numbers finding }
 {
     match finding {
-        Finding::NotValid => LookupAnswer {
-            refusal: 8,
+        Err(reason) => LookupAnswer {
+            refusal: reason.number(),
             found: 0,
             weight: 0,
         },
-        Finding::Found(weight) => LookupAnswer {
+        Ok(Some(weight)) => LookupAnswer {
             refusal: 0,
             found: 1,
-            weight: weight,
+            weight,
         },
-        Finding::NotFound => LookupAnswer {
+        Ok(None) => LookupAnswer {
             refusal: 0,
             found: 0,
             weight: 0,
@@ -94,22 +93,15 @@ pub fn lookup_answer(finding: Finding) -> LookupAnswer
 }
 
 // The answer of better-of.
-pub fn better_answer(joined: Joined) -> BetterAnswer
+pub fn better_answer(joined: Result<usize, Reason>) -> BetterAnswer
     ensures { result ≡ better_numbers joined }
 {
     match joined {
-        Joined::NotValid => BetterAnswer {
-            refusal: 8,
+        Err(reason) => BetterAnswer {
+            refusal: reason.number(),
             points: 0,
         },
-        Joined::NoRoom => BetterAnswer {
-            refusal: 10,
-            points: 0,
-        },
-        Joined::Points(written) => BetterAnswer {
-            refusal: 0,
-            points: written,
-        },
+        Ok(points) => BetterAnswer { refusal: 0, points },
     }
 }
 

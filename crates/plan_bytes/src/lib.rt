@@ -38,17 +38,12 @@ pub fn plan_bytes(n: usize) -> usize
 fn unit(n: usize) -> u64
     ensures { result ≡ 2 ^ pad_bits n }
 {
-    let rest = n % 4;
-    if rest == 0 {
-        return 1;
+    match n % 4 {
+        0 => 1,
+        1 => 64,
+        2 => 16,
+        _ => 4,
     }
-    if rest == 1 {
-        return 64;
-    }
-    if rest == 2 {
-        return 16;
-    }
-    4
 }
 
 // The start at a place: it ends the plan of the starts up to it.
@@ -119,11 +114,8 @@ pub fn put_plan(bytes: &mut [u8], mask: u64, starts: &[i32]) -> usize
 {
     put_word(bytes, 0, MASK_BYTES, mask);
     let mut kept = 0;
-    let mut place = 0;
-    while place < starts.len() {
-        let start = starts[place];
-        kept = put_kept(bytes, kept, start);
-        place += 1;
+    for start in starts {
+        kept = put_kept(bytes, kept, *start);
     }
     plan_bytes(kept)
 }

@@ -21,6 +21,7 @@ use Rattle.points.specs.Steps.{list_after}
 use Rattle.points.proofs.PrefixLaws.{Singles}
 use Rattle.points.specs.Walk.{walk_lists, walk_lists_from}
 use Rattle.points.proofs.WalkLaws.{plan-by-lists}
+use Rattle.codes.specs.declared.Prefix.{Prefix}
 use Rattle.filling.specs.Lists.{Lists}
 use Rattle.filling.specs.ListsLaws.{jobs-single}
 use Rattle.walking.specs.declared.End.{End}
@@ -75,17 +76,16 @@ module _ (bytes : List ℕ) (fine : OrderFine bytes) (e : Ended) (is : plan (t0_
 
   -- The walk from its end can be made,
   pub plan-walks : (n : ℕ) (end : End) → n ≡ count_of bytes → end.weight ≡ e.end.weight → end.finish ≡ e.end.time
-      → (work : List ℤ) (places counts : List ℕ) (used : ℕ) → Lists (start_point (t0_of bytes) ∷ []) (jobs_in bytes) n places counts used work
-      → used ≤ length work → n < length places → n < length counts → Walks work bytes n places counts end
-  plan-walks n end count weighs ends work places counts used lists room room_places room_counts =
+      → (work : List ℤ) (notes : List Prefix) (used : ℕ) → Lists (start_point (t0_of bytes) ∷ []) (jobs_in bytes) n notes used work
+      → used ≤ length work → n < length notes → Walks work bytes n notes end
+  plan-walks n end count weighs ends work notes used lists room room_notes =
       record {
         order = fine;
         count = count;
         used = used;
         lists = lists;
         room = room;
-        room_places = room_places;
-        room_counts = room_counts;
+        room_notes = room_notes;
         free = rw ends (plan-free (t0_of bytes) (jobs_in bytes) e is (jobs-fit bytes fine) free);
         choice = e.choice;
         walked = rw (weighs, ends) (plan-walked (t0_of bytes) (jobs_in bytes) e is (jobs-single bytes fine));

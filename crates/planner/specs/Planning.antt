@@ -1,5 +1,5 @@
 -- What the parts of planning ask of their callers and give. Definitions only.
-use Rattle.std.specs.Prelude.{ℕ, ◌≤◌, ◌<◌, ◌≡◌, List, ℤ, length, get_or}
+use Rattle.std.specs.Prelude.{ℕ, ◌≤◌, ◌<◌, ◌≡◌, List, ℤ, length}
 use Rattle.std.proofs.Math.Option.{some}
 use Rattle.seconds.specs.Limits.{most_jobs}
 use Rattle.order.specs.Job.{weight_of}
@@ -12,7 +12,9 @@ use Rattle.packed.proofs.Accepted.{OrderFine}
 use Rattle.fields.specs.declared.Header.{Header}
 use Rattle.fields.specs.Facts.{HeaderRead}
 use Rattle.area.specs.Area.{area}
+use Rattle.codes.specs.declared.Prefix.{Prefix}
 use Rattle.filling.specs.declared.Totals.{Totals}
+use Rattle.filling.specs.Lists.{noted}
 use Rattle.walking.specs.declared.End.{End}
 use Rattle.planner.specs.Calls.{Planned, planned_by, starts_by}
 
@@ -24,12 +26,10 @@ pub record CanPlan (bytes : List ℕ) (header : Header) (starts work : List ℤ)
   pub room : area ≤ length work
 
 -- The same with notes for the lists, the first of which has one point at the front.
-pub record CanPlanOver (bytes : List ℕ) (header : Header) (starts work : List ℤ) (places counts : List ℕ) : Type 0 where
+pub record CanPlanOver (bytes : List ℕ) (header : Header) (starts work : List ℤ) (notes : List Prefix) : Type 0 where
   pub planning : CanPlan bytes header starts work
-  pub first_place : get_or places 0 0 ≡ 0
-  pub first_count : get_or counts 0 0 ≡ 1
-  pub room_places : most_jobs < length places
-  pub room_counts : most_jobs < length counts
+  pub first_note : noted notes 0 ≡ record { place = 0; count = 1 }
+  pub room_notes : most_jobs < length notes
 
 -- There is a plan, with its mask and its end, the points and the weight of all jobs are known, and there is room for a start of
 -- each job.

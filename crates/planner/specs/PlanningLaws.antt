@@ -1,6 +1,6 @@
 -- The laws of planning by lists: the last point of the last list is the plan's end, and from there come the mask, the starts
 -- and the figures.
-use Rattle.std.specs.Prelude.{ℕ, zero, suc, ◌+◌, ◌*◌, ◌-◌, ◌≤◌, ◌≡◌, refl, ℤ, length, get_or, take, ◌≤ℤ◌, Ok, Err}
+use Rattle.std.specs.Prelude.{ℕ, zero, suc, ◌+◌, ◌*◌, ◌-◌, ◌≤◌, ◌≡◌, refl, ℤ, length, take, ◌≤ℤ◌, Ok, Err}
 use Rattle.std.proofs.Math.Path.{sym, ap}
 use Rattle.std.proofs.Common.{ap₂, ◌∙◌, subst, arith}
 use mathlib.Core.List.{List, [], ◌∷◌, Memᴰ as In}
@@ -20,7 +20,8 @@ use Rattle.packed.proofs.Accepted.{OrderFine, jobs-fit}
 use Rattle.profiles.specs.Numbers.{written_over}
 use Rattle.fields.specs.declared.Header.{Header}
 use Rattle.fields.specs.Places.{jobs-count, weight-up-to}
-use Rattle.codes.specs.Code.{list_at}
+use Rattle.codes.specs.declared.Prefix.{Prefix}
+use Rattle.codes.specs.Code.{list_at, points_at}
 use Rattle.codes.specs.Held.{Held}
 use Rattle.codes.specs.HeldLaws.{held-read}
 use Rattle.reading.specs.declared.Found.TheVariants.{Nothing, At}
@@ -28,7 +29,7 @@ use Rattle.reading.specs.Reading.{Stands, found}
 use Rattle.reading.specs.ReadingLaws.{found_nothing, found_at, last-by-latest}
 use Rattle.filling.specs.declared.Totals.{Totals}
 use Rattle.filling.specs.Begin.{CanStart}
-use Rattle.filling.specs.Lists.{Lists, points_to, CanFill, CanFillLists, Filled}
+use Rattle.filling.specs.Lists.{noted, Lists, points_to, CanFill, CanFillLists, Filled}
 use Rattle.filling.specs.ListsLaws.{jobs-all, jobs-single, lists-stand}
 use Rattle.walking.specs.declared.End.{End}
 use Rattle.walking.specs.Trail.{Walks, walk_mask}
@@ -120,7 +121,7 @@ points-are : (k : ℕ) (t : ℤ) (js : List Job) → points_to (start_point t �
 points-are zero t js = refl
 points-are (suc k) t js = ap (λ (n : ℕ). n + length (profile_after t (take (suc k) js))) (points-are k t js)
 
-module _ {bytes : List ℕ} {header : Header} {old work : List ℤ} {places counts : List ℕ} (f : CanPlanOver bytes header old work places counts) where
+module _ {bytes : List ℕ} {header : Header} {old work : List ℤ} {notes : List Prefix} (f : CanPlanOver bytes header old work notes) where
   abbrev planning : CanPlan bytes header old work
   planning = f.planning
 
@@ -142,7 +143,7 @@ module _ {bytes : List ℕ} {header : Header} {old work : List ℤ} {places coun
     first-valid = valid-holds first (valid-start (t0_of bytes) (time-free planning.order.header.timely))
 
     -- and the lists of all jobs filled behind it.
-    pub can-fill : CanFillLists bytes n begun places counts
+    pub can-fill : CanFillLists bytes n begun notes
     can-fill =
         let one : CanFill bytes n 1 begun =
         record {
@@ -155,27 +156,22 @@ module _ {bytes : List ℕ} {header : Header} {old work : List ℤ} {places coun
               (omega (arith, planning.order.light));
           room = omega (arith, sized, planning.room);
         } in
-        record {
-          filling = rw f.first_count one;
-          first = f.first_place;
-          room_places = f.room_places;
-          room_counts = f.room_counts;
-        }
+        record { filling = rw f.first_note one; first = rw f.first_note refl; room = f.room_notes }
 
-    module _ {totals : Totals} {places' counts' : List ℕ} {filled : List ℤ} (kept : length filled ≡ length begun)
-        (made : Filled bytes n (get_or counts 0 0) begun totals places' counts' filled)
+    module _ {totals : Totals} {notes' : List Prefix} {filled : List ℤ} (kept : length filled ≡ length begun)
+        (made : Filled bytes n (noted notes 0).count begun totals notes' filled)
       where
-        lists : Filled bytes n 1 begun totals places' counts' filled
-        lists = rw f.first_count at made
+        lists : Filled bytes n 1 begun totals notes' filled
+        lists = rw f.first_note at made
 
-        stand : Lists first (jobs_in bytes) n places' counts' lists.used filled
+        stand : Lists first (jobs_in bytes) n notes' lists.used filled
         stand = rw first-is at lists.lists
 
         room : lists.used ≤ length filled
         room = omega (arith, lists.small, kept, sized, planning.room)
 
         -- The last list is said,
-        pub last-stands : Stands filled (get_or places' n 0) (get_or counts' n 0)
+        pub last-stands : Stands filled (noted notes' n).place (noted notes' n).count
         last-stands = lists-stand stand room n (omega arith)
 
         -- and is the order's profile.
@@ -191,14 +187,14 @@ module _ {bytes : List ℕ} {header : Header} {old work : List ℤ} {places coun
             ).time.high
 
         -- Its last point is the plan's end, if there is one.
-        end-found : lookup (list_at filled (get_or places' n 0) (get_or counts' n 0)) latest_free
+        end-found : lookup (points_at filled (noted notes' n)) latest_free
             ≡ map (λ (e : Ended). e.end) (plan (t0_of bytes) (jobs_in bytes))
         end-found =
             (stand.stands n (omega arith)).says latest_free ∙ ap (λ (ps : List Point). lookup ps latest_free) last-is
             ∙ last-by-latest (profile_after (t0_of bytes) (jobs_in bytes)) early ∙ sym (plan-end-last (t0_of bytes) (jobs_in bytes))
 
         -- With none there is no feasible choice,
-        pub nothing-made : Nothing ≡ found (lookup (list_at filled (get_or places' n 0) (get_or counts' n 0)) latest_free)
+        pub nothing-made : Nothing ≡ found (lookup (points_at filled (noted notes' n)) latest_free)
             → MadeIn bytes old (Err (plainly 11)) old
         unfolding order_of
         nothing-made e =
@@ -208,7 +204,7 @@ module _ {bytes : List ℕ} {header : Header} {old work : List ℤ} {places coun
 
         -- else the plan ends there.
         module _ (end : End)
-            (is : At end.weight end.finish ≡ found (lookup (list_at filled (get_or places' n 0) (get_or counts' n 0)) latest_free))
+            (is : At end.weight end.finish ≡ found (lookup (points_at filled (noted notes' n)) latest_free))
           where
             planned : (best : Ended) × (plan (t0_of bytes) (jobs_in bytes) ≡ some best)
                 × (best.end ≡ record { time = end.finish; weight = end.weight })
@@ -226,12 +222,12 @@ module _ {bytes : List ℕ} {header : Header} {old work : List ℤ} {places coun
             ends = ap (λ (p : Point). p.time) (sym planned.2)
 
             -- The walk back from there can be made,
-            pub can-walk : length places' ≡ length places → length counts' ≡ length counts → Walks filled bytes n places' counts' end
-            can-walk same-places same-counts =
+            pub can-walk : length notes' ≡ length notes → Walks filled bytes n notes' end
+            can-walk same-notes =
                 let few : count_of bytes ≤ 48 = planning.order.header.few in
                 let count = planning.read.count in
-                plan-walks bytes planning.order best planned.1 n end count weighs ends filled places' counts' lists.used stand
-                room (omega (arith, f.room_places)) (omega (arith, f.room_counts))
+                plan-walks bytes planning.order best planned.1 n end count weighs ends filled notes' lists.used stand
+                room (omega (arith, f.room_notes))
 
             -- and by the mask that it gives the plan can be made.
             pub can-make : (m : ℕ) → some m ≡ walk_mask (t0_of bytes) (jobs_in bytes) end.weight end.finish

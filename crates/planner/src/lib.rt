@@ -8,6 +8,7 @@ ghost use Rattle.planner.specs.Calls.{PlanCall};
 ghost use Rattle.planner.specs.Planning.{CanPlan, CanPlanOver, CanMake, MadeIn};
 
 use area::{AREA, clear};
+use codes::Prefix;
 use fields::{Header, header_at};
 use filling::{Totals, fill_lists, notes, start_at};
 use judge::judge_order;
@@ -16,7 +17,7 @@ use profiles::LATEST;
 use reading::{Found, last_by};
 use refusals::Reason;
 use starting::{kept_of, write_starts};
-use walking::{End, walk};
+use walking::walk;
 
 // A plan's numbers: the mask of the jobs kept, how many they are, the weight kept and the weight lost,
 // when the bus is free after it, and the points of the profiles on the way.
@@ -36,7 +37,7 @@ fn make_plan(
     header: Header,
     mask: u64,
     totals: Totals,
-    end: End,
+    end: Found,
     starts: &mut [i32],
 ) -> Figures
     requires { CanMake bytes.now header mask totals end starts.old }
@@ -48,7 +49,7 @@ fn make_plan(
         kept: kept_of(mask),
         kept_weight: end.weight as u32,
         lost_weight: (totals.weight - end.weight) as u32,
-        finish: end.finish,
+        finish: end.time,
         points: totals.points as u32,
     }
 }
@@ -60,22 +61,18 @@ fn plan_by_lists(
     header: Header,
     starts: &mut [i32],
     work: &mut [i32],
-    places: &mut [usize],
-    counts: &mut [usize],
+    notes: &mut [Prefix],
 ) -> Result<Figures, Refusal>
-    requires { CanPlanOver bytes.now header starts.old work.old places.old counts.old }
+    requires { CanPlanOver bytes.now header starts.old work.old notes.old }
     ensures { MadeIn bytes.now starts.old result starts.new }
 {
     let n = header.count;
     start_at(work, header.t0);
-    let totals = fill_lists(work, bytes, n, places, counts);
-    let place = places[n];
-    let count = counts[n];
-    match last_by(work, place, count, LATEST) {
-        Found::Nothing => Err(Reason::NoFeasibleChoice.into()),
-        Found::At(weight, finish) => {
-            let end = End { weight, finish };
-            let mask = walk(work, bytes, n, places, counts, end);
+    let totals = fill_lists(work, bytes, n, notes);
+    match last_by(work, notes[n], LATEST) {
+        None => Err(Reason::NoFeasibleChoice.into()),
+        Some(end) => {
+            let mask = walk(work, bytes, n, notes, end);
             Ok(make_plan(bytes, header, mask, totals, end, starts))
         }
     }
@@ -91,11 +88,8 @@ fn plan_within(
     requires { CanPlan bytes.now header starts.old work.old }
     ensures { MadeIn bytes.now starts.old result starts.new }
 {
-    let mut places = notes();
-    let mut counts = notes();
-    places[0] = 0;
-    counts[0] = 1;
-    plan_by_lists(bytes, header, starts, work, &mut places, &mut counts)
+    let mut noted = notes(1);
+    plan_by_lists(bytes, header, starts, work, &mut noted)
 }
 
 // Planning an order that has passed its checks: the room is judged, and the work area is cleared behind.

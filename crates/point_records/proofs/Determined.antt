@@ -10,9 +10,8 @@ use contract.Lifetimes.{Lfts}
 use contract.Monad.{Fun, fact}
 use denote.Triple.Clauses.{AtExit}
 use denote.Triple.Entry.{Args}
-use Rattle.profiles.specs.Answer.{lookup_of}
+use Rattle.profiles.specs.Answer.{Finding, lookup_of}
 use Rattle.seconds.specs.Determined.{Determines, determined}
-use Rattle.profiles.specs.declared.Finding.{Finding}
 use Rattle.point_records.specs.Records.{flattened}
 use Rattle.point_records.specs.contracts.lookup_records as lookup-records
 use Rattle.point_records.specs.contracts.lookup_among as lookup-among

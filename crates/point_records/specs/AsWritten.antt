@@ -1,8 +1,8 @@
 -- P3 of the rules over records, as a computed fact; and records that are no profile.
-use Rattle.std.specs.Prelude.{◌≡◌, refl, List, [], ◌∷◌, map, ℤ, pos, negsuc}
+use Rattle.std.specs.Prelude.{◌≡◌, refl, List, [], ◌∷◌, map, ℤ, pos, negsuc, Ok, Err, Some, None}
 use Rattle.seconds.specs.Limits.{rest}
+use Rattle.refusals.specs.declared.Reason.TheVariants.{ProfileNotValid}
 use Rattle.profiles.specs.Answer.{lookup_of}
-use Rattle.profiles.specs.declared.Finding.TheVariants.{NotValid, Found, NotFound}
 use Rattle.point_records.specs.Records.{flattened}
 use Rattle.point_records.specs.declared.Point.{Point}
 
@@ -16,7 +16,7 @@ pub over-records :
     (point (pos 215) (pos 0) ∷ point (pos 330) (pos 15) ∷ point (pos 340) (pos 20) ∷ point (pos 445) (pos 30)
     ∷ point (pos 455) (pos 35) ∷ [])))
     (pos 214 ∷ pos 215 ∷ pos 454 ∷ pos 455 ∷ [])
-    ≡ NotFound ∷ Found 0 ∷ Found 30 ∷ Found 35 ∷ []
+    ≡ Ok None ∷ Ok (Some 0) ∷ Ok (Some 30) ∷ Ok (Some 35) ∷ []
 unfolding rest
 over-records = refl
 
@@ -24,6 +24,6 @@ over-records = refl
 pub no-profile :
     map (λ (ps : List Point). lookup_of (flattened ps) (pos 9))
     ((point (pos 5) (pos 0) ∷ point (pos 5) (pos 1) ∷ []) ∷ (point (pos 5) (negsuc 0) ∷ []) ∷ [])
-    ≡ NotValid ∷ NotValid ∷ []
+    ≡ Err ProfileNotValid ∷ Err ProfileNotValid ∷ []
 unfolding rest
 no-profile = refl

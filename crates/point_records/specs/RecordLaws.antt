@@ -1,14 +1,14 @@
 -- What copying records and laying them out keeps, and that as many records as are read decide the answer.
-use Rattle.std.specs.Prelude.{ℕ, suc, ◌+◌, ◌*◌, ◌≤◌, ◌<◌, min, ◌≡◌, refl, Bool, true, false, List, [], ◌∷◌, ◌++◌, leb, ℤ, length, get_or, set, take, drop}
+use Rattle.std.specs.Prelude.{ℕ, suc, ◌+◌, ◌*◌, ◌≤◌, ◌<◌, min, ◌≡◌, refl, Bool, true, false, List, [], ◌∷◌, ◌++◌, leb, ℤ, length, get_or, set, take, drop, Err}
 use Rattle.std.proofs.Common.{sym, ap, ◌∙◌, append-nil, arith, drop_of_length-le, take-suc, take-suc-set, take_all, length-take-le, drop-cons, get_or-take}
 use Rattle.std.proofs.Math.Seq.{take-length}
 use Rattle.seconds.specs.Limits.{most_points}
 use Rattle.seconds.specs.Signed.{signed}
+use Rattle.refusals.specs.declared.Reason.TheVariants.{ProfileNotValid}
 use Rattle.profiles.specs.Answer.{lookup_of}
 use Rattle.profiles.specs.AnswerLaws.{lookup-refused}
 use Rattle.profiles.specs.OnePass.{holds-long}
 use Rattle.profiles.specs.Writing.{Writing, writing-two}
-use Rattle.profiles.specs.declared.Finding.TheVariants.{NotValid}
 use Rattle.point_records.specs.Records.{flattened, most_read, most_passed}
 use Rattle.point_records.specs.declared.Point.{Point}
 
@@ -59,7 +59,7 @@ flattened-length [] = refl
 flattened-length (p ∷ ps) = omega (arith, flattened-length ps)
 
 -- More records than a profile has points are no valid profile,
-too_many_lem : (ps : List Point) (t : ℤ) → most_points < length ps → lookup_of (flattened ps) t ≡ NotValid
+too_many_lem : (ps : List Point) (t : ℤ) → most_points < length ps → lookup_of (flattened ps) t ≡ Err ProfileNotValid
 too_many_lem ps t h = lookup-refused (flattened ps) t (holds-long (flattened ps) (omega (arith, flattened-length ps)))
 
 -- so the records that are read decide the answer.

@@ -8,13 +8,7 @@ ghost use Rattle.profiles.specs.Numbers.{holds_profile};
 ghost use Rattle.profiles.specs.Answer.{lookup_of};
 ghost use Rattle.profiles.specs.ByTime.{count_by};
 
-// What a lookup gives: no valid profile (refusal 8), the weight found, or no point by that time.
-#[derive(Clone, Copy)]
-pub enum Finding {
-    NotValid,
-    Found(u32),
-    NotFound,
-}
+use refusals::Reason;
 
 // The seconds that the bus rests after every job.
 pub const REST: i32 = 15;
@@ -42,6 +36,7 @@ pub fn valid(numbers: &[i32]) -> bool
     }
     let mut time = BEFORE_ALL;
     let mut weight = BELOW_ALL;
+    // Two numbers a turn, by a count: `(0..n).step_by(2)` tests twice in each turn whether the end is reached.
     let mut i = 0;
     while i < n {
         let t = numbers[i];
@@ -60,6 +55,7 @@ pub fn valid(numbers: &[i32]) -> bool
 fn count_by(numbers: &[i32], t: i32) -> usize
     ensures { result ≡ count_by t numbers.now }
 {
+    // By a count for the same reason; and it is the answer.
     let mut i = 0;
     while i + 1 < numbers.len() {
         if t < numbers[i] {
@@ -70,16 +66,16 @@ fn count_by(numbers: &[i32], t: i32) -> usize
     i
 }
 
-// The weight of the last point at or before t.
-pub fn lookup(numbers: &[i32], t: i32) -> Finding
+// The weight of the last point at or before t, if there is one.
+pub fn lookup(numbers: &[i32], t: i32) -> Result<Option<u32>, Reason>
     ensures { result ≡ lookup_of numbers.now t }
 {
     if !valid(numbers) {
-        return Finding::NotValid;
+        return Err(Reason::ProfileNotValid);
     }
     let end = count_by(numbers, t);
     if end == 0 {
-        return Finding::NotFound;
+        return Ok(None);
     }
-    Finding::Found(numbers[end - 1] as u32)
+    Ok(Some(numbers[end - 1] as u32))
 }

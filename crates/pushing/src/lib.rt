@@ -48,19 +48,17 @@ pub fn push(work: &[i32], list: Prefix, ready: i32, rate: Rate, pushed: &mut [i3
     requires { CanPush work.now list ready rate pushed.old }
     ensures { Pushed work.now list ready rate result pushed.new }
 {
-    let place = list.place;
     let limit = limit_by(ready);
     let delta = delta_of(rate);
-    let mut i = place + list.count;
     let mut p = TOP;
-    while place < i && limit < work[i - 1] {
-        i -= 1;
+    for i in (list.place..list.end()).rev() {
+        let code = work[i];
         p -= 1;
-        pushed[p] = later(work[i], delta);
-    }
-    if place < i {
-        p -= 1;
-        pushed[p] = waits(ready, delta, work[i - 1]);
+        if code <= limit {
+            pushed[p] = waits(ready, delta, code);
+            break;
+        }
+        pushed[p] = later(code, delta);
     }
     Prefix {
         place: p,

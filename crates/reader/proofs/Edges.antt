@@ -1,6 +1,6 @@
 -- P1 read job by job, and both sides of the reader's edges, as one list: each answer, and what the rules say of it.
 -- One statement holds of the whole list, by computation.
-use Rattle.std.specs.Prelude.{ℕ, ◌≡◌, refl, List, [], ◌∷◌, ◌++◌, map, ℤ, pos, negsuc}
+use Rattle.std.specs.Prelude.{ℕ, ◌≡◌, refl, List, [], ◌∷◌, ◌++◌, map, ℤ, pos, negsuc, Some, None, Ok, Err}
 use Rattle.seconds.specs.Twos.{bits_to, to_bits}
 use Rattle.packed.specs.Layout.{decode, encode, number_of, bytes_of, record_bytes}
 use Rattle.packed.specs.Places.{part, flat, first as find}
@@ -8,11 +8,7 @@ use Rattle.packed.specs.Packed.{header_word, header_of, count_of, t0_of, kind_of
 use Rattle.packed.specs.Packed.{job_count, fields_at, packed_header, packed_job, pack_in, pack_order, first_packed, kind_for}
 use Rattle.packed.specs.Judge.{in_field, plainly}
 use Rattle.packed.specs.Refusals.{fields_within, bad_field, header_checks}
-use Rattle.reader.specs.Reading.{open_of, job_from, step_of}
-use Rattle.reader.specs.declared.Opened.{Opened}
-use Rattle.reader.specs.declared.Opened.TheVariants as opened
-use Rattle.reader.specs.declared.Read.{Read}
-use Rattle.reader.specs.declared.Read.TheVariants as read
+use Rattle.reader.specs.Reading.{Opened, open_of, job_from, Read, step_of}
 use Rattle.reader.specs.declared.Moved.{Moved}
 
 -- ---- orders in bytes
@@ -83,44 +79,44 @@ edge bytes place answer next = record { asked = step_of bytes place; told = reco
 abbrev pub edges : List Edge
 edges =
     -- P1 to the end, and past it
-    edge p1 0 (read.Job (job_from first)) 1
-    ∷ edge p1 1 (read.Job (job_from second)) 2
-    ∷ edge p1 2 (read.Job (job_from third)) 3
-    ∷ edge p1 3 (read.Job (job_from fourth)) 4
-    ∷ edge p1 4 (read.Job (job_from last)) 5
-    ∷ edge p1 5 read.End 5
-    ∷ edge p1 6 read.End 6
+    edge p1 0 (Ok (Some (job_from first))) 1
+    ∷ edge p1 1 (Ok (Some (job_from second))) 2
+    ∷ edge p1 2 (Ok (Some (job_from third))) 3
+    ∷ edge p1 3 (Ok (Some (job_from fourth))) 4
+    ∷ edge p1 4 (Ok (Some (job_from last))) 5
+    ∷ edge p1 5 (Ok None) 5
+    ∷ edge p1 6 (Ok None) 6
     -- a job out of range; those beside it are given
-    ∷ edge damaged 1 (read.Job (job_from second)) 2
-    ∷ edge damaged 2 (read.Refused (in_field 6 2 6)) 2
-    ∷ edge damaged 3 (read.Job (job_from fourth)) 4
+    ∷ edge damaged 1 (Ok (Some (job_from second))) 2
+    ∷ edge damaged 2 (Err (in_field 6 2 6)) 2
+    ∷ edge damaged 3 (Ok (Some (job_from fourth))) 4
     -- the first field that is out of range: the weight, the ready time, the length and the deadline
-    ∷ edge bad 0 (read.Refused (in_field 6 0 4)) 0
-    ∷ edge bad 1 (read.Refused (in_field 6 1 4)) 1
-    ∷ edge bad 2 (read.Refused (in_field 6 2 5)) 2
-    ∷ edge bad 3 (read.Refused (in_field 6 3 5)) 3
-    ∷ edge bad 4 (read.Refused (in_field 6 4 6)) 4
-    ∷ edge bad 5 (read.Refused (in_field 6 5 6)) 5
-    ∷ edge bad 6 (read.Refused (in_field 6 6 7)) 6
-    ∷ edge bad 7 (read.Refused (in_field 6 7 4)) 7
+    ∷ edge bad 0 (Err (in_field 6 0 4)) 0
+    ∷ edge bad 1 (Err (in_field 6 1 4)) 1
+    ∷ edge bad 2 (Err (in_field 6 2 5)) 2
+    ∷ edge bad 3 (Err (in_field 6 3 5)) 3
+    ∷ edge bad 4 (Err (in_field 6 4 6)) 4
+    ∷ edge bad 5 (Err (in_field 6 5 6)) 5
+    ∷ edge bad 6 (Err (in_field 6 6 7)) 6
+    ∷ edge bad 7 (Err (in_field 6 7 4)) 7
     -- 7 and 9 are not judged
-    ∷ edge repeated 6 (read.Job (job_from heavy)) 7
+    ∷ edge repeated 6 (Ok (Some (job_from heavy))) 7
     -- bytes that are not accepted
-    ∷ edge [] 0 (read.Refused (plainly 1)) 0
-    ∷ edge [] 7 (read.Refused (plainly 1)) 7
-    ∷ edge (0 ∷ 0 ∷ 0 ∷ 2 ∷ []) 0 (read.Refused (plainly 2)) 0
-    ∷ edge (196 ∷ 0 ∷ 0 ∷ 0 ∷ []) 0 (read.Refused (plainly 3)) 0
-    ∷ edge (p1 ++ 0 ∷ []) 2 (read.Refused (plainly 4)) 2
-    ∷ edge (1 ∷ 0x86 ∷ 0xA1 ∷ 0 ∷ []) 0 (read.Refused (plainly 5)) 0
+    ∷ edge [] 0 (Err (plainly 1)) 0
+    ∷ edge [] 7 (Err (plainly 1)) 7
+    ∷ edge (0 ∷ 0 ∷ 0 ∷ 2 ∷ []) 0 (Err (plainly 2)) 0
+    ∷ edge (196 ∷ 0 ∷ 0 ∷ 0 ∷ []) 0 (Err (plainly 3)) 0
+    ∷ edge (p1 ++ 0 ∷ []) 2 (Err (plainly 4)) 2
+    ∷ edge (1 ∷ 0x86 ∷ 0xA1 ∷ 0 ∷ []) 0 (Err (plainly 5)) 0
     -- a pack, the only one; kind 1 without a pack, also of a job out of range and at the end
-    ∷ edge (pack_order (pos 0) (heavy ++ in_pack)) 0 (read.Job (job_from heavy)) 1
-    ∷ edge (pack_order (pos 0) (heavy ++ in_pack)) 1 (read.Job (job_from in_pack)) 2
-    ∷ edge (pack_in 1 (pos 0) heavy) 0 (read.Refused (plainly 19)) 0
-    ∷ edge (pack_in 1 (pos 0) heavy) 1 (read.Refused (plainly 19)) 1
-    ∷ edge (pack_in 1 (pos 0) (shaped 0 0 (pos 0) 1 (pos 1))) 0 (read.Refused (plainly 19)) 0
-    ∷ edge (0 ∷ 0 ∷ 0 ∷ 1 ∷ []) 0 (read.Refused (plainly 19)) 0
+    ∷ edge (pack_order (pos 0) (heavy ++ in_pack)) 0 (Ok (Some (job_from heavy))) 1
+    ∷ edge (pack_order (pos 0) (heavy ++ in_pack)) 1 (Ok (Some (job_from in_pack))) 2
+    ∷ edge (pack_in 1 (pos 0) heavy) 0 (Err (plainly 19)) 0
+    ∷ edge (pack_in 1 (pos 0) heavy) 1 (Err (plainly 19)) 1
+    ∷ edge (pack_in 1 (pos 0) (shaped 0 0 (pos 0) 1 (pos 1))) 0 (Err (plainly 19)) 0
+    ∷ edge (0 ∷ 0 ∷ 0 ∷ 1 ∷ []) 0 (Err (plainly 19)) 0
     -- no jobs
-    ∷ edge (0 ∷ 0 ∷ 0 ∷ 0 ∷ []) 0 read.End 0
+    ∷ edge (0 ∷ 0 ∷ 0 ∷ 0 ∷ []) 0 (Ok None) 0
     ∷ []
 
 -- Opening over the same bytes.
@@ -130,7 +126,7 @@ openings = open_of p1 ∷ open_of damaged ∷ open_of repeated ∷ open_of [] �
 -- Every edge is where R23 has it.
 pub edges-hold : (map (λ (e : Edge). e.asked) edges ≡ map (λ (e : Edge). e.told) edges)
     × (openings
-    ≡ opened.Accepted 5 ∷ opened.Accepted 5 ∷ opened.Accepted 7 ∷ opened.Refused 1 ∷ opened.Refused 4 ∷ opened.Accepted 0 ∷ [])
+    ≡ Ok 5 ∷ Ok 5 ∷ Ok 7 ∷ Err (plainly 1) ∷ Err (plainly 4) ∷ Ok 0 ∷ [])
 unfolding decode encode number_of bytes_of bits_to to_bits part flat header_word header_of count_of t0_of kind_of record_at job_word
     job_fields job_count fields_at packed_header packed_job pack_in first_packed kind_for record_bytes numbers_of find fields_within bad_field header_checks
 edges-hold = (refl, refl)

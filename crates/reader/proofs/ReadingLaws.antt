@@ -1,6 +1,6 @@
 -- The laws of the reader: what a step says in each case, the refusals that the reader can give, and what reading an order
 -- gives job by job.
-use Rattle.std.specs.Prelude.{ℕ, ◌+◌, ◌≤◌, ◌<◌, ◌≡◌, Bool, true, false, ◌&&◌, ◌||◌, ◌↔◌, ◌≢◌, List, [], ◌∷◌, ltb, leb, eqb, ℤ}
+use Rattle.std.specs.Prelude.{ℕ, ◌+◌, ◌≤◌, ◌<◌, ◌≡◌, Bool, true, false, ◌&&◌, ◌||◌, ◌↔◌, ◌≢◌, List, [], ◌∷◌, ltb, leb, eqb, ℤ, Some, None, Ok, Err}
 use Rattle.std.proofs.Math.Path.{refl}
 use Rattle.std.proofs.Common.{sym, ap, subst, ◌∙◌, arith, eqb→eq, ltb-true, lt-ltb, le-ltb}
 use Rattle.std.proofs.Math.Bool.{and-eq-true_iff}
@@ -9,8 +9,8 @@ use Rattle.std.specs.Float.Ieee.Fits.{and_l, and_r}
 use Rattle.std.proofs.lemmas.Bool.{not-true}
 use borrow.Table.Steps.{cases}
 use Rattle.packed.specs.declared.Refusal.{Refusal}
-use Rattle.packed.specs.Judge.{in_field, plainly, no_refusal, Check, Verdict, fine, refused, judge, or_else}
-use Rattle.packed.specs.JudgeLaws.{judge-append, Tells, judge-tells, number-passes}
+use Rattle.packed.specs.Judge.{in_field, plainly, no_refusal, refusal_of, Check, Verdict, fine, refused, judge, or_else}
+use Rattle.packed.specs.JudgeLaws.{judge-append, stages-fine, Tells, judge-tells, number-passes}
 use Rattle.packed.proofs.LayoutLaws.{job-decode}
 use Rattle.packed.specs.Places.{flat}
 use Rattle.packed.specs.PlacesLaws.{flat-cong}
@@ -23,9 +23,7 @@ use Rattle.packed.proofs.Accepted.{order-fine}
 use Rattle.fields.specs.Fields.{fields_of}
 use Rattle.fields.specs.declared.Job.{Job}
 use Rattle.reader.specs.Reading.{opened_by, open_of, place_check, step_checks, job_from, stepped_by, step_of}
-use Rattle.reader.specs.Reading.{open_refusal, open_count, read_refusal, read_numbers}
-use Rattle.reader.specs.declared.Opened.TheVariants as opened
-use Rattle.reader.specs.declared.Read.TheVariants as read
+use Rattle.reader.specs.Reading.{open_count, read_refusal, read_numbers}
 use Rattle.reader.specs.declared.Moved.{Moved}
 
 -- A job is made again of its numbers.
@@ -44,7 +42,7 @@ module _ (bytes : List ℕ) (place : ℕ) where
 
   -- Bytes that are not accepted: their refusal, and the reader stays.
   pub step-refused : {r : Refusal} → judge (header_checks bytes) ≡ refused r
-      → step_of bytes place ≡ record { answer = read.Refused r; place = place }
+      → step_of bytes place ≡ record { answer = Err r; place = place }
   step-refused e = rw (stages, e)
 
   module _ (accepted : judge (header_checks bytes) ≡ fine) where
@@ -52,7 +50,7 @@ module _ (bytes : List ℕ) (place : ℕ) where
     step_by_lem e = rw (stages, accepted, e)
 
     -- At the count or above: the end, and the reader stays.
-    pub step_end : count_of bytes ≤ place → step_of bytes place ≡ record { answer = read.End; place = place }
+    pub step_end : count_of bytes ≤ place → step_of bytes place ≡ record { answer = Ok None; place = place }
     step_end h =
         let e = le-ltb place (count_of bytes) h in
         step_by_lem {v = fine} (rw e) ∙ rw e
@@ -60,14 +58,14 @@ module _ (bytes : List ℕ) (place : ℕ) where
     module _ (below : place < count_of bytes) where
       -- Below it, at a job within its limits: the job, and the reader moves on.
       pub step-job : fields_within (job_fields bytes place) ≡ true
-          → step_of bytes place ≡ record { answer = read.Job (job_from (job_fields bytes place)); place = place + 1 }
+          → step_of bytes place ≡ record { answer = Ok (Some (job_from (job_fields bytes place))); place = place + 1 }
       step-job w =
           let e = lt-ltb place (count_of bytes) below in
           step_by_lem {v = fine} (rw (e, w)) ∙ rw e
 
       -- At a job out of range: refusal 6 with its place and its first field that is, and the reader stays.
       pub step-bad : fields_within (job_fields bytes place) ≡ false → let r = in_field 6 place (bad_field (job_fields bytes place)) in
-          step_of bytes place ≡ record { answer = read.Refused r; place = place }
+          step_of bytes place ≡ record { answer = Err r; place = place }
       step-bad w = step_by_lem {v = refused _} (rw (lt-ltb place (count_of bytes) below, w))
 
 -- ---- the refusals that the reader gives
@@ -195,25 +193,46 @@ pub record OpenFine (bytes : List ℕ) (count : ℕ) : Type 0 where
 
 module _ (bytes : List ℕ) where
   -- The answer says so.
-  pub open-accepted : (count : ℕ) → open_of bytes ≡ opened.Accepted count → OpenFine bytes count
+  pub open-accepted : (count : ℕ) → open_of bytes ≡ Ok count → OpenFine bytes count
   open-accepted count e = go (judge (header_checks bytes)) refl e
     where
-      go : (v : Verdict) → judge (header_checks bytes) ≡ v → opened_by (count_of bytes) v ≡ opened.Accepted count
+      go : (v : Verdict) → judge (header_checks bytes) ≡ v → opened_by (count_of bytes) v ≡ Ok count
           → OpenFine bytes count
       go fine f h = record { header = (header-fine bytes).0 f; passed = f; counted = sym (ap open_count h) }
       go (refused r) f h = let z : ◌≡◌ {A = ℕ} 0 1 = cc in absurd (omega arith)
 
-  -- Bytes that were not: a step says the same number.
-  pub open-refused : (place n : ℕ) → open_of bytes ≡ opened.Refused n
-      → step_of bytes place ≡ record { answer = read.Refused (plainly n); place = place }
-  open-refused place n e = go (judge (header_checks bytes)) refl e
+  -- Bytes that were not: a step says the same.
+  pub open-refused : (place : ℕ) {r : Refusal} → open_of bytes ≡ Err r → step_of bytes place ≡ record { answer = Err r; place = place }
+  open-refused place {r} e = go (judge (header_checks bytes)) refl e
     where
-      go : (v : Verdict) → judge (header_checks bytes) ≡ v → opened_by (count_of bytes) v ≡ opened.Refused n
-          → step_of bytes place ≡ record { answer = read.Refused (plainly n); place = place }
+      go : (v : Verdict) → judge (header_checks bytes) ≡ v → opened_by (count_of bytes) v ≡ Err r
+          → step_of bytes place ≡ record { answer = Err r; place = place }
       go fine f h = let z : ◌≡◌ {A = ℕ} 0 1 = cc in absurd (omega arith)
-      go (refused r) f h =
-          let same : r ≡ plainly n = (open-refusal bytes f).plain ∙ ap plainly (ap open_refusal h) in
-          step-refused bytes place f ∙ (λ i. record { answer = read.Refused (same i); place = place })
+      go (refused s) f h =
+          let same : s ≡ r = ap refusal_of h in
+          step-refused bytes place f ∙ (λ i. record { answer = Err (same i); place = place })
+
+-- ---- where the reader stands after a step
+
+-- A job is given below the count, and the reader moves on.
+pub record JobGiven (bytes : List ℕ) (place : ℕ) : Type 0 where
+  pub few : place < 48
+  pub next : (step_of bytes place).place ≡ place + 1
+
+-- The answer tells it; any other leaves the reader where it stands.
+module _ (bytes : List ℕ) (place : ℕ) where
+  given-by : {job : Job} (v : Verdict) → judge (step_checks bytes place) ≡ v → (stepped_by bytes place v).answer ≡ Ok (Some job)
+      → JobGiven bytes place
+  given-by fine e g =
+      let few = ((header-fine bytes).0 ((stages-fine (header_checks bytes) (place_check bytes place ∷ [])).0 e).0).few in
+      cases (ltb place (count_of bytes))
+      (λ t. record { few = omega (arith, few, ltb-true place (count_of bytes) t); next = rw (e, t) })
+      (λ t. let none = rw t at g in
+      let z : ◌≡◌ {A = ℕ} 0 1 = cc none in absurd (omega arith))
+  given-by (refused r) e g = let z : ◌≡◌ {A = ℕ} 0 1 = cc in absurd (omega arith)
+
+  pub job-given : {job : Job} → (step_of bytes place).answer ≡ Ok (Some job) → JobGiven bytes place
+  job-given g = given-by (judge (step_checks bytes place)) refl g
 
 -- ---- an order, read job by job
 

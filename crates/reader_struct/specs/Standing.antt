@@ -1,10 +1,8 @@
 -- What the calls over a reader give: the answer, and the reader, by the memory and the bytes that it stands over and by its
 -- place. Definitions only.
-use Rattle.std.specs.Prelude.{ℕ, List, []}
+use Rattle.std.specs.Prelude.{ℕ, List, [], Ok, Err}
 use Rattle.std.specs.Borrow.{Bor}
-use Rattle.reader.specs.Reading.{open_of, step_of}
-use Rattle.reader.specs.declared.Opened.{Opened}
-use Rattle.reader.specs.declared.Opened.TheVariants.{Accepted, Refused}
+use Rattle.reader.specs.Reading.{Opened, open_of, step_of}
 use Rattle.reader_struct.specs.declared.Reader.{Reader}
 use Rattle.reader_struct.specs.declared.Stepped.{Stepped}
 use Rattle.reader_struct.specs.declared.Reading.{Reading}
@@ -21,8 +19,8 @@ seen r = record { memory = r.bytes.ref_ptr; bytes = r.bytes.now; place = r.place
 
 -- The bytes that an opened reader stands over: all of them if they were accepted, else none.
 abbrev pub kept_bytes : Opened → List ℕ → List ℕ
-kept_bytes (Accepted count) bytes = bytes
-kept_bytes (Refused n) bytes = []
+kept_bytes (Ok count) bytes = bytes
+kept_bytes (Err r) bytes = []
 
 -- A reader opened over a slice: it begins where the slice begins.
 abbrev pub begun_over : Bor (List ℕ) → Seen

@@ -4,9 +4,11 @@
 
 ghost use Rattle.std.specs.Prelude.{◌≡◌};
 ghost use Rattle.reader.specs.Reading.{open_of};
-ghost use Rattle.reader_struct.specs.Standing.{kept_bytes, seen, begun_over, stepped_of, read_at};
+ghost use Rattle.reader_struct.specs.Standing.{seen, begun_over, stepped_of, read_at};
 
-use reader::{Moved, Opened, Read};
+use fields::Job;
+use packed::Refusal;
+use reader::Moved;
 
 // The caller's bytes, and the place of the job that the next step gives.
 #[derive(Clone, Copy)]
@@ -15,35 +17,25 @@ pub struct Reader<'a> {
     pub place: usize,
 }
 
-// What opening gives: the reader, and whether the bytes were accepted.
+// What opening gives: the reader, and the count of jobs of bytes that are accepted.
 #[derive(Clone, Copy)]
 pub struct Begun<'a> {
     pub reader: Reader<'a>,
-    pub answer: Opened,
+    pub answer: Result<usize, Refusal>,
 }
 
 // What a step gives: the reader where it then stands, and the answer.
 #[derive(Clone, Copy)]
 pub struct Stepped<'a> {
     pub reader: Reader<'a>,
-    pub answer: Read,
+    pub answer: Result<Option<Job>, Refusal>,
 }
 
 // What opening said, and what a step said and the place after it.
 #[derive(Clone, Copy)]
 pub struct Reading {
-    pub opened: Opened,
+    pub opened: Result<usize, Refusal>,
     pub moved: Moved,
-}
-
-// The bytes that a reader is opened over: all of them if they were accepted, else an empty part.
-fn kept_part(bytes: &[u8], answer: Opened) -> &[u8]
-    ensures { (result.now ≡ kept_bytes answer bytes.now) × (result.ref_ptr ≡ bytes.entry.ref_ptr) }
-{
-    match answer {
-        Opened::Accepted(_) => bytes,
-        Opened::Refused(_) => &bytes[..0],
-    }
 }
 
 // A reader at place 0, over bytes that pass checks 1 to 5; over an empty part of others.
@@ -51,13 +43,13 @@ pub fn open<'a>(bytes: &'a [u8]) -> Begun<'a>
     ensures { (result.answer ≡ open_of bytes.now) × (seen result.reader ≡ begun_over bytes.entry) }
 {
     let answer = reader::open(bytes);
-    let part = kept_part(bytes, answer);
+    let bytes = match answer {
+        Ok(_) => bytes,
+        Err(_) => &bytes[..0],
+    };
     Begun {
-        reader: Reader {
-            bytes: part,
-            place: 0,
-        },
-        answer: answer,
+        reader: Reader { bytes, place: 0 },
+        answer,
     }
 }
 
@@ -68,8 +60,8 @@ pub fn step<'a>(reader: Reader<'a>) -> Stepped<'a>
     let moved = reader::step(reader.bytes, reader.place);
     Stepped {
         reader: Reader {
-            bytes: reader.bytes,
             place: moved.place,
+            ..reader
         },
         answer: moved.answer,
     }
@@ -81,8 +73,8 @@ pub fn read_at(bytes: &[u8], place: usize) -> Reading
 {
     let begun = open(bytes);
     let stepped = step(Reader {
-        bytes: begun.reader.bytes,
-        place: place,
+        place,
+        ..begun.reader
     });
     Reading {
         opened: begun.answer,

@@ -1,5 +1,5 @@
 -- Laws of what was found, of the last point by a time and of all, of the numbers of a list, and of what they say.
-use Rattle.std.specs.Prelude.{ℕ, suc, ◌+◌, ◌-◌, ◌≤◌, ◌<◌, ◌≡◌, refl, true, false, ℤ, pos, length, ◌≤ℤ◌, ◌<ℤ◌}
+use Rattle.std.specs.Prelude.{ℕ, suc, ◌+◌, ◌-◌, ◌≤◌, ◌<◌, ◌≡◌, refl, true, false, ℤ, pos, length, ◌≤ℤ◌, ◌<ℤ◌, None, Some}
 use Rattle.std.proofs.Common.{sym, ap, ◌∙◌, ⊎_elim, eq-or-lt_of_le, arith}
 use mathlib.Core.List.Memᴰ.{not-nil}
 use mathlib.Core.List.{List, [], ◌∷◌, append-nil, Memᴰ as In}
@@ -16,16 +16,17 @@ use Rattle.codes.specs.Held.{Held, held_none, held_more, After}
 use Rattle.codes.specs.HeldLaws.{held_stays, held-read, list_length, held-point}
 use Rattle.codes.specs.Cuts.{lookup-front}
 use Rattle.reading.specs.Reading.{found, Says}
-use Rattle.reading.specs.declared.Found.TheVariants.{Nothing, At}
+use Rattle.reading.specs.declared.Found.{Found}
 
 -- The code's answer says what was found: nothing, or a point.
-pub found_nothing : (o : Option Point) → found o ≡ Nothing → o ≡ none
+pub found_nothing : (o : Option Point) → found o ≡ None → o ≡ none
 found_nothing none e = refl
 found_nothing (some p) e = cc
 
-pub found_at : (o : Option Point) (w : ℕ) (t : ℤ) → found o ≡ At w t → o ≡ some (record { time = t; weight = w })
-found_at none w t e = cc
-found_at (some p) w t e = ap some (point-path (cc) (cc))
+pub found_at : (o : Option Point) (f : Found) → found o ≡ Some f → o ≡ some (record { time = f.time; weight = f.weight })
+found_at none f e = cc
+found_at (some p) f e = let same : ◌≡◌ {A = Found} (record { weight = p.weight; time = p.time }) f = cc in
+    ap some (point-path (ap (λ (g : Found). g.time) same) (ap (λ (g : Found). g.weight) same))
 
 -- By a time that no point passes, the last point of all is found.
 pub last-by-latest : {t : ℤ} (ps : List Point) → ((p : Point) → In p ps → p.time ≤ℤ t) → lookup ps t ≡ last_point ps

@@ -5,38 +5,41 @@
 ghost use Rattle.std.specs.Prelude.{◌≡◌, ◌+◌, ◌*◌, ◌<◌, length, set};
 ghost use Rattle.profile.specs.Profile.{lookup};
 ghost use Rattle.profiles.specs.Numbers.{alternating, written_over};
-ghost use Rattle.codes.specs.Code.{list_at};
+ghost use Rattle.codes.specs.Code.{points_at};
 ghost use Rattle.reading.specs.Reading.{Stands, found, CanWrite};
 
 use clock::lesser;
-use codes::{after, limit_by, time_in, weight_in};
+use codes::{Prefix, after, limit_by, time_in, weight_in};
 use profiles::LATEST;
 
 // The first second that a point may have.
 const EARLIEST: i32 = -100_000;
 
-// What a search of a list finds: nothing, or a point, its weight and time.
+// A point that was found: its weight and its time.
 #[derive(Clone, Copy)]
-pub enum Found {
-    Nothing,
-    At(usize, i32),
+pub struct Found {
+    pub weight: usize,
+    pub time: i32,
 }
 
 // The last point at or before a time. Every time is asked for one that a point may have.
-pub fn last_by(work: &[i32], place: usize, count: usize, by: i32) -> Found
-    requires { Stands work.now place count }
-    ensures { result ≡ found (lookup (list_at work.now place count) by) }
+pub fn last_by(work: &[i32], list: Prefix, by: i32) -> Option<Found>
+    requires { Stands work.now list.place list.count }
+    ensures { result ≡ found (lookup (points_at work.now list) by) }
 {
     if by < EARLIEST {
-        return Found::Nothing;
+        return None;
     }
-    let limit = limit_by(lesser(by, LATEST));
-    let end = after(work, place, place + count, limit);
+    let place = list.place;
+    let end = after(work, place, list.end(), limit_by(lesser(by, LATEST)));
     if end == place {
-        return Found::Nothing;
+        return None;
     }
     let code = work[end - 1];
-    Found::At(weight_in(code), time_in(code))
+    Some(Found {
+        weight: weight_in(code),
+        time: time_in(code),
+    })
 }
 
 // The two numbers of the point at a place.
@@ -49,14 +52,12 @@ fn put_point(out: &mut [i32], place: usize, time: i32, weight: i32)
 }
 
 // A list written to the front of `out` as alternating numbers.
-pub fn write_list(work: &[i32], place: usize, count: usize, out: &mut [i32])
-    requires { CanWrite work.now place count out.old }
-    ensures { out.new ≡ written_over (alternating (list_at work.now place count)) out.old }
+pub fn write_list(work: &[i32], list: Prefix, out: &mut [i32])
+    requires { CanWrite work.now list.place list.count out.old }
+    ensures { out.new ≡ written_over (alternating (points_at work.now list)) out.old }
 {
-    let mut k = 0;
-    while k < count {
-        let code = work[place + k];
+    for k in 0..list.count {
+        let code = work[list.place + k];
         put_point(out, k, time_in(code), weight_in(code) as i32);
-        k += 1;
     }
 }

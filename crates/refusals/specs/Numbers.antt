@@ -1,5 +1,5 @@
 -- The numbers of the reasons to refuse (R24) and the figures of a job's fields (R36), both ways. Definitions only.
-use Rattle.std.specs.Prelude.{ℕ, zero, suc, List, [], ◌∷◌, Option, Some, None, get_or}
+use Rattle.std.specs.Prelude.{ℕ, zero, suc, List, [], ◌∷◌, Option, Some, None, Result, Ok, Err, get_or}
 use Rattle.refusals.specs.declared.Reason.{Reason}
 use Rattle.refusals.specs.declared.Reason.TheVariants.{OrderTooShort, UnknownKind, TooManyJobs, WrongLength, BusFreeOutOfRange}
 use Rattle.refusals.specs.declared.Reason.TheVariants.{JobOutOfRange, NumberRepeated, ProfileNotValid, TooMuchWeight}
@@ -37,6 +37,11 @@ reason_of n =
     get_or (OrderTooShort ∷ OrderTooShort ∷ UnknownKind ∷ TooManyJobs ∷ WrongLength ∷ BusFreeOutOfRange ∷ JobOutOfRange
     ∷ NumberRepeated ∷ ProfileNotValid ∷ TooMuchWeight ∷ BufferTooShort ∷ NoFeasibleChoice ∷ CellTooCold ∷ NotOfHalves
     ∷ PlanWrongLength ∷ PlanStrayBits ∷ RepeatingNotValid ∷ FrameTooLong ∷ NoSheet ∷ EveryPackZero ∷ []) n OrderTooShort
+
+-- The number of what a call answers: 0 where it does not refuse.
+abbrev pub code_of : {A : Type 0} → Result A Reason → ℕ
+code_of (Ok a) = 0
+code_of (Err r) = number_of r
 
 -- A field's figure,
 abbrev pub figure_of : Field → ℕ

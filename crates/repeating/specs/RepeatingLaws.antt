@@ -1,6 +1,6 @@
 -- The laws of repeating jobs as the code judges and counts them: the tests of one job, the search for one that may not repeat, the
 -- frame period by period, and the repeats job by job.
-use Rattle.std.specs.Prelude.{ℕ, suc, ◌+◌, ◌*◌, ◌/◌, ◌%◌, ◌^◌, ◌≤◌, ◌<◌, ◌≡◌, refl, Bool, true, false, not, cond, ◌&&◌, List, [], ◌∷◌, T, ltb, eqb, ℤ, pos, negsuc, nat_abs, ◌+ℤ◌, ◌-ℤ◌, length, get_or, take, drop, ◌≤ℤ◌}
+use Rattle.std.specs.Prelude.{ℕ, suc, ◌+◌, ◌*◌, ◌/◌, ◌%◌, ◌^◌, ◌≤◌, ◌<◌, ◌≡◌, refl, Bool, true, false, not, cond, ◌&&◌, List, [], ◌∷◌, T, ltb, eqb, ℤ, pos, negsuc, nat_abs, ◌+ℤ◌, ◌-ℤ◌, length, get_or, take, drop, ◌≤ℤ◌, Some, None}
 use Rattle.std.proofs.Common.{sym, ap, ap₂, ◌∙◌, mul-le-mul, div-le_self, arith, to_z-of_z}
 use Rattle.std.specs.Int.Signed.{le_z, non_neg, mag}
 use Rattle.std.specs.Int.{w32}
@@ -11,8 +11,8 @@ use Rattle.seconds.specs.Ranges.{same, Between, is_between}
 use Rattle.seconds.specs.RangesLaws.{between-true, same-is}
 use Rattle.multiples.specs.Multiples.{lcm, lcm_from, AllPositive}
 use Rattle.multiples.specs.MultiplesLaws.{lcm-above, from-positive, from_more}
-use Rattle.packed.specs.Places.{part, each, first}
-use Rattle.packed.specs.PlacesLaws.{run-read, each-end, each_more, first_on, first-here}
+use Rattle.packed.specs.Places.{part, each, first, found_below}
+use Rattle.packed.specs.PlacesLaws.{run-read, each-end, each_more, first_on, first-here, first-end, found-there, found-none}
 use Rattle.packed.specs.Judge.{plainly, at_place, fine, refused, judge}
 use Rattle.packed.specs.Refusals.{weight_test}
 use Rattle.packed.proofs.RefusalLaws.{all-at, weight-range}
@@ -172,11 +172,22 @@ module _ (zs : List ℤ) (p count : ℕ) (j : Repeating) (b : p < count) (r : nu
   unfit-is : (t : Bool) → may_repeat (numbers_in j) ≡ t → unfit_at zs p ≡ not t
   unfit-is t e = ap (λ (job : List ℤ). not (may_repeat job)) (sym (read-given zs p j r)) ∙ ap not e
 
-  pub unfit-here : may_repeat (numbers_in j) ≡ false → first (unfit_at zs) p count ≡ p
-  unfit-here e = first-here (unfit_at zs) p count b (unfit-is false e)
+  -- The search so far is the search from here on.
+  module _ (so_far : first (unfit_at zs) 0 count ≡ first (unfit_at zs) p count) where
+    pub unfit-here : may_repeat (numbers_in j) ≡ false → Some p ≡ found_below count (first (unfit_at zs) 0 count)
+    unfit-here e =
+        let found : first (unfit_at zs) 0 count ≡ p = so_far ∙ first-here (unfit_at zs) p count b (unfit-is false e) in
+        rw found (found-there count p b)
 
-  pub unfit-on : may_repeat (numbers_in j) ≡ true → first (unfit_at zs) p count ≡ first (unfit_at zs) (p + 1) count
-  unfit-on e = first_on (unfit_at zs) p count b (unfit-is true e)
+    pub unfit-on : may_repeat (numbers_in j) ≡ true → first (unfit_at zs) 0 count ≡ first (unfit_at zs) (p + 1) count
+    unfit-on e = so_far ∙ first_on (unfit_at zs) p count b (unfit-is true e)
+
+-- Each may.
+pub none-unfit : (zs : List ℤ) (p count : ℕ) → p ≡ count → first (unfit_at zs) 0 count ≡ first (unfit_at zs) p count
+    → None ≡ found_below count (first (unfit_at zs) 0 count)
+none-unfit zs p count e so_far =
+    let found : first (unfit_at zs) 0 count ≡ count = so_far ∙ ap (λ q. first (unfit_at zs) q count) e ∙ first-end (unfit_at zs) count in
+    rw found (found-none count count (omega arith))
 
 -- 3, 4 and 16, one after the other.
 pub given-judge : (zs : List ℤ) → judge (given_checks zs)

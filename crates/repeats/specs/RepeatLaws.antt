@@ -1,6 +1,6 @@
 -- One step of the search for a number that stood earlier, over a list of numbers; and that it is the search of check 7.
-use Rattle.std.specs.Prelude.{ℕ, ◌+◌, ◌<◌, ◌≡◌, refl, Bool, ◌≢◌, List, ltb, eqb, ℤ, pos, length, get_or, set}
-use Rattle.std.proofs.Common.{sym, ap, ◌∙◌, arith, get_or-set_same, get_or-set_other, ltb-true, ltb-false, lt-ltb, le-ltb, eq-eqb, ne_eqb, eqb-true}
+use Rattle.std.specs.Prelude.{ℕ, ◌+◌, ◌<◌, ◌≡◌, refl, Bool, true, false, ◌≢◌, List, ltb, eqb, ℤ, pos, length, get_or, set}
+use Rattle.std.proofs.Common.{true≢false, sym, ap, ◌∙◌, arith, get_or-set_same, get_or-set_other, ltb-true, ltb-false, le-ltb, eq-eqb, ne_eqb, eqb-true}
 use Rattle.std.proofs.lemmas.Bool.{eqb-false}
 use borrow.Table.Steps.{cases}
 use Rattle.seconds.specs.RangesLaws.{same-is}
@@ -24,45 +24,24 @@ alike-on ns earlier later h n = first_on (alike ns later) earlier later h (ne_eq
 
 -- Like the number at an earlier place: the search ends.
 pub again-here : (ns : List ℕ) (earlier later : ℕ) → later < length ns → earlier < later → get_or ns earlier 0 ≡ get_or ns later 0
-    → first (alike ns later) 0 later ≡ first (alike ns later) earlier later
     → first (stood_earlier ns) later (length ns) ≡ later
-again-here ns earlier later b h e s =
-    let there : first (alike ns later) 0 later ≡ earlier =
-    s ∙ first-here (alike ns later) earlier later h (eq-eqb (get_or ns earlier 0) (get_or ns later 0) e) in
-    first-here (stood_earlier ns) later (length ns) b (rw there (lt-ltb earlier later h))
+again-here ns earlier later b h e =
+    cases (stood_earlier ns later)
+    (λ t. first-here (stood_earlier ns) later (length ns) b t)
+    (λ t. let none = ltb-false (first (alike ns later) 0 later) later t in
+    let passed = (first-is (alike ns later) 0 later (omega arith)).before earlier (omega arith) (omega arith) in
+    absurd (true≢false (sym (eq-eqb (get_or ns earlier 0) (get_or ns later 0) e) ∙ passed)))
 
 -- Unlike all of them: on to the next place.
 pub again-on : (ns : List ℕ) (later : ℕ) → later < length ns → first (alike ns later) 0 later ≡ later
     → first (stood_earlier ns) later (length ns) ≡ first (stood_earlier ns) (later + 1) (length ns)
 again-on ns later b s = first_on (stood_earlier ns) later (length ns) b (rw s (le-ltb later later (omega arith)))
 
--- ---- marks
-
--- The numbers of the first places have a mark.
-abbrev pub Marked : List ℕ → ℕ → List ℕ → Type 0
-Marked ns k met = (i : ℕ) → i < k → get_or met (get_or ns i 0) 0 ≡ 1
-
--- One more.
-pub marked_more : (ns : List ℕ) (k : ℕ) (met : List ℕ) → get_or ns k 0 < length met → Marked ns k met
-    → Marked ns (k + 1) (set met (get_or ns k 0) 1)
-marked_more ns k met room m i h =
-    cases (eqb (get_or ns i 0) (get_or ns k 0))
-    (λ e. rw (eqb-true (get_or ns i 0) (get_or ns k 0) e) (get_or-set_same met (get_or ns k 0) 1 0 room))
-    (λ e. let apart = eqb-false (get_or ns i 0) (get_or ns k 0) e in
-    get_or-set_other met (get_or ns k 0) (get_or ns i 0) 1 0 apart
-    ∙ m i (lt-of-other (λ (same : i ≡ k). apart (ap (λ (z : ℕ). get_or ns z 0) same)) h))
-  where
-    lt-of-other : i ≢ k → i < k + 1 → i < k
-    lt-of-other n b = cases (ltb i k) (λ e. ltb-true i k e) (λ e. let le = ltb-false i k e in absurd (n (omega arith)))
-
--- A number without a mark is unlike all before it: on to the next place.
-pub unmarked-on : (ns : List ℕ) (k : ℕ) (met : List ℕ) → k < length ns → Marked ns k met → get_or met (get_or ns k 0) 0 ≢ 1
+-- The same by each of them.
+pub unlike-on : (ns : List ℕ) (k : ℕ) → k < length ns → ((i : ℕ) → i < k → get_or ns i 0 ≢ get_or ns k 0)
     → first (stood_earlier ns) k (length ns) ≡ first (stood_earlier ns) (k + 1) (length ns)
-unmarked-on ns k met b m new = again-on ns k b (first-unique (alike ns k) 0 k (first (alike ns k) 0 k) k (first-is (alike ns k) 0 k (omega arith)) here)
+unlike-on ns k b unlike = again-on ns k b (first-unique (alike ns k) 0 k (first (alike ns k) 0 k) k (first-is (alike ns k) 0 k (omega arith)) here)
   where
-    unlike : (i : ℕ) → i < k → get_or ns i 0 ≢ get_or ns k 0
-    unlike i h e = new (rw (sym e) (m i h))
-
     here : IsFirst (alike ns k) 0 k k
     here =
         record {
@@ -71,6 +50,30 @@ unmarked-on ns k met b m new = again-on ns k b (first-unique (alike ns k) 0 k (f
           passes = λ b. absurd (omega arith);
           before = λ i a b. ne_eqb (get_or ns i 0) (get_or ns k 0) (unlike i b);
         }
+
+-- ---- marks
+
+-- The numbers of the first places have a mark.
+abbrev pub Marked : List ℕ → ℕ → List Bool → Type 0
+Marked ns k met = (i : ℕ) → i < k → get_or met (get_or ns i 0) false ≡ true
+
+-- One more.
+pub marked_more : (ns : List ℕ) (k : ℕ) (met : List Bool) → get_or ns k 0 < length met → Marked ns k met
+    → Marked ns (k + 1) (set met (get_or ns k 0) true)
+marked_more ns k met room m i h =
+    cases (eqb (get_or ns i 0) (get_or ns k 0))
+    (λ e. rw (eqb-true (get_or ns i 0) (get_or ns k 0) e) (get_or-set_same met (get_or ns k 0) true false room))
+    (λ e. let apart = eqb-false (get_or ns i 0) (get_or ns k 0) e in
+    get_or-set_other met (get_or ns k 0) (get_or ns i 0) true false apart
+    ∙ m i (lt-of-other (λ (same : i ≡ k). apart (ap (λ (z : ℕ). get_or ns z 0) same)) h))
+  where
+    lt-of-other : i ≢ k → i < k + 1 → i < k
+    lt-of-other n b = cases (ltb i k) (λ e. ltb-true i k e) (λ e. let le = ltb-false i k e in absurd (n (omega arith)))
+
+-- A number without a mark is unlike all before it: on to the next place.
+pub unmarked-on : (ns : List ℕ) (k : ℕ) (met : List Bool) → k < length ns → Marked ns k met → get_or met (get_or ns k 0) false ≢ true
+    → first (stood_earlier ns) k (length ns) ≡ first (stood_earlier ns) (k + 1) (length ns)
+unmarked-on ns k met b m new = unlike-on ns k b λ i h e. new (rw (sym e) (m i h))
 
 -- ---- check 7
 

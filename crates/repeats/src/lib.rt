@@ -9,37 +9,28 @@ ghost use Rattle.repeats.specs.Repeats.{first_again};
 fn all_differ(numbers: &[u8]) -> bool
     ensures { result ≡ true → first_again numbers.now ≡ length numbers.now }
 {
-    let mut met = [0u8; 256];
-    let mut k = 0;
-    while k < numbers.len() {
-        let number = numbers[k] as usize;
-        if met[number] == 1 {
+    let mut met = [false; 256];
+    for number in numbers {
+        let number = *number as usize;
+        if met[number] {
             return false;
         }
-        met[number] = 1;
-        k += 1;
+        met[number] = true;
     }
     true
 }
 
-// The first place whose number stood earlier in the list; its length if there is none.
+// The first place whose number stood earlier in the list. Its length if there is none: so `first_again` means it, and check 7 goes
+// by it.
 fn first_repeat(numbers: &[u8]) -> usize
     ensures { result ≡ first_again numbers.now }
 {
-    let mut found = numbers.len();
-    let mut later = 0;
-    'pairs: while later < numbers.len() {
-        let mut earlier = 0;
-        while earlier < later {
-            if numbers[earlier] == numbers[later] {
-                found = later;
-                break 'pairs;
-            }
-            earlier += 1;
+    for (later, number) in numbers.iter().enumerate() {
+        if numbers[..later].contains(number) {
+            return later;
         }
-        later += 1;
     }
-    found
+    numbers.len()
 }
 
 // The same, without a search over pairs where all numbers differ, as in every order that is accepted.

@@ -11,7 +11,7 @@ use Rattle.area.specs.Area.{area}
 use Rattle.planner.specs.Calls.{figures_of}
 use Rattle.planner.specs.declared.Figures.{Figures}
 use Rattle.text.specs.Decimal.{space, digits}
-use Rattle.text.specs.Buffer.{Room}
+use Rattle.text.specs.declared.Writer.{Writer}
 use Rattle.report.specs.Report.{job_lines, text_room}
 
 -- The first words of every text: a refusal's number and its place, a space behind each.
@@ -30,14 +30,14 @@ listed bytes starts n = job_lines (each (job_in bytes) 0 n) (take n starts)
 -- A refusal can be told: its place is one of at most 48 jobs, and there is room for its line.
 pub record CanRefuse (refusal : Refusal) (out : List ℕ) : Type 0 where
   pub early : refusal.place ≤ most_jobs
-  pub room : Room 33 out 0
+  pub room : 33 ≤ length out
 
 -- The jobs can be listed: the order is accepted, each job has a start, and there is room for a line of each.
-pub record CanList (bytes : List ℕ) (n : ℕ) (starts : List ℤ) (out : List ℕ) (at : ℕ) : Type 0 where
+pub record CanList (bytes : List ℕ) (n : ℕ) (starts : List ℤ) (text : Writer) : Type 0 where
   pub order : OrderFine bytes
   pub count : n ≡ count_of bytes
   pub places : n ≤ length starts
-  pub room : at + 23 * n ≤ length out
+  pub room : text.at + 23 * n ≤ length text.out.now
 
 -- A plan can be told: the order is accepted, these are the figures and the starts of its plan, and there is room for a text.
 pub record CanTell (bytes : List ℕ) (figures : Figures) (starts : List ℤ) (out : List ℕ) : Type 0 where

@@ -2,8 +2,9 @@
 // a lent buffer. Assumes nothing.
 #![tactic(auto)]
 
-ghost use Rattle.std.specs.Prelude.{◌+◌, ◌≤◌, take};
-ghost use Rattle.text.specs.Buffer.{Room, Wrote};
+ghost use Rattle.std.specs.Prelude.{◌*◌, take};
+ghost use Rattle.text.specs.Buffer.{Wrote};
+ghost use Rattle.text.specs.Writing.{Room, Writes};
 ghost use Rattle.report.specs.Report.{refusal_line, plan_line, start_word, job_line, report_of, Reported};
 ghost use Rattle.report.specs.Writing.{front_words, kept_words, CanRefuse, CanList, listed, CanTell, HasRoom};
 
@@ -12,7 +13,7 @@ use fields::{header_at, job_in};
 use packed::Refusal;
 use planner::{Figures, plan};
 use starting::LEFT_OUT;
-use text::{put_byte, put_figure, put_number};
+use text::Writer;
 
 // The bytes between the figures of a line and at its end, and the one for a job that is left out.
 const SPACE: u8 = 32;
@@ -27,14 +28,13 @@ const MOST_JOBS: usize = 48;
 // The room that is wanted for a text, in bytes.
 pub const ROOM: usize = 2048;
 
-// The two figures that every first line begins with, a refusal's number and its place, at the front: at most 22 bytes.
-fn put_front(out: &mut [u8], number: u32, place: u32) -> usize
-    requires { Room 22 out.old 0 }
-    ensures wrote { Wrote out.old 0 (front_words number place) out.new result }
-    ensures upper_bound { result ≤ 22 }
+// The two figures that every first line begins with, a refusal's number and its place: at most 22 bytes.
+fn put_front(text: &mut Writer, number: u32, place: u32)
+    requires { Room 22 text.old }
+    ensures { Writes (front_words number place) 22 text.old text.new }
 {
-    let next = put_figure(out, 0, number, SPACE);
-    put_figure(out, next, place, SPACE)
+    text.figure(number, SPACE);
+    text.figure(place, SPACE);
 }
 
 // The line of a refusal, at the front: at most 33 bytes.
@@ -42,72 +42,65 @@ pub fn put_refusal(out: &mut [u8], refusal: Refusal) -> usize
     requires { CanRefuse refusal out.old }
     ensures { Wrote out.old 0 (refusal_line refusal) out.new result }
 {
-    let next = put_front(out, refusal.number(), refusal.place() as u32);
-    put_figure(out, next, refusal.figure(), NEWLINE)
+    let mut text = Writer { out, at: 0 };
+    put_front(&mut text, refusal.number(), refusal.place() as u32);
+    text.figure(refusal.figure(), NEWLINE);
+    text.at
 }
 
 // How many jobs are kept, and the weights kept and lost, a space behind each: at most 33 bytes.
-fn put_kept(out: &mut [u8], at: usize, figures: Figures) -> usize
-    requires { Room 33 out.old at }
-    ensures wrote { Wrote out.old at (kept_words figures) out.new result }
-    ensures upper_bound { result ≤ at + 33 }
+fn put_kept(text: &mut Writer, figures: Figures)
+    requires { Room 33 text.old }
+    ensures { Writes (kept_words figures) 33 text.old text.new }
 {
-    let mut next = put_figure(out, at, figures.kept, SPACE);
-    next = put_figure(out, next, figures.kept_weight, SPACE);
-    put_figure(out, next, figures.lost_weight, SPACE)
+    text.figure(figures.kept, SPACE);
+    text.figure(figures.kept_weight, SPACE);
+    text.figure(figures.lost_weight, SPACE);
 }
 
-// The line of a plan, at the front: at most 78 bytes.
-fn put_plan(out: &mut [u8], figures: Figures) -> usize
-    requires { Room 78 out.old 0 }
-    ensures wrote { Wrote out.old 0 (plan_line figures) out.new result }
-    ensures upper_bound { result ≤ 78 }
+// The line of a plan: at most 78 bytes.
+fn put_plan(text: &mut Writer, figures: Figures)
+    requires { Room 78 text.old }
+    ensures { Writes (plan_line figures) 78 text.old text.new }
 {
-    let mut at = put_front(out, 0, 0);
-    at = put_kept(out, at, figures);
-    at = put_number(out, at, figures.finish);
-    at = put_byte(out, at, SPACE);
-    put_figure(out, at, figures.points, NEWLINE)
+    put_front(text, 0, 0);
+    put_kept(text, figures);
+    text.number(figures.finish);
+    text.byte(SPACE);
+    text.figure(figures.points, NEWLINE);
 }
 
 // A job's start, or a minus sign where the job is left out: at most eleven bytes.
-fn put_start(out: &mut [u8], at: usize, start: i32) -> usize
-    requires { Room 11 out.old at }
-    ensures wrote { Wrote out.old at (start_word start) out.new result }
-    ensures upper_bound { result ≤ at + 11 }
+fn put_start(text: &mut Writer, start: i32)
+    requires { Room 11 text.old }
+    ensures { Writes (start_word start) 11 text.old text.new }
 {
     if start == LEFT_OUT {
-        return put_byte(out, at, MINUS);
+        text.byte(MINUS);
+    } else {
+        text.number(start);
     }
-    put_number(out, at, start)
 }
 
 // The line of a job: at most 23 bytes.
-fn put_job(out: &mut [u8], at: usize, number: u32, start: i32) -> usize
-    requires { Room 23 out.old at }
-    ensures wrote { Wrote out.old at (job_line number start) out.new result }
-    ensures upper_bound { result ≤ at + 23 }
+fn put_job(text: &mut Writer, number: u32, start: i32)
+    requires { Room 23 text.old }
+    ensures { Writes (job_line number start) 23 text.old text.new }
 {
-    let mut next = put_figure(out, at, number, SPACE);
-    next = put_start(out, next, start);
-    put_byte(out, next, NEWLINE)
+    text.figure(number, SPACE);
+    put_start(text, start);
+    text.byte(NEWLINE);
 }
 
 // The lines of the first n jobs, in place order.
-fn put_jobs(out: &mut [u8], at: usize, bytes: &[u8], n: usize, starts: &[i32]) -> usize
-    requires { CanList bytes.now n starts.now out.old at }
-    ensures { Wrote out.old at (listed bytes.now starts.now n) out.new result }
+fn put_jobs(text: &mut Writer, bytes: &[u8], n: usize, starts: &[i32])
+    requires { CanList bytes.now n starts.now text.old }
+    ensures { Writes (listed bytes.now starts.now n) (23 * n) text.old text.new }
 {
-    let mut next = at;
-    let mut i = 0;
-    while i < n {
-        let job = job_in(bytes, i);
-        let number = job.number;
-        let start = starts[i];
-        next = put_job(out, next, number as u32, start);
-        i += 1;
+    for place in 0..n {
+        let job = job_in(bytes, place);
+        put_job(text, job.number as u32, starts[place]);
     }
-    next
 }
 
 // The text of a plan: its line, and a line for each job.
@@ -117,8 +110,10 @@ fn tell_plan(bytes: &[u8], figures: Figures, starts: &[i32], out: &mut [u8]) -> 
 {
     let header = header_at(bytes);
     let n = header.count;
-    let next = put_plan(out, figures);
-    put_jobs(out, next, bytes, n, starts)
+    let mut text = Writer { out, at: 0 };
+    put_plan(&mut text, figures);
+    put_jobs(&mut text, bytes, n, starts);
+    text.at
 }
 
 // The text by planning in lent numbers, of which there are enough.

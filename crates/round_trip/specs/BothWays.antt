@@ -1,19 +1,15 @@
 -- Packing and unpacking one after the other, as R22 says it: both ways without loss, over any outcomes (arguments
 -- in sequence, answer, parameters at exit) that the generated contracts of the calls allow. Definitions only.
-use Rattle.std.specs.Prelude.{ℕ, ◌*◌, ◌≤◌, ◌≡◌, List, ◌++◌, ℤ, length, take, drop}
+use Rattle.std.specs.Prelude.{ℕ, ◌*◌, ◌≤◌, ◌≡◌, List, ◌++◌, ℤ, length, take, drop, Ok}
 use contract.Lifetimes.{Lfts}
 use denote.Triple.Clauses.{AtExit}
 use denote.Triple.Entry.{Args}
 use Rattle.packed.proofs.LayoutLaws.{AreBytes}
 use Rattle.packed.specs.Packed.{job_count}
-use Rattle.unpack.specs.Answer.{jobs_unpacked, t0_unpacked}
-use Rattle.unpack.specs.declared.Unpacked.{Unpacked}
-use Rattle.unpack.specs.declared.Unpacked.TheVariants.{Jobs}
+use Rattle.unpack.specs.Answer.{Answer, Jobs, jobs_unpacked, t0_unpacked}
 use Rattle.unpack.specs.contracts.unpack as unpack
 use Rattle.unpack.proofs.unpack.Reads as unpack-reads
-use Rattle.pack.specs.Answer.{bytes_written}
-use Rattle.pack.specs.declared.Packed.{Packed}
-use Rattle.pack.specs.declared.Packed.TheVariants.{Bytes}
+use Rattle.pack.specs.Answer.{Packed, bytes_written}
 use Rattle.pack.specs.contracts.pack as pack
 use Rattle.pack.proofs.pack.Reads as pack-reads
 
@@ -23,7 +19,7 @@ use Rattle.pack.proofs.pack.Reads as pack-reads
 pub record Unpacking (bytes : List ℕ) : Type 0 where
   pub κs : Lfts 2
   pub args : Args unpack.signature κs
-  pub answer : Unpacked
+  pub answer : Answer
   pub exit : AtExit unpack.ended κs
   pub allowed : unpack-reads.Post κs args answer exit
   pub given : args.0.now ≡ bytes
@@ -64,7 +60,7 @@ pub record Packing (t0 : ℤ) (numbers : List ℤ) : Type 0 where
 module _ {t0 : ℤ} {numbers : List ℤ} (p : Packing t0 numbers) where
   -- It is accepted.
   abbrev pub Packs : Type 0
-  Packs = p.answer ≡ Bytes (bytes_written p.answer)
+  Packs = p.answer ≡ Ok (bytes_written p.answer)
 
   -- The bytes lent to write to, and those bytes at exit.
   abbrev pub bytes_lent : List ℕ
@@ -81,7 +77,7 @@ module _ {t0 : ℤ} {numbers : List ℤ} (p : Packing t0 numbers) where
 
 -- Packing what unpacking gave, with room for the bytes: it is accepted and writes the same bytes, the rest of the room stays.
 pub record SameBytes (bytes : List ℕ) {t0 : ℤ} {numbers : List ℤ} (p : Packing t0 numbers) : Type 0 where
-  pub answers : p.answer ≡ Bytes (length bytes)
+  pub answers : p.answer ≡ Ok (length bytes)
   pub writes : packed p ≡ bytes
   pub leaves : bytes_left p ≡ bytes ++ drop (length bytes) (bytes_lent p)
 

@@ -8,15 +8,12 @@ use Rattle.packed.specs.Packed.{kind_for, count_of, t0_of, numbers_of, job_count
 use Rattle.packed.proofs.PackedLaws.{length-numbers, numbers-count, length-packed}
 use Rattle.packed.specs.Refusals.{order_checks, number_checks}
 use Rattle.packed.proofs.RoundTrip.{unpack-pack, pack-unpack, one_form}
-use Rattle.unpack.specs.Answer.{unpack_of, numbers_after, jobs_unpacked}
+use Rattle.unpack.specs.Answer.{Answer, Jobs, unpack_of, numbers_after, jobs_unpacked}
 use Rattle.unpack.specs.AnswerLaws.{unpacks-order}
 use Rattle.unpack.specs.AnswerSays.{jobs-accepted}
-use Rattle.unpack.specs.declared.Unpacked.{Unpacked}
-use Rattle.unpack.specs.declared.Unpacked.TheVariants.{Jobs}
-use Rattle.pack.specs.Answer.{pack_of, bytes_after, bytes_written}
+use Rattle.pack.specs.Answer.{Packed, pack_of, bytes_after, bytes_written}
 use Rattle.pack.specs.AnswerLaws.{packs-order}
 use Rattle.pack.specs.AnswerSays.{bytes-accepted}
-use Rattle.pack.specs.declared.Packed.{Packed}
 use Rattle.round_trip.specs.BothWays.{Unpacking, Unpacks, time_told, numbers_lent, numbers_left, unpacked}
 use Rattle.round_trip.specs.BothWays.{Packing, bytes_lent, bytes_left, packed}
 use Rattle.round_trip.specs.BothWays.{SameBytes, UnpackedThenPacked, SameNumbers, PackedThenUnpacked, OneForm}
@@ -38,7 +35,7 @@ module _ {bytes : List ℕ} (u : Unpacking bytes) where
       record {
         answers = rw (numbers-count bytes) answers;
         writes =
-            ap₂ (λ (r : Unpacked) (out : List ℤ). take (7 * jobs_unpacked r) out) answers leaves
+            ap₂ (λ (r : Answer) (out : List ℤ). take (7 * jobs_unpacked r) out) answers leaves
             ∙ take_at (numbers_of bytes) _ (7 * count_of bytes) (length-numbers bytes);
         leaves = leaves;
       }

@@ -1,6 +1,6 @@
 -- What is known of planning's answer for the bytes of an entry: that the first bytes decide, that planning gives it where there is
 -- room, and that its figures fit; so those of a list of at most 10,000 orders are a sheet's.
-use Rattle.std.specs.Prelude.{ℕ, zero, suc, ◌+◌, ◌*◌, ◌≤◌, ◌<◌, ◌≡◌, refl, true, List, [], ◌∷◌, ◌++◌, map, leb, ℤ, length, get_or, set, replicate, take}
+use Rattle.std.specs.Prelude.{sum, ℕ, zero, suc, ◌+◌, ◌*◌, ◌≤◌, ◌<◌, ◌≡◌, refl, true, List, [], ◌∷◌, ◌++◌, map, leb, ℤ, length, get_or, set, replicate, take}
 use Rattle.std.proofs.Common.{sym, ap, ◌∙◌, arith, leb→le}
 use Rattle.std.proofs.lemmas.List.{map-append, length-map}
 use Rattle.std.proofs.Math.Option.{Option, none, some, map-eq-some_iff}
@@ -26,7 +26,8 @@ use Rattle.planner.specs.Answers.{plan-roomy}
 use Rattle.planner.specs.PlanningLaws.{total-few}
 use Rattle.planner.specs.declared.Figures.{Figures}
 use Rattle.planner.specs.Calls.{Planned, Refused, Made}
-use Rattle.sheet.specs.Sheet.{Sheet, most_orders, orders, no_sheet, one_order, join, sheet_of, sum_all, is_sheet}
+use Rattle.sheet.specs.Sheet.{Sheet, most_orders, orders, no_sheet, one_order, join, sheet_of, is_sheet}
+use Rattle.sheet.specs.NumbersLaws.{sum-cons}
 use Rattle.sheet.specs.Answered.{answered, with_order, week_of}
 use Rattle.sheet.specs.SheetLaws.{Tidy, as_many, one-tidy, sheet-tidy, sheet-orders, zeros-at, join-assoc, none_left, none_right, sheet-append, sheet-more}
 use Rattle.sheet.specs.FitsLaws.{Fitting, without, with-one, join-fits, sheet-says, sheet-passes, fitting-tidy}
@@ -91,16 +92,17 @@ answered-tame bytes = go (judge (order_checks bytes)) (plan_answer (order_of byt
 -- ---- its figures fit
 
 -- One 1 among zeros, summed up, and looked for elsewhere.
-no-sum : (k n : ℕ) → ◌≡◌ {A = ℕ} (sum_all (take k (replicate n 0))) 0
+no-sum : (k n : ℕ) → ◌≡◌ {A = ℕ} (sum (take k (replicate n 0))) 0
 no-sum zero n = refl
 no-sum (suc k) zero = refl
-no-sum (suc k) (suc n) = omega (arith, no-sum k n)
+no-sum (suc k) (suc n) = omega (arith, sum-cons 0 (take k (replicate n 0)), no-sum k n)
 
-one-sum : (k n m : ℕ) → m < k → k ≤ n → ◌≡◌ {A = ℕ} (sum_all (take k (set (replicate n 0) m 1))) 1
+one-sum : (k n m : ℕ) → m < k → k ≤ n → ◌≡◌ {A = ℕ} (sum (take k (set (replicate n 0) m 1))) 1
 one-sum zero n m h g = absurd (omega arith)
 one-sum (suc k) zero m h g = absurd (omega arith)
-one-sum (suc k) (suc n) zero h g = omega (arith, no-sum k n)
-one-sum (suc k) (suc n) (suc m) h g = omega (arith, one-sum k n m (omega arith) (omega arith))
+one-sum (suc k) (suc n) zero h g = omega (arith, sum-cons 1 (take k (replicate n 0)), no-sum k n)
+one-sum (suc k) (suc n) (suc m) h g =
+    omega (arith, sum-cons 0 (take k (set (replicate n 0) m 1)), one-sum k n m (omega arith) (omega arith))
 
 elsewhere : (n m i : ℕ) → m < i → ◌≡◌ {A = ℕ} (get_or (set (replicate n 0) m 1) i 0) 0
 elsewhere zero m i h = refl

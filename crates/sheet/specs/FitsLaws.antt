@@ -1,16 +1,17 @@
 -- Figures that fit together: what the tests say, that a join's fit where both do, and how great a sum can be.
-use Rattle.std.specs.Prelude.{ℕ, zero, suc, ◌+◌, ◌*◌, ◌-◌, ◌≤◌, ◌<◌, ◌≡◌, refl, Bool, true, false, ◌&&◌, List, [], ◌∷◌, leb, ltb, eqb, length, get_or, take, drop}
+use Rattle.std.specs.Prelude.{sum, ℕ, zero, suc, ◌+◌, ◌*◌, ◌-◌, ◌≤◌, ◌<◌, ◌≡◌, refl, Bool, true, false, ◌&&◌, List, [], ◌∷◌, leb, ltb, eqb, length, get_or, take, drop, Ok, Err}
 use Rattle.std.proofs.Common.{ap, arith, get_or-drop, get_or-take}
 use Rattle.std.proofs.Math.Bool.{and-eq-true_iff}
 use borrow.Author.Tests.{leb-true, ltb-true, ltb-false, eqb-true, eqb-false, le-leb, lt-leb, lt-ltb, le-ltb, eq-eqb, ne_eqb}
 use borrow.Table.Steps.{cases}
 use Rattle.seconds.specs.Limits.{most_weight, most_jobs}
-use Rattle.sheet.specs.Sheet.{Sheet, most_orders, orders, feasible, offered, kept, jobs_kept, add_lists, top_of, place_of, join, sum_all, judged}
+use Rattle.refusals.specs.declared.Reason.TheVariants.{BufferTooShort, NoSheet}
+use Rattle.sheet.specs.Sheet.{Sheet, most_orders, orders, feasible, offered, kept, jobs_kept, add_lists, top_of, place_of, join, judged}
 use Rattle.sheet.specs.Sheet.{greatest_top, weights_fit, top_fits, fits, is_sheet}
 use Rattle.sheet.specs.Sheet.{sheet_in, sheet_over, joins, join_refusal, joined_after, JoinCall}
 use Rattle.sheet.specs.Joining.{Small, CanJoin}
 use Rattle.sheet.specs.SheetLaws.{Tidy, lists_at}
-use Rattle.sheet.specs.NumbersLaws.{sheet-long}
+use Rattle.sheet.specs.NumbersLaws.{sheet-long, sum-cons}
 
 -- ---- what the tests say
 
@@ -86,15 +87,17 @@ sheet-passes s few f = and_both (le-leb (orders s) most_orders few) (fitting-pas
 -- ---- a join's figures fit
 
 sum-take : (n : ℕ) (xs ys : List ℕ) → length xs ≡ length ys
-    → sum_all (take n (add_lists xs ys)) ≡ sum_all (take n xs) + sum_all (take n ys)
+    → sum (take n (add_lists xs ys)) ≡ sum (take n xs) + sum (take n ys)
 sum-take zero xs ys e = refl
 sum-take (suc n) [] [] e = refl
 sum-take (suc n) [] (y ∷ ys) e = absurd (omega arith)
 sum-take (suc n) (x ∷ xs) [] e = absurd (omega arith)
-sum-take (suc n) (x ∷ xs) (y ∷ ys) e = omega (arith, sum-take n xs ys (omega arith))
+sum-take (suc n) (x ∷ xs) (y ∷ ys) e =
+    omega
+    (arith, sum-cons (x + y) (take n (add_lists xs ys)), sum-cons x (take n xs), sum-cons y (take n ys), sum-take n xs ys (omega arith))
 
 sum-behind : (n : ℕ) (xs ys : List ℕ) → length xs ≡ length ys
-    → sum_all (take n (drop 1 (add_lists xs ys))) ≡ sum_all (take n (drop 1 xs)) + sum_all (take n (drop 1 ys))
+    → sum (take n (drop 1 (add_lists xs ys))) ≡ sum (take n (drop 1 xs)) + sum (take n (drop 1 ys))
 sum-behind n [] [] e = sum-take n [] [] refl
 sum-behind n [] (y ∷ ys) e = absurd (omega arith)
 sum-behind n (x ∷ xs) [] e = absurd (omega arith)
@@ -131,11 +134,11 @@ join-fits a b e f g =
 
 -- ---- how great a sum can be
 
-part-most : (n : ℕ) (l : List ℕ) (i : ℕ) → i < n → get_or l i 0 ≤ sum_all (take n l)
+part-most : (n : ℕ) (l : List ℕ) (i : ℕ) → i < n → get_or l i 0 ≤ sum (take n l)
 part-most zero l i h = absurd (omega arith)
 part-most (suc n) [] i h = omega arith
-part-most (suc n) (x ∷ l) zero h = omega arith
-part-most (suc n) (x ∷ l) (suc i) h = omega (arith, part-most n l i (omega arith))
+part-most (suc n) (x ∷ l) zero h = omega (arith, sum-cons x (take n l))
+part-most (suc n) (x ∷ l) (suc i) h = omega (arith, sum-cons x (take n l), part-most n l i (omega arith))
 
 past_end : (l : List ℕ) (i : ℕ) → length l ≤ i → ◌≡◌ {A = ℕ} (get_or l i 0) 0
 past_end [] i h = refl
@@ -197,6 +200,10 @@ fitting-small l room f few i below =
     top_small (without c t p) = omega arith
     top_small (with-one c t m p) = omega arith
 
+-- A sheet in numbers has at most so many orders.
+pub sheet-few : (l : List ℕ) → is_sheet (sheet_in l) ≡ true → get_or l 0 0 ≤ most_orders
+sheet-few l e = omega (arith, (sheet-says (sheet_in l) e).0, get_or-take 24 l 0 0 (omega arith))
+
 -- ---- joining as a call
 
 pub joins-says : (a b : Sheet) → joins a b ≡ true → (is_sheet a ≡ true) × (is_sheet b ≡ true) × (orders a + orders b ≤ most_orders)
@@ -206,11 +213,11 @@ joins-says a b e =
 
 -- What is refused with 10, what with 18, and what is joined.
 module _ (to from : List ℕ) where
-  pub first_short : length to < 26 → JoinCall to from 10 to
+  pub first_short : length to < 26 → JoinCall to from (Err BufferTooShort) to
   unfolding join_refusal joined_after
   first_short h = let e = lt-leb 26 (length to) h in record { answer = rw e; lent = rw e }
 
-  pub second_short : length from < 26 → JoinCall to from 10 to
+  pub second_short : length from < 26 → JoinCall to from (Err BufferTooShort) to
   unfolding join_refusal joined_after
   second_short h =
       let e = lt-leb 26 (length from) h in
@@ -219,7 +226,7 @@ module _ (to from : List ℕ) where
       (λ d. record { answer = rw d; lent = rw d })
 
   module _ (room : 26 ≤ length to) (room' : 26 ≤ length from) where
-    pub join-refused : joins (sheet_in to) (sheet_in from) ≡ false → JoinCall to from 18 to
+    pub join-refused : joins (sheet_in to) (sheet_in from) ≡ false → JoinCall to from (Err NoSheet) to
     unfolding join_refusal joined_after
     join-refused e =
         let a = le-leb 26 (length to) room in
@@ -227,7 +234,7 @@ module _ (to from : List ℕ) where
         record { answer = rw (a, b, e); lent = rw (a, b, e) }
 
     pub join-done : joins (sheet_in to) (sheet_in from) ≡ true → (to' : List ℕ)
-        → to' ≡ sheet_over (join (sheet_in to) (sheet_in from)) to → JoinCall to from 0 to'
+        → to' ≡ sheet_over (join (sheet_in to) (sheet_in from)) to → JoinCall to from (Ok tt) to'
     unfolding join_refusal joined_after
     join-done e to' is =
         let a = le-leb 26 (length to) room in

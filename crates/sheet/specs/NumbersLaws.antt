@@ -1,10 +1,11 @@
 -- Sheets as numbers: what is written over some numbers is read back, and the loop that adds sums in place.
-use Rattle.std.specs.Prelude.{ℕ, zero, suc, ◌+◌, ◌-◌, ◌≤◌, ◌<◌, ◌≡◌, refl, Bool, true, false, ◌&&◌, leb, ltb, eqb, length, get_or, set, take, drop}
+use Rattle.std.specs.Prelude.{sum, ℕ, zero, suc, ◌+◌, ◌-◌, ◌≤◌, ◌<◌, ◌≡◌, refl, Bool, true, false, ◌&&◌, leb, ltb, eqb, length, get_or, set, take, drop}
 use Rattle.std.proofs.Common.{sym, ap, ◌∙◌, arith, length-append, take_at, drop_at, drop-cons, get_or-drop, take-take, length-take-le}
 use mathlib.Core.List.{List, [], ◌∷◌, ◌++◌, append_assoc}
 use Rattle.std.proofs.lemmas.List.{get_or_at, set_at}
+use Rattle.std.proofs.lemmas.List.Sums.{sum_by-cons}
 use Rattle.std.proofs.Math.Seq.{get_or-take}
-use Rattle.sheet.specs.Sheet.{Sheet, add_lists, top_of, place_of, join, sheet_in, sheet_over, sum_all}
+use Rattle.sheet.specs.Sheet.{Sheet, add_lists, top_of, place_of, join, sheet_in, sheet_over}
 use Rattle.sheet.specs.Sheet.{most_orders, weights_fit, top_fits, fits, is_sheet, joins}
 use Rattle.sheet.specs.Joining.{partly}
 use Rattle.sheet.specs.SheetLaws.{lists_length}
@@ -76,17 +77,20 @@ partly-front (suc n) (x ∷ xs) [] h g = absurd (omega arith)
 partly-front (suc n) (x ∷ xs) (y ∷ ys) h g = ap (λ l. (x + y) ∷ l) (partly-front n xs ys (omega arith) (omega arith))
 
 -- One number more summed.
-sum-suc : (j : ℕ) (l : List ℕ) → sum_all (take (suc j) l) ≡ sum_all (take j l) + get_or l j 0
-sum-suc zero [] = refl
-sum-suc zero (x ∷ l) = omega arith
-sum-suc (suc j) [] = refl
-sum-suc (suc j) (x ∷ l) = omega (arith, sum-suc j l)
+pub sum-cons : (x : ℕ) (l : List ℕ) → sum (x ∷ l) ≡ x + sum l
+sum-cons x l = sum_by-cons (λ (n : ℕ). n) x l
 
-pub sum_step : (i : ℕ) (l : List ℕ) → 1 ≤ i → sum_all (take ((i + 1) - 1) (drop 1 l)) ≡ sum_all (take (i - 1) (drop 1 l)) + get_or l i 0
+sum-suc : (j : ℕ) (l : List ℕ) → sum (take (suc j) l) ≡ sum (take j l) + get_or l j 0
+sum-suc zero [] = refl
+sum-suc zero (x ∷ l) = refl
+sum-suc (suc j) [] = refl
+sum-suc (suc j) (x ∷ l) = omega (arith, sum-cons x (take (suc j) l), sum-cons x (take j l), sum-suc j l)
+
+pub sum_step : (i : ℕ) (l : List ℕ) → 1 ≤ i → sum (take ((i + 1) - 1) (drop 1 l)) ≡ sum (take (i - 1) (drop 1 l)) + get_or l i 0
 sum_step i l some =
     let one : (i + 1) - 1 ≡ suc (i - 1) = omega arith in
     let back : 1 + (i - 1) ≡ i = omega arith in
-    rw one (sum-suc (i - 1) (drop 1 l) ∙ ap (λ x. sum_all (take (i - 1) (drop 1 l)) + x) (get_or-drop 1 l (i - 1) 0 ∙ ap (λ k. get_or l k 0) back))
+    rw one (sum-suc (i - 1) (drop 1 l) ∙ ap (λ x. sum (take (i - 1) (drop 1 l)) + x) (get_or-drop 1 l (i - 1) 0 ∙ ap (λ k. get_or l k 0) back))
 
 -- The same sum in numbers and in their sheet.
 judged-front : (l : List ℕ) → take 20 (drop 1 l) ≡ take 20 (drop 1 (take 24 l))
@@ -94,12 +98,12 @@ judged-front [] = refl
 judged-front (x ∷ l) = sym (take-take 20 23 l (omega arith))
 
 -- The test by its parts, as the code has them.
-pub is-sheet-by : (l : List ℕ) (sum : ℕ) (light placed : Bool) → sum ≡ sum_all (take 20 (drop 1 l))
+pub is-sheet-by : (l : List ℕ) (total : ℕ) (light placed : Bool) → total ≡ sum (take 20 (drop 1 l))
     → light ≡ weights_fit (get_or l 20 0) (get_or l 21 0) (get_or l 22 0) (get_or l 23 0)
     → placed ≡ top_fits (get_or l 0 0) (get_or l 20 0) (get_or l 24 0) (get_or l 25 0)
-    → (leb (get_or l 0 0) most_orders && (eqb sum (get_or l 0 0) && (light && placed))) ≡ is_sheet (sheet_in l)
+    → (leb (get_or l 0 0) most_orders && (eqb total (get_or l 0 0) && (light && placed))) ≡ is_sheet (sheet_in l)
 unfolding is_sheet fits
-is-sheet-by l sum light placed e f g =
+is-sheet-by l total light placed e f g =
     let at : (k : ℕ) → k < 24 → get_or (take 24 l) k 0 ≡ get_or l k 0 = λ k h. get_or-take 24 l k 0 h in
     rw (
       e,

@@ -1,7 +1,9 @@
 -- The figures of a sheet over orders, by what planning says of each: of none, of one, of two sheets joined, of a list; the numbers
 -- that hold them, and which numbers a sheet of at most 10,000 orders can have (R46, R49). Definitions only.
-use Rattle.std.specs.Prelude.{ℕ, ◌+◌, ◌*◌, ◌≡◌, Bool, cond, ◌&&◌, List, [], ◌∷◌, ◌++◌, leb, ltb, eqb, length, get_or, set, take, drop, replicate}
+use Rattle.std.specs.Prelude.{ℕ, ◌+◌, ◌*◌, ◌≡◌, Bool, cond, ◌&&◌, List, [], ◌∷◌, ◌++◌, leb, ltb, eqb, length, get_or, set, take, drop, replicate, Result, Ok, Err, is_ok, ⊤, sum}
 use Rattle.seconds.specs.Limits.{most_weight, most_jobs, most_points}
+use Rattle.refusals.specs.declared.Reason.{Reason}
+use Rattle.refusals.specs.declared.Reason.TheVariants.{BufferTooShort, NoSheet}
 use Rattle.planner.specs.Calls.{Planned, Refused, Made}
 
 -- ---- the figures
@@ -98,13 +100,9 @@ sheet_over s l = numbers_of s ++ drop figure_count l
 abbrev pub most_orders : ℕ
 most_orders = 10000
 
-abbrev pub sum_all : List ℕ → ℕ
-sum_all [] = 0
-sum_all (x ∷ xs) = x + sum_all xs
-
 -- Every order is refused by one of 1 to 19 or feasible.
 abbrev pub judged : Sheet → ℕ
-judged s = sum_all (take 20 (drop 1 s.sums))
+judged s = sum (take 20 (drop 1 s.sums))
 
 -- No order weighs more than 300, nor keeps more than its weight, nor more than 48 jobs.
 abbrev pub weights_fit : ℕ → ℕ → ℕ → ℕ → Bool
@@ -139,17 +137,19 @@ is_sheet s = leb (orders s) most_orders && fits s
 abbrev pub joins : Sheet → Sheet → Bool
 joins a b = is_sheet a && (is_sheet b && leb (orders a + orders b) most_orders)
 
--- 10 with less room than for a sheet, 18 where they do not join, 0 for none.
-unfoldable pub join_refusal : List ℕ → List ℕ → ℕ
+-- Refused with less room than for a sheet (10), and where they do not join (18).
+unfoldable pub join_refusal : List ℕ → List ℕ → Result ⊤ Reason
 join_refusal to from =
-    cond (leb figure_count (length to) && leb figure_count (length from)) (cond (joins (sheet_in to) (sheet_in from)) 0 18) 10
+    cond (leb figure_count (length to) && leb figure_count (length from))
+    (cond (joins (sheet_in to) (sheet_in from)) (Ok tt) (Err NoSheet))
+    (Err BufferTooShort)
 
 -- The first sheet's numbers after it: the two joined, or refused as they were.
 unfoldable pub joined_after : List ℕ → List ℕ → List ℕ
 joined_after to from =
-    cond (eqb (join_refusal to from) 0) (sheet_over (join (sheet_in to) (sheet_in from)) to) to
+    cond (is_ok (join_refusal to from)) (sheet_over (join (sheet_in to) (sheet_in from)) to) to
 
--- A call of joining: the refusal, and the first one's numbers at exit.
-pub record JoinCall (to from : List ℕ) (r : ℕ) (to' : List ℕ) : Type 0 where
+-- A call of joining: the answer, and the first one's numbers at exit.
+pub record JoinCall (to from : List ℕ) (r : Result ⊤ Reason) (to' : List ℕ) : Type 0 where
   pub answer : r ≡ join_refusal to from
   pub lent : to' ≡ joined_after to from

@@ -2,10 +2,12 @@
 // lines. Any numbers have an answer. Assumes nothing.
 #![tactic(auto)]
 
-ghost use Rattle.std.specs.Prelude.{◌≡◌, ◌≤◌, length, take, drop};
-ghost use Rattle.sheet.specs.Sheet.{numbers_of, no_sheet, sum_all, weights_fit, top_fits, is_sheet, sheet_in, sheet_over, join as join_of};
+ghost use Rattle.std.specs.Prelude.{◌≡◌, ◌≤◌, length, take, drop, sum};
+ghost use Rattle.sheet.specs.Sheet.{numbers_of, no_sheet, weights_fit, top_fits, is_sheet, sheet_in, sheet_over, join as join_of};
 ghost use Rattle.sheet.specs.Sheet.{figure_count, joins, JoinCall};
 ghost use Rattle.sheet.specs.Joining.{CanJoin, partly};
+
+use refusals::Reason;
 
 // How many numbers a sheet has, and how many of them are sums.
 pub const FIGURES: usize = 26;
@@ -43,26 +45,18 @@ pub fn none() -> [u32; FIGURES]
 }
 
 // All orders refused and the feasible ones, in 64 bits: no sum of numbers of 32 bits wraps there.
-fn judged(figures: &[u32]) -> u64
-    requires { figure_count ≤ length figures.now }
-    ensures { result ≡ sum_all (take 20 (drop 1 figures.now)) }
+fn judged(refused: &[u32]) -> u64
+    requires { length refused.now ≤ 20 }
+    ensures { result ≡ sum refused.now }
 {
-    let mut sum: u64 = 0;
-    let mut i = 1;
-    while i <= FEASIBLE {
-        let x = figures[i];
-        sum += x as u64;
-        i += 1;
-    }
-    sum
+    refused.iter().map(|x| *x as u64).sum()
 }
 
 // Whether weights and jobs are no more than so many feasible orders have.
 fn weights_fit(can: u32, weight: u32, some: u32, jobs: u32) -> bool
     ensures { result ≡ weights_fit can weight some jobs }
 {
-    (weight as u64 <= WEIGHT * can as u64)
-        & ((some <= weight) & (jobs as u64 <= ORDER_JOBS * can as u64))
+    weight as u64 <= WEIGHT * can as u64 && some <= weight && jobs as u64 <= ORDER_JOBS * can as u64
 }
 
 // Whether the greatest total and its place are those of so many orders.
@@ -70,9 +64,9 @@ fn top_fits(many: u32, can: u32, top: u32, place: u32) -> bool
     ensures { result ≡ top_fits many can top place }
 {
     if can == 0 {
-        return (top == 0) & (place == 0);
+        return top == 0 && place == 0;
     }
-    (0 < top) & ((top <= GREATEST) & (place < many))
+    0 < top && top <= GREATEST && place < many
 }
 
 // Whether some numbers begin with those of a sheet of at most 10,000 orders.
@@ -82,15 +76,10 @@ pub fn is_sheet(figures: &[u32]) -> bool
 {
     let many = figures[0];
     let can = figures[FEASIBLE];
-    let weight = figures[OFFERED];
-    let some = figures[KEPT];
-    let jobs = figures[JOBS];
-    let top = figures[TOP];
-    let place = figures[PLACE];
-    let sum = judged(figures);
-    let light = weights_fit(can, weight, some, jobs);
-    let placed = top_fits(many, can, top, place);
-    (many <= MOST) & ((sum == many as u64) & (light & placed))
+    many <= MOST
+        && judged(&figures[1..=FEASIBLE]) == many as u64
+        && weights_fit(can, figures[OFFERED], figures[KEPT], figures[JOBS])
+        && top_fits(many, can, figures[TOP], figures[PLACE])
 }
 
 // The second one's sums added to the first one's, place by place.
@@ -98,12 +87,8 @@ fn add_sums(to: &mut [u32], from: &[u32])
     requires { CanJoin to.old from.now }
     ensures { to.new ≡ partly 24 to.old from.now }
 {
-    let mut i = 0;
-    while i < SUMS {
-        let x = to[i];
-        let y = from[i];
-        to[i] = x + y;
-        i += 1;
+    for i in 0..SUMS {
+        to[i] += from[i];
     }
 }
 
@@ -129,27 +114,20 @@ fn can_join(to: &[u32], from: &[u32]) -> bool
     requires figure_count_in_bounds_2 { figure_count ≤ length from.now }
     ensures { result ≡ joins (sheet_in to.now) (sheet_in from.now) }
 {
-    let many = to[0];
-    let more = from[0];
-    let first = is_sheet(to);
-    let second = is_sheet(from);
-    first & (second & (many as u64 + more as u64 <= MOST as u64))
+    is_sheet(to) && is_sheet(from) && to[0] + from[0] <= MOST
 }
 
-// Two sheets joined, in the first one's numbers. Returns the refusal: 10 with less room than for a sheet, 18 where one is none
-// or there are too many orders, 0 for none.
-pub fn join(figures: &mut [u32], more: &[u32]) -> u32
+// Two sheets joined, in the first one's numbers. Refused with less room than for a sheet, and where one is none or there are too many
+// orders.
+pub fn join(figures: &mut [u32], more: &[u32]) -> Result<(), Reason>
     ensures { JoinCall figures.old more.now result figures.new }
 {
-    if figures.len() < FIGURES {
-        return 10;
+    if figures.len() < FIGURES || more.len() < FIGURES {
+        return Err(Reason::BufferTooShort);
     }
-    if more.len() < FIGURES {
-        return 10;
+    if !can_join(figures, more) {
+        return Err(Reason::NoSheet);
     }
-    if can_join(figures, more) {
-        join_into(figures, more);
-        return 0;
-    }
-    18
+    join_into(figures, more);
+    Ok(())
 }

@@ -4,7 +4,7 @@
 ghost use Rattle.std.specs.Prelude.{◌≡◌};
 ghost use Rattle.sheet_answers.specs.Numbers.{sheet_numbers, text_numbers};
 
-use sheet_text::Told;
+use refusals::Reason;
 
 // One order more, joining, feeding: the refusal, 0 for none.
 #[repr(C)]
@@ -21,19 +21,26 @@ pub struct SheetTextAnswer {
     pub bytes: usize,
 }
 
-// The answer of a call that has a refusal alone.
-pub fn sheet_answer(refusal: u32) -> SheetAnswer
-    ensures { result ≡ sheet_numbers refusal }
+// The answer of a call that has nothing else to say.
+pub fn sheet_answer(done: Result<(), Reason>) -> SheetAnswer
+    ensures { result ≡ sheet_numbers done }
 {
-    SheetAnswer { refusal: refusal }
+    let refusal = match done {
+        Ok(()) => 0,
+        Err(reason) => reason.number(),
+    };
+    SheetAnswer { refusal }
 }
 
 // The answer of the text.
-pub fn text_answer(told: Told) -> SheetTextAnswer
+pub fn text_answer(told: Result<usize, Reason>) -> SheetTextAnswer
     ensures { result ≡ text_numbers told }
 {
-    SheetTextAnswer {
-        refusal: told.refusal,
-        bytes: told.bytes,
+    match told {
+        Ok(bytes) => SheetTextAnswer { refusal: 0, bytes },
+        Err(reason) => SheetTextAnswer {
+            refusal: reason.number(),
+            bytes: 0,
+        },
     }
 }

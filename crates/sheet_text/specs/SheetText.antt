@@ -1,10 +1,11 @@
 -- The text of a sheet, 28 lines, and the call that writes it (R47). Definitions only.
-use Rattle.std.specs.Prelude.{ℕ, ◌+◌, ◌-◌, ◌≡◌, Bool, cond, ◌&&◌, List, [], ◌∷◌, ◌++◌, leb, eqb, length, drop}
+use Rattle.std.specs.Prelude.{ℕ, ◌+◌, ◌-◌, ◌≡◌, Bool, cond, ◌&&◌, List, [], ◌∷◌, ◌++◌, leb, eqb, length, drop, Result, Ok, Err, is_ok, ⊤}
 use Rattle.text.specs.Decimal.{minus, digits, words}
 use Rattle.fractions.specs.declared.Fraction.{Fraction}
 use Rattle.fractions.specs.Fractions.{lowest_of}
 use Rattle.sheet.specs.Sheet.{Sheet, figure_count, refused_by, feasible, offered, kept, sheet_in, is_sheet}
-use Rattle.sheet_text.specs.declared.Told.{Told}
+use Rattle.refusals.specs.declared.Reason.{Reason}
+use Rattle.refusals.specs.declared.Reason.TheVariants.{BufferTooShort, NoSheet}
 
 -- ---- the lines
 
@@ -55,25 +56,30 @@ sheet_text s cut =
 abbrev pub sheet_room : ℕ
 sheet_room = 336
 
--- 10 with less room than for a sheet's numbers or for a text, 18 where the numbers are no sheet's, 0 for none.
-unfoldable pub tell_refusal : List ℕ → List ℕ → ℕ
+-- Whether it is told: refused with less room than for a sheet's numbers or for a text (10), and where the numbers are no sheet's (18).
+unfoldable pub tell_refusal : List ℕ → List ℕ → Result ⊤ Reason
 tell_refusal figures out =
-    cond (leb figure_count (length figures) && leb sheet_room (length out)) (cond (is_sheet (sheet_in figures)) 0 18) 10
+    cond (leb figure_count (length figures) && leb sheet_room (length out))
+    (cond (is_sheet (sheet_in figures)) (Ok tt) (Err NoSheet))
+    (Err BufferTooShort)
 
 -- What is written: the text, or nothing where the call is refused.
 unfoldable pub told_text : List ℕ → Bool → List ℕ → List ℕ
-told_text figures cut out = cond (eqb (tell_refusal figures out) 0) (sheet_text (sheet_in figures) cut) []
+told_text figures cut out = cond (is_ok (tell_refusal figures out)) (sheet_text (sheet_in figures) cut) []
 
 -- It stands at the front of the buffer, and what lies behind it is as it was.
 unfoldable pub text_after : List ℕ → Bool → List ℕ → List ℕ
 text_after figures cut out = told_text figures cut out ++ drop (length (told_text figures cut out)) out
 
--- The answer: the refusal, and how many bytes were written.
-abbrev pub told_of : List ℕ → Bool → List ℕ → Told
-told_of figures cut out = record { refusal = tell_refusal figures out; bytes = length (told_text figures cut out) }
+-- The answer: how many bytes were written, or the refusal.
+abbrev pub with_bytes : ℕ → Result ⊤ Reason → Result ℕ Reason
+with_bytes bytes (Ok done) = Ok bytes
+with_bytes bytes (Err r) = Err r
 
--- A call: its answer, the refusal and how many bytes were written, and the buffer at exit.
-pub record TellCall (figures : List ℕ) (cut : Bool) (out : List ℕ) (r : Told) (out' : List ℕ) : Type 0 where
-  pub refusal : r.refusal ≡ tell_refusal figures out
-  pub bytes : r.bytes ≡ length (told_text figures cut out)
+abbrev pub told_of : List ℕ → Bool → List ℕ → Result ℕ Reason
+told_of figures cut out = with_bytes (length (told_text figures cut out)) (tell_refusal figures out)
+
+-- A call: its answer, how many bytes were written or the refusal, and the buffer at exit.
+pub record TellCall (figures : List ℕ) (cut : Bool) (out : List ℕ) (r : Result ℕ Reason) (out' : List ℕ) : Type 0 where
+  pub answer : r ≡ told_of figures cut out
   pub text : out' ≡ text_after figures cut out

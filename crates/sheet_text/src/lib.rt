@@ -1,24 +1,26 @@
 // The text of a sheet over orders, written into a lent buffer. Any numbers and any buffer have an answer. Assumes nothing.
 #![tactic(auto)]
 
-ghost use Rattle.std.specs.Prelude.{◌+◌, ◌≤◌, true, false, take};
-ghost use Rattle.text.specs.Buffer.{Room, Wrote};
+ghost use Rattle.std.specs.Prelude.{take};
+ghost use Rattle.text.specs.Buffer.{Wrote};
+ghost use Rattle.text.specs.Writing.{Room, Writes};
 ghost use Rattle.sheet.specs.Sheet.{sum_count, sheet_in};
-ghost use Rattle.sheet_text.specs.SheetText.{lines, none_line, top_line, fraction_line, last_line, sheet_text, TellCall};
+ghost use Rattle.sheet_text.specs.SheetText.{lines, top_line, fraction_line, last_line, sheet_text, TellCall};
 ghost use Rattle.sheet_text.specs.Writing.{CanList, CanPut};
 
 use fractions::lowest_terms;
+use refusals::Reason;
 use sheet::{FEASIBLE, FIGURES, KEPT, OFFERED, PLACE, SUMS, TOP, is_sheet};
-use text::{put_byte, put_figure};
+use text::Writer;
 
-// The bytes between the figures of a line and at its end, and the one where there is nothing to tell.
-const SPACE: u8 = 32;
+// The bytes between the figures of a line and at its end, and the line where there is nothing to tell.
+const SPACE: u8 = b' ';
 
-const SLASH: u8 = 47;
+const SLASH: u8 = b'/';
 
-const NEWLINE: u8 = 10;
+const NEWLINE: u8 = b'\n';
 
-const MINUS: u8 = 45;
+const NOTHING: &[u8] = b"-\n";
 
 // The refusal of an order that has no plan.
 const NO_PLAN: usize = 11;
@@ -26,109 +28,53 @@ const NO_PLAN: usize = 11;
 // The room that is wanted for a text, in bytes.
 pub const ROOM: usize = 336;
 
-// What the call answers: a refusal's number, 0 for none, and how many bytes were written.
-#[derive(Clone, Copy)]
-pub struct Told {
-    pub refusal: u32,
-    pub bytes: usize,
-}
-
-// The sums, one a line, at the front: at most eleven bytes each.
-fn put_sums(out: &mut [u8], figures: &[u32]) -> usize
-    requires { CanList figures.now out.old }
-    ensures wrote { Wrote out.old 0 (lines (take sum_count figures.now)) out.new result }
-    ensures upper_bound { result ≤ 264 }
+// The sums, one a line: at most eleven bytes each.
+fn put_sums(text: &mut Writer, figures: &[u32])
+    requires { CanList figures.now text.old }
+    ensures { Writes (lines (take sum_count figures.now)) 264 text.old text.new }
 {
-    let mut next = 0;
-    let mut i = 0;
-    while i < SUMS {
-        let value = figures[i];
-        next = put_figure(out, next, value, NEWLINE);
-        i += 1;
+    for value in &figures[..SUMS] {
+        text.figure(*value, NEWLINE);
     }
-    next
-}
-
-// The line with nothing to tell: two bytes.
-fn put_none(out: &mut [u8], at: usize) -> usize
-    requires { Room 2 out.old at }
-    ensures wrote { Wrote out.old at none_line out.new result }
-    ensures upper_bound { result ≤ at + 2 }
-{
-    let next = put_byte(out, at, MINUS);
-    put_byte(out, next, NEWLINE)
 }
 
 // The line of the greatest point total, told by one more than it, and of its place: at most 22 bytes.
-fn put_top(out: &mut [u8], at: usize, top: u32, place: u32) -> usize
-    requires { Room 22 out.old at }
-    ensures wrote { Wrote out.old at (top_line top place) out.new result }
-    ensures upper_bound { result ≤ at + 22 }
+fn put_top(text: &mut Writer, top: u32, place: u32)
+    requires { Room 22 text.old }
+    ensures { Writes (top_line top place) 22 text.old text.new }
 {
     if top == 0 {
-        return put_none(out, at);
+        text.bytes(NOTHING);
+    } else {
+        text.figure(top - 1, SPACE);
+        text.figure(place, NEWLINE);
     }
-    let next = put_figure(out, at, top - 1, SPACE);
-    put_figure(out, next, place, NEWLINE)
 }
 
 // The line of a fraction: at most 22 bytes.
-fn put_fraction(out: &mut [u8], at: usize, upper: u32, lower: u32) -> usize
-    requires { Room 22 out.old at }
-    ensures wrote { Wrote out.old at (fraction_line upper lower) out.new result }
-    ensures upper_bound { result ≤ at + 22 }
+fn put_fraction(text: &mut Writer, upper: u32, lower: u32)
+    requires { Room 22 text.old }
+    ensures { Writes (fraction_line upper lower) 22 text.old text.new }
 {
     if lower == 0 {
-        return put_none(out, at);
+        text.bytes(NOTHING);
+    } else {
+        let fraction = lowest_terms(upper, lower);
+        text.figure(fraction.upper, SLASH);
+        text.figure(fraction.lower, NEWLINE);
     }
-    let fraction = lowest_terms(upper, lower);
-    let next = put_figure(out, at, fraction.upper, SLASH);
-    put_figure(out, next, fraction.lower, NEWLINE)
-}
-
-// The last line of a sheet that is cut: four bytes.
-fn put_cut(out: &mut [u8], at: usize) -> usize
-    requires { Room 4 out.old at }
-    ensures { Wrote out.old at (last_line true) out.new result }
-{
-    let second = at + 1;
-    let third = second + 1;
-    let end = third + 1;
-    out[at] = 99;
-    out[second] = 117;
-    out[third] = 116;
-    out[end] = NEWLINE;
-    end + 1
-}
-
-// The last line of a whole one: six bytes.
-fn put_whole(out: &mut [u8], at: usize) -> usize
-    requires { Room 6 out.old at }
-    ensures { Wrote out.old at (last_line false) out.new result }
-{
-    let second = at + 1;
-    let third = second + 1;
-    let fourth = third + 1;
-    let fifth = fourth + 1;
-    let end = fifth + 1;
-    out[at] = 119;
-    out[second] = 104;
-    out[third] = 111;
-    out[fourth] = 108;
-    out[fifth] = 101;
-    out[end] = NEWLINE;
-    end + 1
 }
 
 // The last line: at most six bytes.
-fn put_last(out: &mut [u8], at: usize, cut: bool) -> usize
-    requires { Room 6 out.old at }
-    ensures { Wrote out.old at (last_line cut) out.new result }
+fn put_last(text: &mut Writer, cut: bool)
+    requires { Room 6 text.old }
+    ensures { Writes (last_line cut) 6 text.old text.new }
 {
     if cut {
-        return put_cut(out, at);
+        text.bytes(b"cut\n");
+    } else {
+        text.bytes(b"whole\n");
     }
-    put_whole(out, at)
 }
 
 // The text of a sheet, at the front.
@@ -139,44 +85,27 @@ fn put_sheet(out: &mut [u8], figures: &[u32], cut: bool) -> usize
     let refused = figures[NO_PLAN];
     let feasible = figures[FEASIBLE];
     let offered = figures[OFFERED];
-    let kept = figures[KEPT];
-    let top = figures[TOP];
-    let place = figures[PLACE];
     let able = feasible + refused;
-    let lost = offered - kept;
-    let mut next = put_sums(out, figures);
-    next = put_top(out, next, top, place);
-    next = put_fraction(out, next, feasible, able);
-    next = put_fraction(out, next, lost, offered);
-    put_last(out, next, cut)
+    let lost = offered - figures[KEPT];
+    let mut text = Writer { out, at: 0 };
+    put_sums(&mut text, figures);
+    put_top(&mut text, figures[TOP], figures[PLACE]);
+    put_fraction(&mut text, feasible, able);
+    put_fraction(&mut text, lost, offered);
+    put_last(&mut text, cut);
+    text.at
 }
 
-// The text of the sheet that some numbers say, at the front of `text`. Refused with 10 with fewer than 26 numbers or less than
-// 336 bytes of room, and with 18 where the numbers are no sheet's; then nothing is written.
-pub fn tell(figures: &[u32], cut: bool, text: &mut [u8]) -> Told
+// The text of the sheet that some numbers say, at the front of `text`, and how many bytes it has. Refused with fewer than 26 numbers or
+// less than 336 bytes of room, and where the numbers are no sheet's; then nothing is written.
+pub fn tell(figures: &[u32], cut: bool, text: &mut [u8]) -> Result<usize, Reason>
     ensures { TellCall figures.now cut text.old result text.new }
 {
-    if figures.len() < FIGURES {
-        return Told {
-            refusal: 10,
-            bytes: 0,
-        };
+    if figures.len() < FIGURES || text.len() < ROOM {
+        return Err(Reason::BufferTooShort);
     }
-    if text.len() < ROOM {
-        return Told {
-            refusal: 10,
-            bytes: 0,
-        };
+    if !is_sheet(figures) {
+        return Err(Reason::NoSheet);
     }
-    if is_sheet(figures) {
-        let bytes = put_sheet(text, figures, cut);
-        return Told {
-            refusal: 0,
-            bytes: bytes,
-        };
-    }
-    Told {
-        refusal: 18,
-        bytes: 0,
-    }
+    Ok(put_sheet(text, figures, cut))
 }

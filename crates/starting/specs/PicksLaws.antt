@@ -1,7 +1,8 @@
 -- The laws of choices read back from a mask: a feasible choice is read back whole, each pick is its bit of the mask, and the
 -- ones in the mask are the jobs kept.
-use Rattle.std.specs.Prelude.{ℕ, zero, suc, ◌+◌, ◌*◌, ◌-◌, ◌/◌, ◌%◌, ◌^◌, ◌≤◌, ◌<◌, ◌≡◌, refl, true, List, [], ◌∷◌, ℤ, length, get_or}
+use Rattle.std.specs.Prelude.{ℕ, zero, suc, ◌+◌, ◌*◌, ◌-◌, ◌/◌, ◌%◌, ◌^◌, ◌≤◌, ◌<◌, ◌≡◌, refl, true, cond, leb, List, [], ◌∷◌, ℤ, length, get_or}
 use Rattle.std.proofs.Common.{sym, ap, ap₂, ◌∙◌, pow-suc, mul_assoc, div-one, mod-eq_of_lt, arith, pow_pos, pow-add}
+use Rattle.std.proofs.lemmas.Bool.Decides.{nat_tests}
 use Rattle.std.proofs.Math.Nat.{div-eq_of_lt, mul-add-div_right, mul-div-mul_right}
 use Rattle.std.specs.Int.Count.{ones}
 use Rattle.std.proofs.Math.Pow.{high, low, split, field, mod-mod-pow}
@@ -69,6 +70,10 @@ module _ (m : ℕ) (fits : m < 2 ^ 64) where
 
   pub left-fits : m % 2 ^ 63 * 2 < 2 ^ 64
   left-fits = omega arith
+
+  -- The code tells the highest bit by a test.
+  pub highest-is : cond (leb (2 ^ 63) m) 1 0 ≡ m / 2 ^ 63
+  highest-is = grind (arith, nat_tests)
 
 -- Moved up and down again.
 half : (r d : ℕ) → r * 2 / 2 ^ suc d ≡ r / 2 ^ d

@@ -1,7 +1,7 @@
 // From a mask to the plan: the starts of the jobs that the mask keeps, and the number of them. Assumes nothing.
 #![tactic(auto)]
 
-ghost use Rattle.std.specs.Prelude.{◌≡◌};
+ghost use Rattle.std.specs.Prelude.{◌≡◌, cond};
 ghost use Rattle.order.specs.Choice.{number_kept};
 ghost use Rattle.fields.specs.Fields.{as_job};
 ghost use Rattle.starting.specs.Picks.{picks_of, TakesTurn, turn_of, WritesStarts, starts_written};
@@ -12,10 +12,10 @@ use fields::{Job, job_in};
 // The worth of the highest bit of a mask, which is that of place 0.
 const HIGHEST: u64 = 0x8000_0000_0000_0000;
 
-// What stands for the start of a job that is left out.
+// What stands for the start of a job that is left out: the C interface's starts are plain numbers.
 pub const LEFT_OUT: i32 = 200_000;
 
-// A job's start, and when the bus is free after it.
+// A job's start, and when the bus is free after it. No Option: a start goes as it is to the caller's numbers.
 #[derive(Clone, Copy)]
 struct Turn {
     start: i32,
@@ -24,19 +24,19 @@ struct Turn {
 
 // A job's turn: left out it has no start and the bus stays free; kept it starts at the greater of its
 // ready time and the bus-free time.
-fn take_turn(job: Job, pick: u64, free: i32) -> Turn
-    requires { TakesTurn job pick free }
-    ensures { result ≡ turn_of (as_job job) pick free }
+fn take_turn(job: Job, kept: bool, free: i32) -> Turn
+    requires { TakesTurn job (cond kept 1 0) free }
+    ensures { result ≡ turn_of (as_job job) (cond kept 1 0) free }
 {
-    if pick == 0 {
+    if !kept {
         return Turn {
             start: LEFT_OUT,
-            free: free,
+            free,
         };
     }
     let start = greater(job.ready, free);
     Turn {
-        start: start,
+        start,
         free: rested(start + job.length),
     }
 }
@@ -48,15 +48,11 @@ pub fn write_starts(bytes: &[u8], n: usize, t0: i32, mask: u64, starts: &mut [i3
 {
     let mut free = t0;
     let mut left = mask;
-    let mut i = 0;
-    while i < n {
-        let job = job_in(bytes, i);
-        let turn = take_turn(job, left / HIGHEST, free);
-        let start = turn.start;
-        starts[i] = start;
+    for i in 0..n {
+        let turn = take_turn(job_in(bytes, i), left >= HIGHEST, free);
+        starts[i] = turn.start;
         free = turn.free;
         left = left % HIGHEST * 2;
-        i += 1;
     }
 }
 
@@ -64,5 +60,5 @@ pub fn write_starts(bytes: &[u8], n: usize, t0: i32, mask: u64, starts: &mut [i3
 pub fn kept_of(mask: u64) -> u32
     ensures { result ≡ number_kept (picks_of 64 mask) }
 {
-    u64::count_ones(mask)
+    mask.count_ones()
 }

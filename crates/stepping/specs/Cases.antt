@@ -32,7 +32,7 @@ use Rattle.pushing.specs.PushLaws.{later-length}
 use Rattle.stepping.specs.declared.Terms.{Terms}
 use Rattle.stepping.specs.declared.Moved.{Moved}
 use Rattle.stepping.specs.Stepping.{job_of, stepped, last_start, Buffer, CanStep, Stepped, left_out, CanAdd, with_one, Added}
-use Rattle.stepping.specs.Stepping.{CanSeek, Startable, CanPushBy, pushed_as, PushedBy, CanMerge}
+use Rattle.stepping.specs.Stepping.{CanSeek, Startable, CanPushBy, PushedBy, CanMerge}
 use Rattle.stepping.specs.Before.{Finds, finds, cut-before}
 
 -- The job's own number does not count.
@@ -47,7 +47,7 @@ front_of list end = record { place = list.place; count = end - list.place }
 
 -- A pushed list, and the list cut behind the point that the first of it comes from.
 abbrev pub moved_to : Prefix → ℕ → Moved
-moved_to other end = record { place = other.place; count = other.count; cut = end + 1 - other.count }
+moved_to other end = record { list = other; cut = end + 1 - other.count }
 
 -- ---- the tests of the cases, over numbers
 
@@ -371,23 +371,23 @@ module _ {job : Terms} {rate : Rate} {place m : ℕ} {work pushed : List ℤ}
           still : Buffer pushed'
           still = record { room = omega (arith, sized, g.buffer.room); past = p.past }
 
-          there : points_at pushed' (pushed_as other) ≡ pushed_list
-          there = ap (list_at pushed' other.place) p.counted ∙ held-read p.held
+          there : points_at pushed' other.list ≡ pushed_list
+          there = ap (list_at pushed' other.list.place) p.counted ∙ held-read p.held
 
           pushes-rise : Rising pushed_list
           pushes-rise = push-rises j (job_rate rate) g.rises
 
           -- Of a critical job the pushed list stands behind the list.
-          pub can-lay : CanLay (end_of here) pushed' other.place other.count work
+          pub can-lay : CanLay (end_of here) pushed' other.list.place other.list.count work
           can-lay = record { inside = omega (arith, p.ends, still.room); room = omega (arith, p.few, g.room) }
 
           module _ (kept : job.critical ≡ true) {after : List ℤ}
-              (l : Laid (end_of here) pushed' other.place other.count work after)
+              (l : Laid (end_of here) pushed' other.list.place other.list.count work after)
             where
               laid-is : stepped job rate list ≡ pushed_list
               laid-is = both_is ∙ ap (λ (c : Bool). cond c pushed_list (merge below_all list pushed_list)) kept
 
-              pub laid-stepped : Stepped job rate here work (record { place = end_of here; count = other.count }) after pushed'
+              pub laid-stepped : Stepped job rate here work (record { place = end_of here; count = other.list.count }) after pushed'
               laid-stepped = record {
                 size = l.size;
                 stays = l.before;
@@ -399,7 +399,7 @@ module _ {job : Terms} {rate : Rate} {place m : ℕ} {work pushed : List ℤ}
               }
 
           -- Of any other it is joined with the list as it was.
-          pub can-join : job.critical ≡ false → CanJoin work here other.cut pushed' (pushed_as other)
+          pub can-join : job.critical ≡ false → CanJoin work here other.cut pushed' other.list
           can-join free = record {
             held = g.held;
             rises = g.rises;
@@ -412,8 +412,8 @@ module _ {job : Terms} {rate : Rate} {place m : ℕ} {work pushed : List ℤ}
             cut = p.cut;
           }
 
-          module _ (free : job.critical ≡ false) {r : Prefix} {after : List ℤ} (o : Joined work here pushed' (pushed_as other) r after) where
-            joined_is : stepped job rate list ≡ better_of list (points_at pushed' (pushed_as other))
+          module _ (free : job.critical ≡ false) {r : Prefix} {after : List ℤ} (o : Joined work here pushed' other.list r after) where
+            joined_is : stepped job rate list ≡ better_of list (points_at pushed' other.list)
             joined_is =
                 both_is
                 ∙ ap (λ (c : Bool). cond c pushed_list (merge below_all list pushed_list)) free
@@ -446,15 +446,15 @@ pub record PushesBy (job : Terms) (rate : Rate) (list : Prefix) (work pushed : L
 -- Case 2, as the code does it: the pushed list is laid behind the list, or joined with it.
 pub record Merges (job : Terms) (rate : Rate) (list : Prefix) (work pushed : List ℤ) : Type 0 where
   pub lay : (other : Moved) (pushed' : List ℤ) → length pushed' ≡ length pushed → PushedBy job rate list work other pushed'
-      → CanLay (end_of list) pushed' other.place other.count work
+      → CanLay (end_of list) pushed' other.list.place other.list.count work
   pub laid : (other : Moved) (pushed' after : List ℤ) → length pushed' ≡ length pushed
       → PushedBy job rate list work other pushed' → job.critical ≡ true
-      → Laid (end_of list) pushed' other.place other.count work after
-      → Stepped job rate list work (record { place = end_of list; count = other.count }) after pushed'
+      → Laid (end_of list) pushed' other.list.place other.list.count work after
+      → Stepped job rate list work (record { place = end_of list; count = other.list.count }) after pushed'
   pub join : (other : Moved) (pushed' : List ℤ) → length pushed' ≡ length pushed → PushedBy job rate list work other pushed'
-      → job.critical ≡ false → CanJoin work list other.cut pushed' (pushed_as other)
+      → job.critical ≡ false → CanJoin work list other.cut pushed' other.list
   pub joined : (other : Moved) (r : Prefix) (pushed' after : List ℤ) → length pushed' ≡ length pushed
-      → PushedBy job rate list work other pushed' → job.critical ≡ false → Joined work list pushed' (pushed_as other) r after
+      → PushedBy job rate list work other pushed' → job.critical ≡ false → Joined work list pushed' other.list r after
       → Stepped job rate list work r after pushed'
 
 -- The cases of a list that has a point: what the tests read, and what each case asks and gives.

@@ -101,17 +101,14 @@ pub record CanPushBy (job : Terms) (rate : Rate) (list : Prefix) (work pushed : 
 
 -- The list pushed by the job at the rate stands before the top of the buffer; it has a point, and no more than the list, which is
 -- cut where all in front goes before it.
-abbrev pub pushed_as : Moved → Prefix
-pushed_as r = record { place = r.place; count = r.count }
-
 pub record PushedBy (job : Terms) (rate : Rate) (list : Prefix) (work : List ℤ) (r : Moved) (pushed : List ℤ) : Type 0 where
-  pub held : Held pushed r.place (pushed_by (job_of job rate) (job_rate rate) (points_at work list))
-  pub counted : r.count ≡ length (pushed_by (job_of job rate) (job_rate rate) (points_at work list))
-  pub some : 1 ≤ r.count
-  pub few : r.count ≤ list.count
-  pub ends : end_of (pushed_as r) ≡ top
+  pub held : Held pushed r.list.place (pushed_by (job_of job rate) (job_rate rate) (points_at work list))
+  pub counted : r.list.count ≡ length (pushed_by (job_of job rate) (job_rate rate) (points_at work list))
+  pub some : 1 ≤ r.list.count
+  pub few : r.list.count ≤ list.count
+  pub ends : end_of r.list ≡ top
   pub past : at0 pushed top ≡ past_all
-  pub cut : CutAt work list r.cut (at0 pushed r.place)
+  pub cut : CutAt work list r.cut (at0 pushed r.list.place)
 
 -- Case 2: it can be pushed, and its last point is not before the job is ready.
 pub record CanMerge (job : Terms) (rate : Rate) (list : Prefix) (work pushed : List ℤ) : Type 0 where

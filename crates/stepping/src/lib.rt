@@ -22,11 +22,10 @@ pub struct Terms {
     pub deadline: i32,
 }
 
-// A pushed list in the buffer: where it begins, how many points it has, and the place up to which the list goes before all of it.
+// A pushed list in the buffer, and the place up to which the list goes before all of it.
 #[derive(Clone, Copy)]
 struct Moved {
-    place: usize,
-    count: usize,
+    list: Prefix,
     cut: usize,
 }
 
@@ -43,8 +42,7 @@ fn too_late(job: Terms, rate: Rate, first: i32) -> bool
     requires { CanEnd job rate × (pos 0 ≤ℤ first) }
     ensures { result ≡ too_late (job_of job rate) (job_rate rate) (point_of first) }
 {
-    let ready = job.ready;
-    last_start(job, rate) < greater(ready, time_in(first))
+    last_start(job, rate) < greater(job.ready, time_in(first))
 }
 
 // Case 1, the job can no longer start: the list stays, but of a critical job none is left.
@@ -65,7 +63,7 @@ fn add_one(work: &mut [i32], list: Prefix, job: Terms, rate: Rate) -> Prefix
     requires { CanAdd job rate list work.old }
     ensures { Added job rate list work.old result work.new }
 {
-    let used = list.place + list.count;
+    let used = list.end();
     let last = work[used - 1];
     let delta = delta_of(rate);
     work[used] = waits(job.ready, delta, last);
@@ -76,8 +74,8 @@ fn add_one(work: &mut [i32], list: Prefix, job: Terms, rate: Rate) -> Prefix
         };
     }
     Prefix {
-        place: list.place,
         count: list.count + 1,
+        ..list
     }
 }
 
@@ -86,11 +84,10 @@ pub fn startable_to(work: &[i32], list: Prefix, job: Terms, rate: Rate) -> usize
     requires { CanSeek job rate list work.now }
     ensures { Startable job rate list work.now result }
 {
-    let place = list.place;
     after(
         work,
-        place,
-        place + list.count,
+        list.place,
+        list.end(),
         limit_by(last_start(job, rate)),
     )
 }
@@ -101,18 +98,15 @@ fn push_by(work: &[i32], list: Prefix, job: Terms, rate: Rate, pushed: &mut [i32
     requires { CanPushBy job rate list work.now pushed.old }
     ensures { PushedBy job rate list work.now result pushed.new }
 {
-    let place = list.place;
     let end = startable_to(work, list, job, rate);
     let front = Prefix {
-        place: place,
-        count: end - place,
+        count: end - list.place,
+        ..list
     };
-    let other = push(work, front, job.ready, rate, pushed);
-    let count = other.count;
+    let list = push(work, front, job.ready, rate, pushed);
     Moved {
-        place: other.place,
-        count: count,
-        cut: end + 1 - count,
+        list,
+        cut: end + 1 - list.count,
     }
 }
 
@@ -127,21 +121,16 @@ fn merge_pushed(
     requires { CanMerge job rate list work.old pushed.old }
     ensures { Stepped job rate list work.old result work.new pushed.new }
 {
-    let used = list.place + list.count;
+    let used = list.end();
     let moved = push_by(work, list, job, rate, pushed);
-    let place = moved.place;
-    let count = moved.count;
+    let other = moved.list;
     if job.critical {
-        lay(work, used, pushed, place, count);
+        lay(work, used, pushed, other.place, other.count);
         return Prefix {
             place: used,
-            count: count,
+            ..other
         };
     }
-    let other = Prefix {
-        place: place,
-        count: count,
-    };
     join(work, list, moved.cut, pushed, other)
 }
 
@@ -150,20 +139,16 @@ pub fn step(work: &mut [i32], list: Prefix, job: Terms, rate: Rate, pushed: &mut
     requires { CanStep job rate list work.old pushed.old }
     ensures { Stepped job rate list work.old result work.new pushed.new }
 {
-    let place = list.place;
-    let count = list.count;
-    let critical = job.critical;
-    let ready = job.ready;
-    if count == 0 {
+    if list.count == 0 {
         return list;
     }
-    let used = place + count;
-    let first = work[place];
+    let used = list.end();
+    let first = work[list.place];
     let last = work[used - 1];
     if too_late(job, rate, first) {
-        return left_out(list, used, critical);
+        return left_out(list, used, job.critical);
     }
-    if time_in(last) < ready {
+    if time_in(last) < job.ready {
         return add_one(work, list, job, rate);
     }
     merge_pushed(work, list, job, rate, pushed)

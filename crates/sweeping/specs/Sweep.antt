@@ -65,7 +65,7 @@ pub record Roomy (job : Terms) (ps : List Point) (list : Prefix) (work pushed : 
 -- What is left without the job.
 abbrev pub left : Bool → ℕ → Prefix → ℕ → Stretch
 left critical used list points =
-    cond critical (record { place = used; count = 0; points = 0 }) (record { place = list.place; count = list.count; points = points })
+    cond critical (record { list = record { place = used; count = 0 }; points = 0 }) (record { list = list; points = points })
 
 -- A row has the cells of what is left without a job.
 pub record Wiped (critical : Bool) (row row' : List ℤ) : Type 0 where
@@ -103,11 +103,11 @@ pub record Swept (job : Terms) (rate : Rate) (list : Prefix) (points : ℕ) (wor
     : Type 0 where
   pub size : length work' ≡ length work
   pub stays : (k : ℕ) → k < end_of list → at0 work' k ≡ at0 work k
-  pub further : end_of list ≤ r.place + r.count
-  pub few : r.place + r.count ≤ end_of list + r.count
+  pub further : end_of list ≤ end_of r.list
+  pub few : end_of r.list ≤ end_of list + r.list.count
   pub buffer : Buffer pushed'
   pub next : (ps : List Point) → Carried ps list points work row → Steppable job rate ps
-      → Carried (stepped job rate ps) (record { place = r.place; count = r.count }) r.points work' row'
+      → Carried (stepped job rate ps) r.list r.points work' row'
 
 -- The job can start from so many cells, and one at least.
 pub record CanGo (job : Terms) (rate : Rate) (list : Prefix) (many : ℕ) (work pushed row : List ℤ) : Type 0 where

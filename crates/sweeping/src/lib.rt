@@ -3,7 +3,7 @@
 // Assumes nothing.
 #![tactic(auto)]
 
-ghost use Rattle.std.specs.Prelude.{◌≡◌, cond, ◌-◌, max, pos, length, ◌≤ℤ◌};
+ghost use Rattle.std.specs.Prelude.{◌≡◌, cond, ◌-◌, pos, length, ◌≤ℤ◌};
 ghost use Rattle.codes.specs.Code.{lightness};
 ghost use Rattle.cells.specs.Cells.{wide};
 ghost use Rattle.sweeping.specs.Sweep.{left, Wiped, CanCount, Counted, CanGo, Started, CanSweep, Swept};
@@ -18,19 +18,11 @@ use stepping::{Terms, last_start, startable_to};
 // From so many points past a job's ready time on cells pay: a turn of the merge waits for the one before, a cell does not.
 const MANY: usize = 20;
 
-// A stretch of the work area that says a list: where it begins, how many numbers it has, and how many points the list has.
+// A stretch of the work area that says a list: its numbers, and how many points the list has.
 #[derive(Clone, Copy)]
 pub struct Stretch {
-    pub place: usize,
-    pub count: usize,
+    pub list: Prefix,
     pub points: usize,
-}
-
-// The greater of two.
-fn most(x: usize, y: usize) -> usize
-    ensures { result ≡ max x y }
-{
-    if x < y { y } else { x }
 }
 
 // A critical job leaves no cells without it.
@@ -55,21 +47,17 @@ fn cells_left(critical: bool, last: i32) -> usize
 }
 
 // What is left without the job: of a critical one nothing.
-fn leave(list: Prefix, used: usize, points: usize, critical: bool) -> Stretch
-    ensures { result ≡ left critical used list points }
+fn leave(from: Stretch, used: usize, critical: bool) -> Stretch
+    ensures { result ≡ left critical used from.list from.points }
 {
     if critical {
-        return Stretch {
+        let list = Prefix {
             place: used,
             count: 0,
-            points: 0,
         };
+        return Stretch { list, points: 0 };
     }
-    Stretch {
-        place: list.place,
-        count: list.count,
-        points: points,
-    }
+    from
 }
 
 // How many cells a job can still start from at a rate.
@@ -102,22 +90,18 @@ fn sweep_started(
 {
     let used = list.place + list.count;
     let ends = rate.gain + many;
-    let critical = job.critical;
-    let far = most(cells_left(critical, work[used - 1]), ends);
-    push_cells(
-        row,
-        many,
-        limit_by(job.ready),
-        delta_of(rate),
-        rate.gain,
-        pushed,
-    );
+    let far = cells_left(job.critical, work[used - 1]).max(ends);
+    let limit = limit_by(job.ready);
+    push_cells(row, many, limit, delta_of(rate), rate.gain, pushed);
     wipe(pushed, ends, far);
-    wipe_if(critical, row);
+    wipe_if(job.critical, row);
     let rises = lower(row, pushed, far, work, used);
-    Stretch {
+    let list = Prefix {
         place: used,
         count: far,
+    };
+    Stretch {
+        list,
         points: rises as usize + 1,
     }
 }
@@ -125,21 +109,20 @@ fn sweep_started(
 // The list after a job, from the list before it and its cells, which become the cells of the list after it.
 pub fn sweep(
     work: &mut [i32],
-    list: Prefix,
-    points: usize,
+    from: Stretch,
     job: Terms,
     rate: Rate,
     pushed: &mut [i32],
     row: &mut [i32],
 ) -> Stretch
-    requires { CanSweep job rate list work.old pushed.old row.old }
-    ensures { Swept job rate list points work.old row.old result work.new pushed.new row.new }
+    requires { CanSweep job rate from.list work.old pushed.old row.old }
+    ensures { Swept job rate from.list from.points work.old row.old result work.new pushed.new row.new }
 {
+    let list = from.list;
     let many = startable_cells(work, list, job, rate);
     if many == 0 {
-        let critical = job.critical;
-        wipe_if(critical, row);
-        return leave(list, list.place + list.count, points, critical);
+        wipe_if(job.critical, row);
+        return leave(from, list.place + list.count, job.critical);
     }
     sweep_started(work, list, many, job, rate, pushed, row)
 }
@@ -149,11 +132,10 @@ pub fn many_late(work: &[i32], list: Prefix, time: i32) -> bool
     requires { Readable work.now list }
     ensures { result ≡ many_late work.now list time }
 {
-    let count = list.count;
-    if count < MANY {
+    if list.count < MANY {
         return false;
     }
-    time < time_in(work[list.place + count - MANY])
+    time < time_in(work[list.place + list.count - MANY])
 }
 
 // The list itself from its cells, at the front of the work area; an empty one where it is.
@@ -166,8 +148,5 @@ pub fn settle(work: &mut [i32], list: Prefix, row: &[i32]) -> Prefix
     }
     let far = cells_to(work[list.place + list.count - 1]);
     let count = gather(row, far, work);
-    Prefix {
-        place: 0,
-        count: count,
-    }
+    Prefix { place: 0, count }
 }

@@ -1,10 +1,6 @@
 -- Writing text into a lent buffer: room for it, what a call leaves behind, and a number that is being put. Definitions only.
-use Rattle.std.specs.Prelude.{ℕ, suc, ◌+◌, ◌≤◌, ◌<◌, ◌≡◌, List, ◌++◌, length, take, drop}
-use Rattle.text.specs.Decimal.{digits}
-
--- The buffer has room for so many bytes from a place on.
-pub record Room (bytes : ℕ) (out : List ℕ) (at : ℕ) : Type 0 where
-  pub fits : at + bytes ≤ length out
+use Rattle.std.specs.Prelude.{ℕ, ◌+◌, ◌≤◌, ◌≡◌, List, ◌++◌, length, take, drop}
+use Rattle.text.specs.Decimal.{digits, last_digits}
 
 -- The buffer with text put at a place: what stands before the place and behind the text stays.
 abbrev pub put : ℕ → List ℕ → List ℕ → List ℕ
@@ -17,9 +13,8 @@ pub record Wrote (entry : List ℕ) (at : ℕ) (text exit : List ℕ) (next : �
   pub room : next ≤ length entry
   pub kept : length exit ≡ length entry
 
--- The figures of `left` are still to be put, the last of them at `place`, for those of `value` to stand in the buffer.
-pub record Filling (entry : List ℕ) (at value : ℕ) (out : List ℕ) (place left : ℕ) : Type 0 where
-  pub still : put at (digits left) out ≡ put at (digits value) entry
-  pub last : suc place ≡ at + length (digits left)
-  pub room : place < length entry
+-- The last `count` figures of `left` are still to be put for those of `value` to stand in the buffer.
+pub record Filling (entry : List ℕ) (at value : ℕ) (out : List ℕ) (count left : ℕ) : Type 0 where
+  pub still : put at (last_digits count left) out ≡ put at (digits value) entry
+  pub room : at + count ≤ length entry
   pub kept : length out ≡ length entry

@@ -26,6 +26,11 @@ digits_in (suc turns) n =
 unfoldable pub digits : ℕ → List ℕ
 digits n = digits_in (suc n) n
 
+-- The last so many figures of a number, with zeros in front where it has fewer.
+abbrev pub last_digits : ℕ → ℕ → List ℕ
+last_digits zero n = []
+last_digits (suc count) n = last_digits count (n / 10) ++ (byte_of (n % 10) ∷ [])
+
 -- A signed number: its figures, a minus sign before them where it is below zero.
 unfoldable pub figure : ℤ → List ℕ
 figure (pos n) = digits n

@@ -6,7 +6,7 @@ use mathlib.Core.List.Memᴰ
 use Rattle.std.proofs.Math.ListN.{get_or-append}
 use borrow.Table.Steps.{cases}
 use Rattle.seconds.specs.Signed.{signed}
-use Rattle.text.specs.Decimal.{minus, byte_of, digits_in, digits, figure}
+use Rattle.text.specs.Decimal.{minus, byte_of, digits_in, digits, last_digits, figure}
 use Rattle.text.specs.Value.{value_after, value_of, IsFigure, AllFigures, signed_of}
 
 -- ---- the figures, with no count of turns
@@ -108,6 +108,16 @@ no-leading-zero = by-tenths (λ n. 0 < n → byte_of 0 < get_or (digits n) 0 0) 
 -- One more than the tenth has.
 pub length_more : (n : ℕ) → 10 ≤ n → length (digits n) ≡ suc (length (digits (n / 10)))
 length_more n h = ap length (digits_more n h) ∙ length-append (digits (n / 10)) (byte_of (n % 10) ∷ []) ∙ omega arith
+
+-- So many of the last figures are all of them.
+pub all-digits : (n : ℕ) → last_digits (length (digits n)) n ≡ digits n
+all-digits = by-tenths (λ n. last_digits (length (digits n)) n ≡ digits n) one more
+  where
+    one : (n : ℕ) → n < 10 → last_digits (length (digits n)) n ≡ digits n
+    one n h = let e : n % 10 ≡ n = omega arith in rw (digits-one n h, e)
+
+    more : (n : ℕ) → 10 ≤ n → last_digits (length (digits (n / 10))) (n / 10) ≡ digits (n / 10) → last_digits (length (digits n)) n ≡ digits n
+    more n h below = rw (length_more n h, below) (sym (digits_more n h))
 
 -- At most k + 1 below the power of 10 at k + 1.
 pub digits-short : (k n : ℕ) → n < 10 ^ suc k → length (digits n) ≤ suc k

@@ -3,5 +3,7 @@ pub mod Decimal
 pub mod Value
 pub mod Figures
 pub mod Buffer
+pub mod Writing
 pub mod BufferLaws
+pub mod WritingLaws
 pub mod Filling

@@ -1,82 +1,85 @@
-// Numbers as text: figures written as bytes into a lent buffer. Each call wants room and returns the
-// place behind what it wrote. Assumes nothing.
+// Numbers as text: figures written as bytes into a lent buffer, behind what was written before. Each call wants room.
+// Assumes nothing.
 #![tactic(auto)]
 
-ghost use Rattle.std.specs.Prelude.{◌≡◌, [], ◌∷◌, ◌++◌, ◌+◌, ◌≤◌, nat_abs, length};
+ghost use Rattle.std.specs.Prelude.{◌≡◌, [], ◌∷◌, ◌++◌, ◌≤◌, length};
 ghost use Rattle.text.specs.Decimal.{digits, figure};
-ghost use Rattle.text.specs.Buffer.{Room, Wrote};
+ghost use Rattle.text.specs.Writing.{Room, Writes};
 
-// One byte.
-pub fn put_byte(out: &mut [u8], at: usize, b: u8) -> usize
-    requires { Room 1 out.old at }
-    ensures { Wrote out.old at (b ∷ []) out.new result }
-{
-    out[at] = b;
-    at + 1
+// A lent buffer, and the place behind what was written.
+#[derive(Drop)]
+pub struct Writer<'a> {
+    pub out: &'a mut [u8],
+    pub at: usize,
 }
 
 // How many figures a number has.
 fn figure_count(value: u32) -> usize
-    ensures { result ≡ length (digits value) }
+    ensures count { result ≡ length (digits value) }
+    ensures upper_bound { result ≤ 10 }
 {
     let mut rest = value;
     let mut count: usize = 1;
+    // It counts divisions, so no range fits.
     while rest > 9 {
-        rest = rest / 10;
+        rest /= 10;
         count += 1;
     }
     count
 }
 
-// A number from zero up, at most ten bytes: its figures are put from the last to the first.
-pub fn put_count(out: &mut [u8], at: usize, value: u32) -> usize
-    requires { Room 10 out.old at }
-    ensures wrote { Wrote out.old at (digits value) out.new result }
-    ensures upper_bound { result ≤ at + 10 }
-{
-    let next = at + figure_count(value);
-    let mut place = next - 1;
-    let mut left = value;
-    while left > 9 {
-        out[place] = 48 + (left % 10) as u8;
-        place -= 1;
-        left = left / 10;
+impl<'a> Writer<'a> {
+    // One byte.
+    pub fn byte(&mut self, b: u8)
+        requires { Room 1 self.old }
+        ensures { Writes (b ∷ []) 1 self.old self.new }
+    {
+        self.out[self.at] = b;
+        self.at += 1;
     }
-    out[place] = 48 + left as u8;
-    next
-}
 
-// A number from zero up, and a byte behind it: at most eleven bytes.
-pub fn put_figure(out: &mut [u8], at: usize, value: u32, behind: u8) -> usize
-    requires { Room 11 out.old at }
-    ensures wrote { Wrote out.old at (digits value ++ (behind ∷ [])) out.new result }
-    ensures upper_bound { result ≤ at + 11 }
-{
-    let next = put_count(out, at, value);
-    put_byte(out, next, behind)
-}
-
-// A number without its sign; -1 - value is one less than it, and fits for every value below zero.
-fn without_sign(value: i32) -> u32
-    ensures { result ≡ nat_abs value }
-{
-    if value < 0 {
-        (-1 - value) as u32 + 1
-    } else {
-        value as u32
+    // Bytes as they stand.
+    pub fn bytes(&mut self, bytes: &[u8])
+        requires { Room (length bytes.now) self.old }
+        ensures { Writes bytes.now (length bytes.now) self.old self.new }
+    {
+        let end = self.at + bytes.len();
+        self.out[self.at..end].copy_from_slice(bytes);
+        self.at = end;
     }
-}
 
-// A signed number, at most eleven bytes: its figures, a minus sign before them where it is below zero.
-pub fn put_number(out: &mut [u8], at: usize, value: i32) -> usize
-    requires { Room 11 out.old at }
-    ensures wrote { Wrote out.old at (figure value) out.new result }
-    ensures upper_bound { result ≤ at + 11 }
-{
-    let size = without_sign(value);
-    if value < 0 {
-        let next = put_byte(out, at, 45);
-        return put_count(out, next, size);
+    // A number from zero up, at most ten bytes: its figures are put from the last to the first.
+    pub fn count(&mut self, value: u32)
+        requires { Room 10 self.old }
+        ensures { Writes (digits value) 10 self.old self.new }
+    {
+        let start = self.at;
+        let end = start + figure_count(value);
+        let mut left = value;
+        for place in (start..end).rev() {
+            self.out[place] = b'0' + (left % 10) as u8;
+            left /= 10;
+        }
+        self.at = end;
     }
-    put_count(out, at, size)
+
+    // A number from zero up, and a byte behind it: at most eleven bytes.
+    pub fn figure(&mut self, value: u32, behind: u8)
+        requires { Room 11 self.old }
+        ensures { Writes (digits value ++ (behind ∷ [])) 11 self.old self.new }
+    {
+        self.count(value);
+        self.byte(behind);
+    }
+
+    // A signed number, at most eleven bytes: its figures, a minus sign before them where it is below zero.
+    pub fn number(&mut self, value: i32)
+        requires { Room 11 self.old }
+        ensures { Writes (figure value) 11 self.old self.new }
+    {
+        if value < 0 {
+            self.byte(b'-');
+        }
+        self.count(value.unsigned_abs());
+    }
 }

@@ -1,33 +1,32 @@
 // An order made easier: what is eased is drawn, from nothing at all to every time and length. A check by the
 // numbers of both says whether the second order is easier than the first.
-use crate::jobs::{DEADLINE, LENGTH, NUMBER, PACK, READY};
-use crate::{drawn, drawn_from, in_time, next};
-use careful::{at, count_of, more, number_of, plus, put};
-
-// How many numbers a job has.
-const FIELDS: usize = 7;
-
-// What stands for the time from which on the bus is free, for all fields, and for all jobs.
-const FREE: u8 = 7;
-
-const ALL_FIELDS: u8 = 8;
-
-const ALL_JOBS: u64 = 100;
+use crate::in_time;
+use crate::seeds::Seed;
+use careful::{Job, count_of, jobs_of, more, number_of, plus, put_job};
 
 // The highest number that a job may have, and the most seconds by which anything is eased.
 const HIGHEST: u64 = 63;
 
 const MOST: u64 = 10_000;
 
-// What is eased of an order: one job or all, one field or all, each by less than so many seconds. Packs are
-// drawn from so many. The last seed that it was drawn by comes with it.
+// Which times and lengths are eased.
+#[derive(Clone, Copy, PartialEq, Eq)]
+enum Part {
+    Length,
+    Ready,
+    Deadline,
+    Free,
+    All,
+}
+
+// What is eased of an order: one job or all, one part or all, each by less than so many seconds. Packs are
+// drawn from so many.
 #[derive(Clone, Copy)]
 struct Easing {
-    job: u64,
-    field: u8,
+    job: Option<u64>,
+    part: Part,
     seconds: u64,
     packs: u64,
-    seed: u64,
 }
 
 // An order eased: when the bus is free, and the seed after it.
@@ -45,27 +44,26 @@ pub struct Change {
 }
 
 // The job that is eased, of so many: one, or as often all.
-fn drawn_job(seed: u64, jobs: u64) -> u64 {
-    if drawn(seed, 2) == 0 {
-        return ALL_JOBS;
-    }
-    drawn(next(seed), jobs)
+fn draw_place(seed: &mut Seed, jobs: u64) -> Option<u64> {
+    let one = seed.draw(2) != 0;
+    let job = seed.draw(jobs);
+    one.then_some(job)
 }
 
-// The field that is eased.
-fn drawn_field(seed: u64) -> u8 {
-    match drawn(seed, 8) {
-        0 | 1 => LENGTH,
-        2 => READY,
-        3 => DEADLINE,
-        4 => FREE,
-        _ => ALL_FIELDS,
+// The part that is eased.
+fn draw_part(seed: &mut Seed) -> Part {
+    match seed.draw(8) {
+        0 | 1 => Part::Length,
+        2 => Part::Ready,
+        3 => Part::Deadline,
+        4 => Part::Free,
+        _ => Part::All,
     }
 }
 
 // Below how many seconds each is eased. One is nothing at all: the same order under other numbers and packs.
-fn drawn_seconds(seed: u64) -> u64 {
-    match drawn(seed, 8) {
+fn draw_seconds(seed: &mut Seed) -> u64 {
+    match seed.draw(8) {
         0 => 1,
         1 => 3,
         2 | 3 => 16,
@@ -75,25 +73,8 @@ fn drawn_seconds(seed: u64) -> u64 {
 }
 
 // How many packs are drawn from: a pack of 0 throughout makes records of the kind without one.
-fn drawn_packs(seed: u64) -> u64 {
-    if drawn(seed, 2) == 0 {
-        return 1;
-    }
-    256
-}
-
-// What is eased of an order of so many jobs, drawn from a seed on.
-fn draw_easing(seed: u64, jobs: u64) -> Easing {
-    let field_seed = next(next(seed));
-    let seconds_seed = next(field_seed);
-    let packs_seed = next(seconds_seed);
-    Easing {
-        job: drawn_job(seed, jobs),
-        field: drawn_field(field_seed),
-        seconds: drawn_seconds(seconds_seed),
-        packs: drawn_packs(packs_seed),
-        seed: packs_seed,
-    }
+fn draw_packs(seed: &mut Seed) -> u64 {
+    if seed.draw(2) == 0 { 1 } else { 256 }
 }
 
 // So many seconds less: taken from what the most would leave, since a count has no sign.
@@ -102,14 +83,6 @@ fn less(number: i32, by: u64) -> i32 {
         return number;
     }
     plus(plus(number, -10_000), number_of(MOST - by))
-}
-
-// A length, or the shortest that a job may have.
-fn in_length(length: i32) -> i32 {
-    if length < 1 {
-        return 1;
-    }
-    length
 }
 
 // Another number for a job: two jobs of unlike numbers have unlike ones again.
@@ -121,109 +94,94 @@ fn other_number(number: i32) -> i32 {
     number_of(HIGHEST - count)
 }
 
-// A field eased by so many seconds; a mark or a weight stays.
-fn eased_by(field: u8, old: i32, by: u64) -> i32 {
-    match field {
-        READY | FREE => in_time(less(old, by)),
-        LENGTH => in_length(less(old, by)),
-        DEADLINE => in_time(plus(old, number_of(by))),
-        _ => old,
+impl Easing {
+    // What is eased of an order of so many jobs.
+    fn draw(seed: &mut Seed, jobs: u64) -> Easing {
+        Easing {
+            job: draw_place(seed, jobs),
+            part: draw_part(seed),
+            seconds: draw_seconds(seed),
+            packs: draw_packs(seed),
+        }
+    }
+
+    // By how many seconds a part is eased, where it is the one and its job too.
+    fn draw_by(self, seed: &mut Seed, here: bool, part: Part) -> u64 {
+        let by = seed.draw(self.seconds);
+        if here && (self.part == part || self.part == Part::All) {
+            return by;
+        }
+        0
+    }
+
+    // A job eased, by a seed for each of its numbers; its mark and its weight stay.
+    fn ease(self, seed: &mut Seed, here: bool, old: Job) -> Job {
+        seed.step();
+        let pack = seed.draw_from(0, self.packs);
+        seed.step();
+        seed.step();
+        let ready = less(old.ready, self.draw_by(seed, here, Part::Ready));
+        let length = less(old.length, self.draw_by(seed, here, Part::Length));
+        let later = number_of(self.draw_by(seed, here, Part::Deadline));
+        Job {
+            number: other_number(old.number),
+            pack,
+            ready: in_time(ready),
+            length: length.max(1),
+            deadline: in_time(plus(old.deadline, later)),
+            ..old
+        }
+    }
+
+    // The jobs of an order eased.
+    fn ease_jobs(self, seed: &mut Seed, old: &[i32], new: &mut [i32]) {
+        for (place, old) in jobs_of(old).iter().enumerate() {
+            let here = self.job.is_none_or(|job| job == place as u64);
+            put_job(new, place, self.ease(seed, here, Job::from(*old)));
+        }
     }
 }
 
-// By how many seconds a job's field is eased.
-fn drawn_by(seed: u64, easing: Easing, job: u64, field: u8) -> u64 {
-    let its_job = (easing.job == job) | (easing.job == ALL_JOBS);
-    let its_field = (easing.field == field) | (easing.field == ALL_FIELDS);
-    if its_job & its_field {
-        return drawn(seed, easing.seconds);
-    }
-    0
-}
-
-// The field that stands at a place of an order.
-fn field_at(place: usize) -> u8 {
-    (place % FIELDS) as u8
-}
-
-// What stands at a place of the eased order.
-fn eased_number(seed: u64, easing: Easing, place: usize, old: i32) -> i32 {
-    let field = field_at(place);
-    let by = drawn_by(seed, easing, (place / FIELDS) as u64, field);
-    match field {
-        NUMBER => other_number(old),
-        PACK => drawn_from(seed, 0, easing.packs),
-        _ => eased_by(field, old, by),
-    }
-}
-
-// The jobs of an order eased. Returns the last seed for them.
-fn ease_jobs(easing: Easing, old: &[i32], new: &mut [i32]) -> u64 {
-    let mut seed = easing.seed;
-    let mut place = 0;
-    while place < old.len() {
-        seed = next(seed);
-        put(
-            new,
-            place,
-            eased_number(seed, easing, place, at(old, place)),
-        );
-        place += 1;
-    }
-    seed
-}
-
-// When the bus is free in the eased order: eased alone, or with all fields of all jobs.
-fn eased_free(seed: u64, easing: Easing, t0: i32) -> i32 {
-    let alone = easing.field == FREE;
-    let all = (easing.field == ALL_FIELDS) & (easing.job == ALL_JOBS);
-    if alone | all {
-        return eased_by(FREE, t0, drawn(seed, easing.seconds));
-    }
-    t0
-}
-
-// An order eased, drawn behind a seed, its jobs put from the first place on.
+// An order eased, drawn behind a seed, its jobs put from the first place on. When the bus is free is eased alone,
+// or with all parts of all jobs.
 pub fn ease(seed: u64, old: &[i32], t0: i32, new: &mut [i32]) -> Eased {
-    let easing = draw_easing(next(seed), (old.len() / FIELDS) as u64);
-    let last = next(ease_jobs(easing, old, new));
+    let mut seed = Seed(seed);
+    let easing = Easing::draw(&mut seed, jobs_of(old).len() as u64);
+    easing.ease_jobs(&mut seed, old, new);
+    let here = easing.part == Part::Free || easing.job.is_none();
+    let by = easing.draw_by(&mut seed, here, Part::Free);
     Eased {
-        t0: eased_free(last, easing, t0),
-        seed: last,
+        t0: in_time(less(t0, by)),
+        seed: seed.0,
     }
 }
 
-// Whether a number is no harder than it was: free and ready no later, no longer, due no earlier, of the same
-// mark and weight. The job's number and its pack have no part in it.
-fn no_harder(field: u8, old: i32, new: i32) -> bool {
-    match field {
-        NUMBER | PACK => true,
-        READY | LENGTH | FREE => new <= old,
-        DEADLINE => old <= new,
-        _ => new == old,
-    }
+// Whether a job is no harder than it was: ready no later, no longer, due no earlier, of the same mark and weight.
+// Its number and its pack have no part in it.
+fn no_harder(old: Job, new: Job) -> bool {
+    new.ready <= old.ready
+        && new.length <= old.length
+        && new.deadline >= old.deadline
+        && new.critical == old.critical
+        && new.weight == old.weight
 }
 
-// A change with a number more.
-fn with_number(so_far: Change, field: u8, old: i32, new: i32) -> Change {
-    let easier = no_harder(field, old, new);
-    let mut change = so_far;
-    change.easier = so_far.easier & easier;
-    change.eased = more(so_far.eased, ((field >= READY) & (old != new)) as u64);
-    change
+// How many of a job's times and lengths are others.
+fn others(old: Job, new: Job) -> u64 {
+    let ready = (new.ready != old.ready) as u64;
+    let length = (new.length != old.length) as u64;
+    ready + length + (new.deadline != old.deadline) as u64
 }
 
 // The change from one order to another, job by job.
 pub fn change_of(old: &[i32], old_t0: i32, new: &[i32], new_t0: i32) -> Change {
-    let none = Change {
-        easier: old.len() == new.len(),
-        eased: 0,
-    };
-    let mut change = with_number(none, FREE, old_t0, new_t0);
-    let mut place = 0;
-    while place < old.len() {
-        change = with_number(change, field_at(place), at(old, place), at(new, place));
-        place += 1;
+    let mut easier = old.len() == new.len() && new_t0 <= old_t0;
+    let mut eased = (new_t0 != old_t0) as u64;
+    for (old, new) in jobs_of(old).iter().zip(jobs_of(new)) {
+        let old = Job::from(*old);
+        let new = Job::from(*new);
+        easier = easier && no_harder(old, new);
+        eased = more(eased, others(old, new));
     }
-    change
+    Change { easier, eased }
 }

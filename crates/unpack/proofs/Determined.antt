@@ -5,11 +5,10 @@ use contract.Lifetimes.{Lfts}
 use lib.IntN.{ℤ}
 use lib.ListN.{length}
 use Rattle.seconds.specs.Determined.{Determines, determined, two}
-use Rattle.unpack.specs.Answer.{unpack_of, numbers_after}
-use Rattle.unpack.specs.declared.Unpacked.{Unpacked}
+use Rattle.unpack.specs.Answer.{Answer, unpack_of, numbers_after}
 use Rattle.unpack.proofs.unpack.Reads as unpack
 
-pub unpack-determined : (κs : Lfts 2) → Determines {Z = Unpacked × List ℤ} (unpack.Post κs) (λ r x. (r, x.1.0.now))
+pub unpack-determined : (κs : Lfts 2) → Determines {Z = Answer × List ℤ} (unpack.Post κs) (λ r x. (r, x.1.0.now))
 unpack-determined κs =
     determined (unpack.Post κs) (λ r x. (r, x.1.0.now))
     (λ a. (unpack_of a.0.now (length a.1.0.now), numbers_after a.0.now a.1.0.now))

@@ -16,11 +16,12 @@ use Rattle.packed.specs.Refusals.{fields_within}
 use Rattle.packed.proofs.Accepted.{OrderFine}
 use Rattle.fields.specs.declared.Job.{Job as Numbers}
 use Rattle.fields.specs.Fields.{fields_of, as_job}
-use Rattle.codes.specs.Code.{list_at}
+use Rattle.codes.specs.declared.Prefix.{Prefix}
+use Rattle.codes.specs.Code.{points_at}
+use Rattle.reading.specs.declared.Found.{Found}
 use Rattle.reading.specs.Reading.{Stands}
 use Rattle.filling.specs.Lists.{Lists}
 use Rattle.walking.specs.declared.Trail.{Trail}
-use Rattle.walking.specs.declared.End.{End}
 
 -- ---- one job back
 
@@ -49,28 +50,27 @@ abbrev pub step_back : Job → ℕ → List Point → Trail → Option Trail
 step_back j bit list trail = map (trail_before j bit trail) (source_in j list trail.weight trail.by)
 
 -- It can be made: the list before the job stands in the work area, there is room for the job's bit, and a pick has a source.
-pub record StepsBack (work : List ℤ) (place count bit : ℕ) (job : Numbers) (trail : Trail) : Type 0 where
+pub record StepsBack (work : List ℤ) (list : Prefix) (bit : ℕ) (job : Numbers) (trail : Trail) : Type 0 where
   pub within : fields_within (fields_of job) ≡ true
-  pub list : Stands work place count
+  pub stands : Stands work list.place list.count
   pub fits : trail.mask + bit < 2 ^ 64
   pub free : InFree trail.by
   pub source : Source
-  pub found : source_in (as_job job) (list_at work place count) trail.weight trail.by ≡ some source
+  pub found : source_in (as_job job) (points_at work list) trail.weight trail.by ≡ some source
 
 -- ---- all jobs
 
 -- The walk can be made: the bytes are an order, the lists of all its prefixes stand, and the walk from the end gives a choice.
-pub record Walks (work : List ℤ) (bytes : List ℕ) (n : ℕ) (places counts : List ℕ) (end : End) : Type 0 where
+pub record Walks (work : List ℤ) (bytes : List ℕ) (n : ℕ) (notes : List Prefix) (end : Found) : Type 0 where
   pub order : OrderFine bytes
   pub count : n ≡ count_of bytes
   pub used : ℕ
-  pub lists : Lists (start_point (t0_of bytes) ∷ []) (jobs_in bytes) n places counts used work
+  pub lists : Lists (start_point (t0_of bytes) ∷ []) (jobs_in bytes) n notes used work
   pub room : used ≤ length work
-  pub room_places : n < length places
-  pub room_counts : n < length counts
-  pub free : InFree end.finish
+  pub room_notes : n < length notes
+  pub free : InFree end.time
   pub choice : Choice
-  pub walked : walk_lists (reverse (jobs_in bytes)) (start_point (t0_of bytes) ∷ []) end.weight end.finish [] ≡ some choice
+  pub walked : walk_lists (reverse (jobs_in bytes)) (start_point (t0_of bytes) ∷ []) end.weight end.time [] ≡ some choice
 
 -- The mask of the choice that the walk back over some jobs gives.
 abbrev pub walk_mask : ℤ → List Job → ℕ → ℤ → Option ℕ

@@ -1,5 +1,5 @@
 -- The laws of the trail: where it starts, that a step back keeps to it, and that at its end stands the mask of the walk.
-use Rattle.std.specs.Prelude.{ℕ, zero, suc, ◌+◌, ◌*◌, ◌-◌, ◌^◌, ◌≤◌, ◌<◌, ◌≡◌, refl, List, [], ◌∷◌, reverse, ℤ, length, take, get_or}
+use Rattle.std.specs.Prelude.{ℕ, zero, suc, ◌+◌, ◌*◌, ◌-◌, ◌^◌, ◌≤◌, ◌<◌, ◌≡◌, refl, List, [], ◌∷◌, reverse, ℤ, length, take}
 use Rattle.std.proofs.Common.{sym, ap, ◌∙◌, pow-suc, add-zero, arith, pow_pos, pow_mono, take_all}
 use Rattle.std.proofs.lemmas.List.{reverse-reverse, length-reverse}
 use mathlib.Core.List.Memᴰ.{head}
@@ -25,10 +25,12 @@ use Rattle.points.specs.Steps.{list_after}
 use Rattle.points.proofs.PrefixLaws.{Singles, list-is}
 use Rattle.points.specs.Walk.{source_in, fold_lists, walk_lists}
 use Rattle.points.proofs.WalkLaws.{fold-lists-is}
-use Rattle.codes.specs.Code.{list_at}
+use Rattle.codes.specs.declared.Prefix.{Prefix}
+use Rattle.codes.specs.Code.{points_at}
+use Rattle.filling.specs.Lists.{noted}
+use Rattle.reading.specs.declared.Found.{Found}
 use Rattle.filling.specs.ListsLaws.{jobs-single, lists-stand}
 use Rattle.walking.specs.declared.Trail.{Trail}
-use Rattle.walking.specs.declared.End.{End}
 use Rattle.walking.specs.Trail.{StepsBack, trail_before, step_back, Walks, walk_mask}
 use Rattle.walking.specs.Sources.{source-same, source-in-range}
 
@@ -192,18 +194,18 @@ abbrev pub Trails : List ℕ → ℕ → ℤ → ℕ → Trail → Type 0
 Trails bytes weight by k trail = OnTrail (jobs_in bytes) (start_point (t0_of bytes) ∷ []) weight by k trail
 
 -- From there the code can step back over the job that it read, by the list that stands at a place, and keeps to the trail.
-pub record CanStep (work : List ℤ) (bytes : List ℕ) (place count weight : ℕ) (by : ℤ) (k : ℕ) (job : Numbers) (trail : Trail)
+pub record CanStep (work : List ℤ) (bytes : List ℕ) (list : Prefix) (weight : ℕ) (by : ℤ) (k : ℕ) (job : Numbers) (trail : Trail)
     : Type 0 where
-  pub asks : StepsBack work place count (2 ^ (63 - k)) job trail
-  pub keeps : (r : Trail) → some r ≡ step_back (as_job job) (2 ^ (63 - k)) (list_at work place count) trail
+  pub asks : StepsBack work list (2 ^ (63 - k)) job trail
+  pub keeps : (r : Trail) → some r ≡ step_back (as_job job) (2 ^ (63 - k)) (points_at work list) trail
       → Trails bytes weight by k r
 
-module _ {work : List ℤ} {bytes : List ℕ} {n : ℕ} {places counts : List ℕ} {end : End} (w : Walks work bytes n places counts end) where
+module _ {work : List ℤ} {bytes : List ℕ} {n : ℕ} {notes : List Prefix} {end : Found} (w : Walks work bytes n notes end) where
   abbrev weight : ℕ
   weight = end.weight
 
   abbrev by : ℤ
-  by = end.finish
+  by = end.time
 
   abbrev js : List Job
   js = jobs_in bytes
@@ -234,17 +236,14 @@ module _ {work : List ℤ} {bytes : List ℕ} {n : ℕ} {places counts : List �
       there = job-there bytes k below numbers read
 
       -- The points of the list before the job stand in the work area.
-      abbrev place : ℕ
-      place = get_or places k 0
-
-      abbrev count : ℕ
-      count = get_or counts k 0
+      abbrev list : Prefix
+      list = noted notes k
 
       within : k ≤ n
       within = omega (arith, below, w.count)
 
       -- They have the last point of the list that the walk asks, by every time.
-      list-asked : (t : ℤ) → lookup (list_after (take k js) P) t ≡ lookup (list_at work place count) t
+      list-asked : (t : ℤ) → lookup (list_after (take k js) P) t ≡ lookup (points_at work list) t
       list-asked t =
           let one : Singles (take k js) = λ j m. jobs-single bytes w.order j (in_take k js m) in
           let is : list_after (take k js) P ≡ extend P (take k js) = list-is (take k js) one (rising-one (start_point (t0_of bytes))) in
@@ -254,20 +253,20 @@ module _ {work : List ℤ} {bytes : List ℕ} {n : ℕ} {places counts : List �
       bit-fits = omega (arith, on_fits few-jobs there on, pow_mono {i = 63 - k} {j = 63} (omega arith))
 
       -- So the code can step back.
-      pub can-step : CanStep work bytes place count weight by k numbers trail
+      pub can-step : CanStep work bytes list weight by k numbers trail
       can-step =
-          let list = list_at work place count in
+          let points = points_at work list in
           let asked = list-asked trail.by in
-          let f = on-found few-jobs there on list asked w.walked in
+          let f = on-found few-jobs there on points asked w.walked in
           record {
             asks =
                 record {
                   within = job-fine bytes k below numbers read w.order;
-                  list = lists-stand w.lists w.room k within;
+                  stands = lists-stand w.lists w.room k within;
                   fits = bit-fits;
                   free = on.free;
                   source = f.0;
                   found = f.1;
                 };
-            keeps = on_step few-jobs there on list asked f.0 f.1 (job-limits bytes k below numbers read w.order);
+            keeps = on_step few-jobs there on points asked f.0 f.1 (job-limits bytes k below numbers read w.order);
           }

@@ -20,6 +20,5 @@ pub fn tell_held(known: u32, figures: &[u32], out: &mut [u8]) -> usize
     if is_over(figures) {
         return put_refusal(out, plainly(18));
     }
-    let told = tell(figures, known > 0, out);
-    told.bytes
+    tell(figures, known > 0, out).unwrap()
 }

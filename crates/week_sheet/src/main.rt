@@ -52,11 +52,7 @@ fn read_some<R: std::io::Read>(
         Err(_) => (0, true),
     };
     let part = feed_piece(begun, figures, front, &piece[..n], work);
-    Read {
-        part: part,
-        count: n,
-        failed: failed,
-    }
+    Read { part, count: n, failed }
 }
 
 // Reads until nothing comes, a read fails, or there are too many entries.
@@ -70,18 +66,10 @@ fn read_all<R: std::io::Read>(
     requires { CanRead figures.old front.old work.old }
     ensures { Reached result.part figures.new front.new }
 {
-    let mut part = Part {
-        known: 0,
-        size: 0,
-        got: 0,
-    };
+    let mut part = Part { known: 0, size: 0, got: 0 };
     loop {
         if is_over(figures) {
-            return Read {
-                part: part,
-                count: 0,
-                failed: false,
-            };
+            return Read { part, count: 0, failed: false };
         }
         let read = read_some(input, part, figures, front, piece, work);
         part = read.part;

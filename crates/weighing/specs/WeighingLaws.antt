@@ -4,6 +4,7 @@ use Rattle.std.specs.Prelude.{ℕ, ◌≤◌, ◌≡◌, refl, ℤ, length}
 use Rattle.std.proofs.Math.Path.{ap}
 use Rattle.std.proofs.Common.{◌∙◌, arith, to_z, of_z, to_z-of_z}
 use mathlib.Core.List.{List, [], ◌∷◌}
+use Rattle.std.specs.Prelude.{Option as Answer, None, Some}
 use Rattle.std.proofs.Math.Option.{Option, none, some, map}
 use Rattle.std.specs.Int.{w32}
 use Rattle.seconds.specs.Ranges.{InTime}
@@ -23,7 +24,6 @@ use Rattle.codes.specs.HeldLaws.{held-read}
 use Rattle.codes.specs.declared.Prefix.{Prefix}
 use Rattle.reading.specs.Reading.{found, point_in}
 use Rattle.reading.specs.declared.Found.{Found}
-use Rattle.reading.specs.declared.Found.TheVariants.{Nothing, At}
 use Rattle.filling.specs.Lists.{CanFill, FilledLast}
 use Rattle.filling.specs.Begin.{CanStart}
 use Rattle.weighing.specs.Weighing.{weight_in, CanWeigh}
@@ -34,12 +34,12 @@ found-point none = refl
 found-point (some p) = refl
 
 -- and its weight.
-weight-in : (r : Found) → weight_in r ≡ map (λ (p : Point). p.weight) (point_in r)
-weight-in Nothing = refl
-weight-in (At w t) = refl
+weight-in : (r : Answer Found) → weight_in r ≡ map (λ (p : Point). p.weight) (point_in r)
+weight-in None = refl
+weight-in (Some f) = refl
 
 -- The weight of the last point of an order's profile by a time is what the order is worth then.
-pub weight-found : (o : Order) (t : ℤ) (r : Found) → point_in r ≡ lookup (order_profile o) t → weight_in r ≡ worth (order_profile o) t
+pub weight-found : (o : Order) (t : ℤ) (r : Answer Found) → point_in r ≡ lookup (order_profile o) t → weight_in r ≡ worth (order_profile o) t
 weight-found o t r e =
     weight-in r ∙ ap (map (λ (p : Point). p.weight)) e ∙ lookup-worth (order-rises o) t
 
@@ -88,7 +88,7 @@ module _ {bytes : List ℕ} {work : List ℤ} (f : CanWeigh bytes work) where
             ∙ ap (λ (ps : List Point). extend ps (jobs_in bytes)) (first-is ∙ ap (λ (t : ℤ). start_point t ∷ []) read.t0)
 
         -- and its last point by a time is found.
-        pub weighed : {t by : ℤ} {r : Found} → by ≡ t → r ≡ found (lookup (list_at filled last.place last.count) by)
+        pub weighed : {t by : ℤ} {r : Answer Found} → by ≡ t → r ≡ found (lookup (list_at filled last.place last.count) by)
             → point_in r ≡ lookup (order_profile (order_of bytes)) t
         weighed {t} same e =
             rw (e, same)

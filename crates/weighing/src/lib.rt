@@ -13,14 +13,12 @@ use filling::{fill_last, start_at};
 use reading::{Found, last_by};
 
 // The last point of an order's profile by a time.
-pub fn weigh(bytes: &[u8], t: i32, work: &mut [i32]) -> Found
+pub fn weigh(bytes: &[u8], t: i32, work: &mut [i32]) -> Option<Found>
     requires { CanWeigh bytes.now work.old }
     ensures { point_in result ≡ lookup (order_profile (order_of bytes.now)) t }
 {
     let header = header_at(bytes);
-    let n = header.count;
-    let t0 = header.t0;
-    start_at(work, t0);
-    let last = fill_last(work, bytes, n, 1);
-    last_by(work, last.place, last.count, t)
+    start_at(work, header.t0);
+    let last = fill_last(work, bytes, header.count, 1);
+    last_by(work, last, t)
 }

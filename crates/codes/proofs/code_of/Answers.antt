@@ -18,12 +18,6 @@ module _ (c : After-since) where
   few : c.since.result ≤ 201000
   few = omega (arith, is, since-few c.requires.0)
 
-pub overflow_mul-result : goal.overflow_mul-result
-overflow_mul-result c = omega (arith, few c)
-
-pub overflow_add-result : goal.overflow_add-result
-overflow_add-result c = omega (arith, few c)
-
 pub overflow_cast-result : goal.overflow_cast-result
 overflow_cast-result c = let h = few c in omega signed
 

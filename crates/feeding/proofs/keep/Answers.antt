@@ -1,29 +1,20 @@
--- `feeding::keep` meets its contract: a full front stays, else as many bytes are copied as there is room for. Assumes nothing.
-use mathlib.Core.Path.{◌≡◌, sym, ◌∙◌}
+-- `feeding::keep` meets its contract: as many bytes are copied as there is room for, and a full front stays. Assumes nothing.
+use mathlib.Core.Path.{sym, ◌∙◌}
 use native.Mathlib.Omega.{arith}
-use lib.ListN.{take, drop, length-drop}
-use Rattle.streams.proofs.Kept.{kept_in, kept_full}
-use Rattle.feeding.specs.FeedingLaws.{keep-least}
+use lib.ListN.{take}
+use Rattle.std.proofs.Common.{length-take-le}
+use Rattle.std.proofs.lemmas.Slice.{put_mid-paste}
+use Rattle.streams.proofs.Kept.{kept_full}
+use Rattle.feeding.specs.FeedingLaws.{stretch-kept}
 use Rattle.feeding.proofs.keep.Goals as goal
 
-pub returns-then-got-ge-FRONT : goal.returns-then-got-ge-FRONT
-returns-then-got-ge-FRONT c =
-    let a = c.args in
-    sym (kept_full a.front.now a.got (take a.n (drop a.at a.piece.now)) c.if-got-ge-FRONT.true)
+pub returns-then-got-lt-FRONT : goal.returns-then-got-lt-FRONT
+returns-then-got-lt-FRONT c =
+    let n = c.min-n.result in
+    let bytes = c.args.bytes.now in
+    put_mid-paste c.args.got _ c.args.front.now c.copy_from_slice.new.self (take n bytes) n c.copy_from_slice.ensures.after (omega arith)
+    (sym (length-take-le n bytes (omega (arith, c.min-n.ensures))))
+    ∙ stretch-kept c.args.front.now c.args.got bytes n c.if-got-lt-FRONT.true c.requires c.min-n.ensures
 
-pub copy-requires : goal.copy-requires
-copy-requires c =
-    record {
-      front_room_in_bounds = c.requires.wide;
-      n_bound = omega (arith, c.if-got-ge-FRONT.false, c.least-m.ensures);
-      n_in_bounds = omega (arith, c.least-m.ensures, c.requires.has);
-    }
-
-pub returns : goal.returns
-returns c =
-    let a = c.args in
-    let put : c.copy.new.front ≡ kept_in a.front.now a.got (take c.least-m.result (drop a.at a.piece.now)) =
-    c.copy.ensures in
-    put
-    ∙ keep-least a.front.now a.got (drop a.at a.piece.now) a.n c.least-m.result
-    (omega (arith, length-drop a.at a.piece.now, c.requires.has)) c.if-got-ge-FRONT.false c.least-m.ensures
+pub returns-else-got-lt-FRONT : goal.returns-else-got-lt-FRONT
+returns-else-got-lt-FRONT c = sym (kept_full c.args.front.now c.args.got c.args.bytes.now c.if-got-lt-FRONT.false)

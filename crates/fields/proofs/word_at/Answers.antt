@@ -1,27 +1,29 @@
 -- `fields::word_at` meets its contract. The loop's invariant: the word is the number of the bytes passed.
 -- Assumes nothing.
-use native.Mathlib.Omega.{arith}
+use Rattle.std.proofs.Common.{ℕ, ◌≡◌, ◌+◌, ◌-◌, ◌<◌, List, length, get_or, take, drop, arith, sym, ◌∙◌, get_or-take, get_or-drop}
+use Rattle.std.proofs.lemmas.List.{length-take}
 use Rattle.fields.specs.Words.{word_none, word_on, word_fits}
 use Rattle.fields.proofs.word_at.Goals as goal
 
-pub loop-i-init : goal.loop-i-init
-loop-i-init c = (omega arith, word_none c.args.bytes.now c.args.at)
+-- A place of the part is one of those asked for, and there stands the byte behind the part's first place.
+within_part : (bytes : List ℕ) (at count i : ℕ) → i < length (take (at + count - at) (drop at bytes)) → i < count
+within_part bytes at count i h = omega (arith, length-take (at + count - at) (drop at bytes))
+
+in-part : (bytes : List ℕ) (at count i : ℕ) → i < count → get_or bytes (at + i) 0 ≡ get_or (take (at + count - at) (drop at bytes)) i 0
+in-part bytes at count i h = sym (get_or-take (at + count - at) (drop at bytes) i 0 (omega arith) ∙ get_or-drop at bytes i 0)
+
+pub loop-byte-init : goal.loop-byte-init
+loop-byte-init c = word_none c.args.bytes.now c.args.at
 
 pub overflow_mul-word : goal.overflow_mul-word
 overflow_mul-word c =
-    let h = word_fits c.args.bytes.now c.args.at c.args.count c.loop-i.i c.requires
-    c.loop-i-test.true (λ k. (c.type_inv.bytes k).fits) c.loop-i.word c.loop-i.invariant.1 in
+    let more = within_part c.args.bytes.now c.args.at c.args.count c.loop-byte.byte-index c.loop-byte-test.true in
+    let h = word_fits c.args.bytes.now c.args.at c.args.count c.loop-byte.byte-index c.requires more (λ k. (c.type_inv.bytes k).fits) c.loop-byte.word c.loop-byte.invariant in
     omega (arith, h)
 
-pub overflow_add-word : goal.overflow_add-word
-overflow_add-word c =
-    let h = word_fits c.args.bytes.now c.args.at c.args.count c.loop-i.i c.requires
-    c.loop-i-test.true (λ k. (c.type_inv.bytes k).fits) c.loop-i.word c.loop-i.invariant.1 in
-    omega (arith, h)
-
-pub loop-i-preserved : goal.loop-i-preserved
-loop-i-preserved c = (
-  omega arith,
-  word_on c.args.bytes.now c.args.at c.args.count c.loop-i.i c.requires
-      c.loop-i-test.true (λ k. (c.type_inv.bytes k).fits) c.loop-i.word c.loop-i.invariant.1,
-)
+pub loop-byte-preserved : goal.loop-byte-preserved
+loop-byte-preserved c =
+    let more = within_part c.args.bytes.now c.args.at c.args.count c.loop-byte.byte-index c.loop-byte-test.true in
+    rw (← in-part c.args.bytes.now c.args.at c.args.count c.loop-byte.byte-index more)
+    (word_on c.args.bytes.now c.args.at c.args.count c.loop-byte.byte-index c.requires more
+    (λ k. (c.type_inv.bytes k).fits) c.loop-byte.word c.loop-byte.invariant)

@@ -10,12 +10,9 @@ use mir.Val.{to_z, of_z}
 use Rattle.profile.specs.Profile.{last_weight}
 use Rattle.profiles.specs.Places.{points_of}
 use Rattle.profiles.specs.NumbersLaws.{held}
-use Rattle.filling.specs.BeginLaws.{last-light, last-number, last_empty, weight-read}
+use Rattle.filling.specs.BeginLaws.{last-light, last-number, weight-read}
 use Rattle.filling.proofs.last_weight.Goals as goal
 use Rattle.filling.proofs.last_weight.Goals.{Else-n-eq0}
-
-pub returns-then-n-eq0 : goal.returns-then-n-eq0
-returns-then-n-eq0 c = last_empty c.args.numbers.now c.if-n-eq0.true
 
 -- The last number, as the code reads it.
 last-read : (c : Else-n-eq0)

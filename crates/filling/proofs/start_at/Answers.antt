@@ -1,18 +1,13 @@
 -- `filling::start_at` meets its contract. Assumes nothing.
 use borrow.Author.Rules.{rules}
 use mathlib.Core.Path.{◌≡◌, ap, ◌∙◌}
-use native.Mathlib.Omega.{arith}
 use lib.IntN.{ℤ}
 use mir.Syntax.{w32}
 use mir.Val.{SFits, to_z, of_z}
 use mir.Facts.{to_z-of_z}
-use Rattle.seconds.specs.RangesLaws.{time-free}
 use Rattle.codes.specs.Code.{code_of}
 use Rattle.filling.specs.BeginLaws.{started}
 use Rattle.filling.proofs.start_at.Goals as goal
-
-pub code_of-requires : goal.code_of-requires
-code_of-requires c = rw (to_z-of_z c.ranges.t0) (time-free c.requires.timely, omega arith)
 
 pub returns : goal.returns
 returns c =

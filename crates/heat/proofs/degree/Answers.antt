@@ -1,32 +1,13 @@
--- `heat::degree` meets its contract: the byte, less 256 where it is above 127.
--- Assumes nothing.
-use mathlib.Core.Path.{◌≡◌, ◌∙◌, sym, ap}
-use Prim.Native.Nat.{◌<◌, ◌≤◌}
-use lib.IntN.{ℤ, pos, ◌-ℤ◌}
-use mir.Syntax.{w32}
-use mir.Val.{SFits, to_z}
-use mir.Facts.{to_z_pos, to_z-of_z}
-use Rattle.seconds.specs.Signed.{signed, sub_is}
-use Rattle.seconds.proofs.TwosLaws.{byte_low, byte_high}
+-- `heat::degree` meets its contract: two's complement of eight bits is what the machine reads. Assumes nothing.
+use Rattle.std.proofs.Common.{◌∙◌, sym, rules, to_z-of_z}
+use Rattle.std.specs.Int.{w8, w32}
+use mir.Val.{SFits}
+use Rattle.seconds.proofs.TwosLaws.{bits_to-to_z}
 use Rattle.heat.proofs.degree.Goals as goal
-use Rattle.heat.proofs.degree.Goals.{Start, Then-raw-gt127}
 
--- The byte as a signed number is itself.
-raw : (c : Start) → to_z w32 c.args.byte ≡ pos c.args.byte
-raw c = to_z_pos w32 (omega signed)
-
-less-fits : (c : Then-raw-gt127) → SFits w32 (to_z w32 c.args.byte -ℤ pos 256)
-less-fits c = rw (raw c.before) (omega (signed, sub_is (pos c.args.byte) (pos 256)))
-
-pub overflow_sub-result : goal.overflow_sub-result
-overflow_sub-result c = less-fits c
-
-pub returns-then-raw-gt127 : goal.returns-then-raw-gt127
-returns-then-raw-gt127 c =
-    let high : 127 < c.args.byte = omega (signed, raw c.before) in
-    to_z-of_z (less-fits c) ∙ ap (λ (z : ℤ). z -ℤ pos 256) (raw c.before) ∙ sym (byte_high c.args.byte high)
-
-pub returns-else-raw-gt127 : goal.returns-else-raw-gt127
-returns-else-raw-gt127 c =
-    let low : c.args.byte ≤ 127 = omega (signed, raw c.before) in
-    raw c.before ∙ sym (byte_low c.args.byte low)
+pub returns : goal.returns
+returns c =
+    let byte : SFits w8 c.cast_signed.result = search rules in
+    let wide : SFits w32 c.from.result = search rules in
+    to_z-of_z wide ∙ c.from.ensures ∙ to_z-of_z byte ∙ c.cast_signed.ensures
+    ∙ sym (bits_to-to_z w8 c.args.byte c.ranges.byte.fits)

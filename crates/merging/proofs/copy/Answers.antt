@@ -8,7 +8,7 @@ use native.Mathlib.Omega.{arith}
 use Rattle.merging.specs.Joins.{CanCopyFour, CopiedOver}
 use Rattle.merging.specs.Laying.{over_none, over-more, over-all}
 use Rattle.merging.proofs.copy.Goals as goal
-use Rattle.merging.proofs.copy.Goals.{After-copy_four, After-copy_four-in-loop-k, After-copy_four-in-loop-k-2, In-loop-k, Start}
+use Rattle.merging.proofs.copy.Goals.{After-copy_four, After-copy_four-in-loop-k, After-copy_four-in-loop-k-2, After-copy_four-in-loop-k-3, In-loop-k, Start}
 
 pub loop-k-init : goal.loop-k-init
 loop-k-init c = over_none _ _ _
@@ -57,6 +57,15 @@ module _ (c : After-copy_four-in-loop-k-2) where
       let so_far : k turn + 8 + 4 ≡ k turn + 12 = omega arith in
       rw so_far at (over-more (over-eight second) (omega arith) (omega arith) c.copy_four-in-loop-k-2.ensures)
 
+module _ (c : After-copy_four-in-loop-k-3) where
+  abbrev third : After-copy_four-in-loop-k-2
+  third = (goal.at.After-copy_four-in-loop-k-3 c).After-copy_four-in-loop-k-2
+
+  over-sixteen : Over (turn third) 16 c.copy_four-in-loop-k-3.new.work
+  over-sixteen =
+      let so_far : k (turn third) + 12 + 4 ≡ k (turn third) + 16 = omega arith in
+      rw so_far at (over-more (over-twelve third) (omega arith) (omega arith) c.copy_four-in-loop-k-3.ensures)
+
 pub copy_four-requires : goal.copy_four-requires
 copy_four-requires c =
     let t = c.before in
@@ -72,13 +81,11 @@ pub copy_four-requires-in-loop-k-3 : goal.copy_four-requires-in-loop-k-3
 copy_four-requires-in-loop-k-3 c = four-fits (turn (goal.at.copy_four-requires-in-loop-k-3 c).After-copy_four-in-loop-k-2) 12 _ (omega arith) (over-twelve (goal.at.copy_four-requires-in-loop-k-3 c).After-copy_four-in-loop-k-2).size
 
 pub loop-k-preserved : goal.loop-k-preserved
-loop-k-preserved c =
-    let third = c.before.before.before.before in
-    let so_far : k (turn (goal.at.loop-k-preserved c).After-copy_four-in-loop-k-2) + 12 + 4 ≡ k (turn (goal.at.loop-k-preserved c).After-copy_four-in-loop-k-2) + 16 = omega arith in
-    rw so_far at (over-more (over-twelve (goal.at.loop-k-preserved c).After-copy_four-in-loop-k-2) (omega arith) (omega arith) c.copy_four-in-loop-k-3.ensures)
-
-pub shape_of-work : goal.shape_of-work
-shape_of-work c = c.loop-k.invariant.size
+loop-k-preserved c = over-sixteen (goal.at.loop-k-preserved c).After-copy_four-in-loop-k-3
 
 pub returns : goal.returns
 returns c = over-all c.loop-k.invariant (omega arith) c.requires.apart
+
+-- The last sixteen reach the end.
+pub returns-2 : goal.returns-2
+returns-2 c = over-all (over-sixteen (goal.at.returns-2 c).After-copy_four-in-loop-k-3) (omega arith) c.requires.apart

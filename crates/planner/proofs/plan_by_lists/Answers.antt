@@ -3,7 +3,7 @@
 use mathlib.Core.Path.{◌≡◌, sym, ◌∙◌}
 use mathlib.Core.List.{List, [], ◌∷◌}
 use lib.IntN.{ℤ}
-use lib.ListN.{length, get_or}
+use lib.ListN.{length}
 use mir.Syntax.{w32}
 use mir.Val.{SFits, to_z, of_z}
 use mir.Facts.{to_z-of_z}
@@ -12,10 +12,11 @@ use Rattle.seconds.specs.Limits.{rest, latest_free}
 use Rattle.seconds.specs.RangesLaws.{time-fits}
 use Rattle.order.specs.Job.{Point}
 use Rattle.profile.specs.Profile.{lookup, start_point}
-use Rattle.codes.specs.Code.{list_at}
+use Rattle.codes.specs.Code.{points_at}
 use Rattle.codes.specs.Held.{Held}
 use Rattle.reading.specs.declared.Found.TheVariants.{Nothing, At}
 use Rattle.reading.specs.Reading.{found}
+use Rattle.filling.specs.Lists.{noted}
 use Rattle.walking.specs.declared.End.{End}
 use Rattle.planner.specs.PlanningLaws.{can-start, can-fill, last-stands, nothing-made, can-walk, can-make}
 use Rattle.planner.proofs.plan_by_lists.Goals as goal
@@ -63,17 +64,12 @@ module _ (c : After-fill_lists-totals) where
   kept : length all ≡ length (first from)
   kept = search rules
 
-  same-places : length c.fill_lists-totals.new.places ≡ length (entry from).args.places.now
-  same-places = search rules
-
-  same-counts : length c.fill_lists-totals.new.counts ≡ length (entry from).args.counts.now
-  same-counts = search rules
+  same-notes : length c.fill_lists-totals.new.notes ≡ length (entry from).args.notes.now
+  same-notes = search rules
 
   -- The last of them.
   abbrev last : List Point
-  last =
-      list_at all (get_or c.fill_lists-totals.new.places (entry from).args.header.count 0)
-      (get_or c.fill_lists-totals.new.counts (entry from).args.header.count 0)
+  last = points_at all (noted c.fill_lists-totals.new.notes (entry from).args.header.count)
 
 -- ---- the end of the last one is found, or nothing is: the code's last second of all is tied to the rest here
 
@@ -112,7 +108,7 @@ walk-mask-requires c =
     let f = lists e in
     let d = from f in
     rw (finish-back e)
-    (can-walk (entry d).requires (sized d) (started d) (kept f) f.fill_lists-totals.ensures (end e) (is-end e) (same-places f) (same-counts f))
+    (can-walk (entry d).requires (sized d) (started d) (kept f) f.fill_lists-totals.ensures (end e) (is-end e) (same-notes f))
 
 pub make_plan-requires : goal.make_plan-requires
 make_plan-requires c =

@@ -10,5 +10,5 @@ pub returns : goal.returns
 returns c =
     let ps : List Point = c.args.points in
     let full : length ps ≡ most_passed = search rules in
-    let few : c.among-few.result ≡ min c.args.count most_passed = c.among-few.ensures in
+    let few : c.min.result ≡ min c.args.count most_passed = c.min.ensures in
     c.lookup_records.ensures ∙ rw (to_z-of_z c.ranges.t, few, few-taken ps c.args.count full) refl

@@ -1,7 +1,7 @@
 -- `profiles::lookup` meets its contract: after `valid`, the numbers before the first later point say what is found.
 -- Assumes nothing.
 use Rattle.std.proofs.Common.{ℕ, ◌-◌, ◌≡◌, true, sym, ◌∙◌, arith, rules, List, ℤ, pos, to_z, of_z, to_z-of_z, w32}
-use Rattle.std.specs.Prelude.{get_or}
+use Rattle.std.specs.Prelude.{get_or, Ok, Some}
 use mir.Val.{SFits}
 use Rattle.seconds.specs.Signed.{signed}
 use Rattle.profiles.specs.Numbers.{holds_profile}
@@ -9,7 +9,6 @@ use Rattle.profiles.specs.ByTime.{count_by}
 use Rattle.profiles.specs.ByTimeLaws.{count-within}
 use Rattle.profiles.specs.Answer.{lookup_of}
 use Rattle.profiles.specs.AnswerLaws.{lookup-refused, lookup-nothing, lookup-found}
-use Rattle.profiles.specs.declared.Finding.TheVariants.{Found}
 use Rattle.profiles.proofs.lookup.Goals as goal
 
 pub returns-then-not-valid : goal.returns-then-not-valid
@@ -37,7 +36,7 @@ bounds-numbers-end c =
 -- The weight that stands there.
 found : (ns : List ℤ) (t : ℤ) (end : ℕ) → SFits w32 t → holds_profile ns ≡ true
     → end ≡ count_by (to_z w32 (of_z w32 t)) ns → (end ≡ 0 → ⊥)
-    → (w : ℕ) × (get_or ns (end - 1) (pos 0) ≡ pos w) × (lookup_of ns t ≡ Found w)
+    → (w : ℕ) × (get_or ns (end - 1) (pos 0) ≡ pos w) × (lookup_of ns t ≡ Ok (Some w))
 found ns t end fits valid count some =
     let counted : end ≡ count_by t ns = rw (to_z-of_z fits) at count in
     lookup-found ns t valid (end - 1) (omega (arith, counted))

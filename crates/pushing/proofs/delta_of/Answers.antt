@@ -3,14 +3,12 @@
 use mathlib.Core.Path.{ap, ◌∙◌}
 use native.Mathlib.Omega.{arith}
 use lib.IntN.{pos}
-use mir.Facts.{to_z-of_z}
-use borrow.Author.Rules.{rules}
+use mir.Syntax.{w32}
+use mir.Facts.{to_z_pos}
+use Rattle.seconds.specs.Signed.{signed}
 use Rattle.seconds.specs.Limits.{rest}
 use Rattle.pushing.proofs.delta_of.Goals as goal
 
-pub overflow_cast-result-2 : goal.overflow_cast-result-2
-overflow_cast-result-2 c = search rules
-
 pub returns : goal.returns
 unfolding rest
-returns c = to_z-of_z (overflow_cast-result-2 c) ∙ ap pos (omega arith)
+returns c = let f = c.requires in to_z_pos w32 (omega signed) ∙ ap pos (omega arith)

@@ -1,8 +1,8 @@
 -- `pushing::push` meets its contract. The loop's invariant is `Pushing`: the numbers from `i` on are past the limit, and stand
 -- moved on from `p` to the top. Assumes nothing.
-use Rattle.std.proofs.Common.{◌≡◌, ◌-◌, false, true, ℤ, ◌≤ℤ◌, ◌<ℤ◌, ◌∙◌, arith, rules, w32, to_z, of_z}
+use Rattle.std.proofs.Common.{◌≡◌, ◌-◌, false, true, ℤ, ◌≤ℤ◌, ◌<ℤ◌, ◌∙◌, rules, w32, to_z, of_z}
 use Rattle.std.proofs.Common.{to_z-of_z}
-use Rattle.std.specs.Int.Signed.{lt_z}
+use Rattle.std.specs.Int.Signed.{le_z}
 use mir.Val.{SFits}
 use Rattle.seconds.specs.Signed.{signed}
 use Rattle.codes.specs.Code.{at0, limit_of}
@@ -13,7 +13,7 @@ use Rattle.pushing.specs.Places.{pushing-coded}
 use Rattle.pushing.specs.Places.{pushing-more, pushing-none, pushing-waited}
 use Rattle.pushing.specs.PushLaws.{pushes}
 use Rattle.pushing.proofs.push.Goals as goal
-use Rattle.pushing.proofs.push.Goals.{then-loop-i-test+else-limit-work, else-loop-i-test, then-place-i, else-place-i}
+use Rattle.pushing.proofs.push.Goals.{else-loop-i-test, then-loop-i-test+then-code-limit}
 
 -- A number in range is read as it is,
 coded-back : {z : ℤ} → Coded z → to_z w32 (of_z w32 z) ≡ z
@@ -33,6 +33,11 @@ delta-back {r} f e =
 delta-in : {r : Rate} {z : ℤ} → RateFits r → z ≡ delta_of r → Delta (to_z w32 (of_z w32 z))
 delta-in f e = rw (delta-back f e) (delta-fits f)
 
+pub waits-requires : goal.waits-requires
+waits-requires c =
+    let coded = pushing-coded c.requires c.loop-i.invariant c.loop-i-test.true in
+    (rw (to_z-of_z c.ranges.ready) c.requires.starts, delta-in c.requires.fits c.delta_of-delta.ensures, rw (coded-back coded) coded)
+
 pub later-requires : goal.later-requires
 later-requires c =
     let coded = pushing-coded c.requires c.loop-i.invariant c.loop-i-test.true in
@@ -40,36 +45,25 @@ later-requires c =
 
 pub loop-i-preserved : goal.loop-i-preserved
 loop-i-preserved c =
-    let coded = pushing-coded c.requires c.loop-i.invariant c.loop-i-test.true in
-    let r = coded-back coded in
-    let test : lt_z (to_z w32 (of_z w32 c.limit_by-limit.result)) (at0 c.args.work.now (c.loop-i.i - 1)) ≡ true = rw r at c.if-limit-work.true in
+    let r = coded-back (pushing-coded c.requires c.loop-i.invariant c.loop-i-test.true) in
+    let test : le_z (at0 c.args.work.now (c.loop-i.i - 1)) (to_z w32 (of_z w32 c.limit_by-limit.result)) ≡ false = rw r at c.if-code-limit.false in
     let late : to_z w32 (of_z w32 c.limit_by-limit.result) <ℤ at0 c.args.work.now (c.loop-i.i - 1) = omega signed in
     let f : SFits w32 c.later.result = search rules in
     pushing-more c.requires c.loop-i.invariant _ c.loop-i-test.true late (to_z-of_z f ∙ rw r at c.later.ensures)
-
-pub waits-requires : goal.waits-requires
-waits-requires c =
-    let coded = pushing-coded c.requires c.loop-i.invariant c.if-place-i.true in
-    (rw (to_z-of_z c.ranges.ready) c.requires.starts, delta-in c.requires.fits c.delta_of-delta.ensures, rw (coded-back coded) coded)
 
 pub returns : goal.returns
 returns c =
     let f : SFits w32 c.limit_by-limit.result = search rules in
     let limit-is : to_z w32 (of_z w32 c.limit_by-limit.result) ≡ limit_of c.args.ready = to_z-of_z f ∙ rw (to_z-of_z c.ranges.ready) at c.limit_by-limit.ensures in
     let delta-is = delta-back c.requires.fits c.delta_of-delta.ensures in
-    elim c.if-place-i.branch [
-      | then-place-i w ↦
-          let coded = pushing-coded c.requires c.loop-i.invariant w.if-place-i.true in
-          let r = coded-back coded in
-          let soon : at0 c.args.work.now (c.loop-i.i - 1) ≤ℤ to_z w32 (of_z w32 c.limit_by-limit.result) = elim c.loop-i-test.branch [
-            | then-loop-i-test+else-limit-work v ↦
-                let test : lt_z (to_z w32 (of_z w32 c.limit_by-limit.result)) (at0 c.args.work.now (c.loop-i.i - 1)) ≡ false = rw r at v.if-limit-work.false in
-                omega signed
-            | else-loop-i-test v ↦ absurd (omega (arith, w.if-place-i.true, v.loop-i-test.false))
-          ] in
+    elim c.loop-i-test.branch [
+      | then-loop-i-test+then-code-limit w ↦
+          let r = coded-back (pushing-coded c.requires c.loop-i.invariant w.loop-i-test.true) in
+          let test : le_z (at0 c.args.work.now (c.loop-i.i - 1)) (to_z w32 (of_z w32 c.limit_by-limit.result)) ≡ true = rw r at w.if-code-limit.true in
+          let soon : at0 c.args.work.now (c.loop-i.i - 1) ≤ℤ to_z w32 (of_z w32 c.limit_by-limit.result) = omega signed in
           let f : SFits w32 w.waits.result = search rules in
           let is = to_z-of_z f ∙ rw (to_z-of_z c.ranges.ready, r) at w.waits.ensures in
-          pushes c.requires limit-is delta-is (pushing-waited c.requires c.loop-i.invariant w.pushed-is w.p-is w.if-place-i.true soon is)
-      | else-place-i w ↦
-          pushes c.requires limit-is delta-is (pushing-none c.requires c.loop-i.invariant w.pushed-is w.p-is w.if-place-i.false)
+          pushes c.requires limit-is delta-is (pushing-waited c.requires c.loop-i.invariant w.pushed-is w.p-is w.loop-i-test.true soon is)
+      | else-loop-i-test w ↦
+          pushes c.requires limit-is delta-is (pushing-none c.requires c.loop-i.invariant w.pushed-is w.p-is w.loop-i-test.false)
     ]

@@ -1,30 +1,24 @@
 -- `reader::open` meets its contract: the header's verdict tells the case, and the header's count is that of the bytes.
 -- Assumes nothing.
-use mathlib.Core.Path.{sym, ap, ◌∙◌}
-use Rattle.packed.specs.Judge.{judge}
+use mathlib.Core.Path.{◌≡◌, sym, ap, ◌∙◌}
+use borrow.Author.Rules.{rules}
+use Rattle.std.proofs.Common.{Ok, Err}
 use Rattle.packed.specs.Packed.{count_of}
-use Rattle.packed.specs.Refusals.{header_checks}
 use Rattle.packed.proofs.RefusalLaws.{header-fine}
 use Rattle.fields.specs.Facts.{header_read}
-use Rattle.judge.specs.Told.{told-fine, refusal-told}
 use Rattle.reader.specs.Reading.{opened_by}
-use Rattle.reader.specs.declared.Opened.TheVariants.{Accepted}
 use Rattle.reader.proofs.open.Goals as goal
 
-pub header_at-header-requires : goal.header_at-header-requires
-header_at-header-requires c =
-    let bytes = c.args.bytes.now in
-    ((header-fine bytes).0 (told-fine (header_checks bytes) (sym c.judge_header.ensures ∙ c.in-Fine.is))).long
+pub returns-in_err-judge_header : goal.returns-in_err-judge_header
+returns-in_err-judge_header c =
+    let e : c.from_residual.result ≡ Err c.in_err-judge_header.field-0.0 = search rules in
+    e ∙ sym (ap (opened_by (count_of c.args.bytes.now)) (sym c.judge_header.ensures ∙ c.in_err-judge_header.was))
 
-pub returns-in-Refused : goal.returns-in-Refused
-returns-in-Refused c =
-    let bytes = c.args.bytes.now in
-    sym (ap (opened_by (count_of bytes))
-    (refusal-told (judge (header_checks bytes)) c.in-Refused.refusal (sym c.judge_header.ensures ∙ c.in-Refused.is)))
+pub header_at-requires : goal.header_at-requires
+header_at-requires c = ((header-fine c.args.bytes.now).0 (sym c.judge_header.ensures ∙ c.in_ok-judge_header.was)).long
 
-pub returns-in-Fine : goal.returns-in-Fine
-returns-in-Fine c =
+pub returns : goal.returns
+returns c =
     let bytes = c.args.bytes.now in
-    let passed = told-fine (header_checks bytes) (sym c.judge_header.ensures ∙ c.in-Fine.is) in
-    let read = header_read bytes c.header_at-header.result c.header_at-header.ensures in
-    ap Accepted read.count ∙ sym (ap (opened_by (count_of bytes)) passed)
+    let read = header_read bytes c.header_at.result c.header_at.ensures in
+    ap (λ n. Ok n) read.count ∙ sym (ap (opened_by (count_of bytes)) (sym c.judge_header.ensures ∙ c.in_ok-judge_header.was))

@@ -1,10 +1,6 @@
 -- `reading::write_list` meets its contract: the first k points are written. Assumes nothing.
-use Prim.Native.Nat.{◌-◌}
 use Rattle.reading.specs.Listing.{Listing}
 use Rattle.reading.proofs.write_list.Given as goal
 
 abbrev pub invariant-loop-k : goal.invariant-loop-k
-invariant-loop-k l = Listing l.work l.place l.count l.k l.out l.initial.out
-
-abbrev pub decreases-loop-k : goal.decreases-loop-k
-decreases-loop-k l = l.count - l.k
+invariant-loop-k l = Listing l.work l.fn.list.place l.fn.list.count l.k l.out l.initial.out

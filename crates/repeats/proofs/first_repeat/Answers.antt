@@ -1,51 +1,44 @@
--- `repeats::first_repeat` meets its contract. The outer loop's invariant: nothing is found yet, and the search is the search from
--- here on; the inner loop's says the same of the search among the earlier places.
--- Assumes nothing.
-use mathlib.Core.Path.{◌≡◌, refl, sym, ◌∙◌}
-use native.Mathlib.Omega.{arith}
-use lib.ListN.{length}
-use Rattle.packed.specs.Places.{first}
+-- `repeats::first_repeat` meets its contract. The loop's invariant: the search is the search from here on. Assumes nothing.
+use Rattle.std.proofs.Common.{◌≡◌, ℕ, ◌<◌, ◌≢◌, List, length, get_or, take, sym, ◌∙◌, arith, get_or-take, eqb-true}
+use Rattle.std.proofs.lemmas.List.{length-take}
+use Rattle.std.proofs.lemmas.Bool.{eqb-false}
 use Rattle.packed.specs.PlacesLaws.{first-end}
-use Rattle.repeats.specs.Repeats.{alike, stood_earlier}
-use Rattle.repeats.specs.RepeatLaws.{again-from-0, alike-on, again-here, again-on}
+use Rattle.repeats.specs.Repeats.{stood_earlier}
+use Rattle.repeats.specs.RepeatLaws.{again-from-0, again-here, unlike-on}
 use Rattle.repeats.proofs.first_repeat.Goals as goal
-use Rattle.repeats.proofs.first_repeat.Goals.{At-loop-earlier, At-pairs}
 
-pub pairs-init : goal.pairs-init
-pairs-init c = (omega arith, refl, again-from-0 c.args.numbers.now)
+pub loop-later-init : goal.loop-later-init
+loop-later-init c = again-from-0 c.args.numbers.now
 
-pub loop-earlier-init : goal.loop-earlier-init
-loop-earlier-init c = (omega arith, refl, refl)
+-- A place of the first ones is one of them, and there stands what stands in the list.
+module _ (ns : List ℕ) (later i : ℕ) (inside : i < length (take later ns)) where
+  earlier : i < later
+  earlier = omega (arith, length-take later ns)
 
-pub loop-earlier-preserved : goal.loop-earlier-preserved
-loop-earlier-preserved c =
-    let l : At-loop-earlier = (goal.at.loop-earlier-preserved c).At-loop-earlier in
-    let o : At-pairs = (goal.at.At-loop-earlier l).At-pairs in (
-      omega arith,
-      l.loop-earlier.invariant.1,
-      l.loop-earlier.invariant.2 ∙ alike-on o.args.numbers.now l.loop-earlier.earlier o.pairs.later (omega arith) c.if-numbers-earlier.false,
-    )
+  same-there : get_or (take later ns) i 0 ≡ get_or ns i 0
+  same-there = get_or-take later ns i 0 earlier
 
-pub pairs-preserved : goal.pairs-preserved
-pairs-preserved c =
-    let o : At-pairs = (goal.at.pairs-preserved c).At-pairs in
-    let ns = o.args.numbers.now in
-    let later = o.pairs.later in
-    let e : c.loop-earlier.earlier ≡ later = omega arith in
-    let none : first (alike ns later) 0 later ≡ later =
-    c.loop-earlier.invariant.2 ∙ rw e (first-end (alike ns later) later) in
-    (omega arith, c.loop-earlier.invariant.1 ∙ o.pairs.invariant.1, o.pairs.invariant.2 ∙ again-on ns later (omega arith) none)
-
-pub returns-after-pairs : goal.returns-after-pairs
-returns-after-pairs c =
+pub returns-then-contains : goal.returns-then-contains
+returns-then-contains c =
     let ns = c.args.numbers.now in
-    let e : c.pairs.later ≡ length ns = omega arith in
-    c.pairs.invariant.1 ∙ sym (c.pairs.invariant.2 ∙ rw e (first-end (stood_earlier ns) (length ns)))
+    let later = c.loop-later.later in
+    let k = c.if-contains.ensures.cases in
+    sym (c.loop-later.invariant
+    ∙ again-here ns k.0 later (omega arith) (earlier ns later k.0 k.1)
+    (sym (same-there ns later k.0 k.1) ∙ eqb-true (get_or (take later ns) k.0 0) (get_or ns later 0) (k.2 0)))
 
-pub returns-then-numbers-earlier : goal.returns-then-numbers-earlier
-returns-then-numbers-earlier c =
-    let l : At-loop-earlier = (goal.at.returns-then-numbers-earlier c).At-loop-earlier in
-    let o : At-pairs = (goal.at.At-loop-earlier l).At-pairs in
-    sym (o.pairs.invariant.2
-    ∙ again-here o.args.numbers.now l.loop-earlier.earlier o.pairs.later (omega arith) (omega arith) c.if-numbers-earlier.true
-    l.loop-earlier.invariant.2)
+pub loop-later-preserved : goal.loop-later-preserved
+loop-later-preserved c =
+    let ns = c.args.numbers.now in
+    let later = c.loop-later.later in
+    let unlike : (i : ℕ) → i < later → get_or ns i 0 ≢ get_or ns later 0 =
+    λ i h. let inside : i < length (take later ns) = omega (arith, length-take later ns) in
+    let differ = eqb-false (get_or (take later ns) i 0) (get_or ns later 0) (c.if-contains.ensures.cases i 0 (omega arith) inside) in
+    λ e. differ (same-there ns later i inside ∙ e) in
+    c.loop-later.invariant ∙ unlike-on ns later (omega arith) unlike
+
+pub returns : goal.returns
+returns c =
+    let ns = c.args.numbers.now in
+    let end : c.loop-later.later ≡ length ns = omega arith in
+    sym (c.loop-later.invariant ∙ rw end (first-end (stood_earlier ns) (length ns)))

@@ -17,7 +17,7 @@ told c =
 
 pub put_refusal-requires : goal.put_refusal-requires
 put_refusal-requires c =
-    record { early = (told (goal.at.put_refusal-requires c).In-Err).1; room = record { fits = omega (arith, c.requires.room) } }
+    record { early = (told (goal.at.put_refusal-requires c).In-Err).1; room = omega (arith, c.requires.room) }
 
 pub tell_plan-requires : goal.tell_plan-requires
 tell_plan-requires c =

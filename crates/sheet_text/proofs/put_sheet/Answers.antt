@@ -3,39 +3,33 @@
 use Prim.Native.Nat.{ℕ, ◌+◌, ◌-◌}
 use native.Mathlib.Omega.{arith}
 use lib.ListN.{get_or}
+use borrow.Author.Rules.{rules}
 use Rattle.text.specs.Buffer.{Wrote}
-use Rattle.text.specs.BufferLaws.{wrote-more}
-use Rattle.sheet_text.specs.SheetText.{top_line, fraction_line, last_line}
+use Rattle.text.specs.Writing.{Writes}
+use Rattle.text.specs.WritingLaws.{writes-more}
+use Rattle.sheet.specs.Sheet.{sheet_in}
+use Rattle.sheet_text.specs.SheetText.{top_line, fraction_line, sheet_text}
 use Rattle.sheet_text.specs.WritingLaws.{text_of, all_small, kept-offered}
 use Rattle.sheet_text.proofs.put_sheet.Goals as goal
-use Rattle.sheet_text.proofs.put_sheet.Goals.{After-put_fraction-next, After-put_fraction-next-2, After-put_last, After-put_sums-next, After-put_top-next, Start}
 
 -- That all orders are few is listed too: an edit sums them, and is refused for what it tells.
 pub overflow_add-able : goal.overflow_add-able
 overflow_add-able c =
-    let s : Start = (goal.at.overflow_add-able c).Start in
-    let small = all_small s.args.figures.now s.requires.numbers s.requires.sheet in
+    let small = all_small c.args.figures.now c.requires.numbers c.requires.sheet in
     omega (arith, small 0 (omega arith), small 11 (omega arith), small 20 (omega arith))
 
 pub overflow_sub-lost : goal.overflow_sub-lost
-overflow_sub-lost c =
-    let s : Start = (goal.at.overflow_sub-lost c).Start in
-    omega (arith, kept-offered s.args.figures.now s.requires.numbers s.requires.sheet)
+overflow_sub-lost c = omega (arith, kept-offered c.args.figures.now c.requires.numbers c.requires.sheet)
 
 pub returns : goal.returns
 returns c =
-    let last : After-put_last = (goal.at.returns c).After-put_last in
-    let loss : After-put_fraction-next-2 = (goal.at.After-put_last last).After-put_fraction-next-2 in
-    let ability : After-put_fraction-next = (goal.at.After-put_fraction-next-2 loss).After-put_fraction-next in
-    let top : After-put_top-next = (goal.at.After-put_fraction-next ability).After-put_top-next in
-    let sums : After-put_sums-next = (goal.at.After-put_top-next top).After-put_sums-next in
-    let s : Start = (goal.at.After-put_sums-next sums).Start in
-    let at : ℕ → ℕ = λ k. get_or s.args.figures.now k 0 in
-    let top-told : Wrote _ _ (top_line (at 24) (at 25)) _ _ = top.put_top-next.ensures.wrote in
-    let ability-told : Wrote _ _ (fraction_line (at 20) (at 20 + at 11)) _ _ = ability.put_fraction-next.ensures.wrote in
-    let loss-told : Wrote _ _ (fraction_line (at 21 - at 22) (at 21)) _ _ = loss.put_fraction-next-2.ensures.wrote in
-    let last-told : Wrote _ _ (last_line s.args.cut) _ _ = last.put_last.ensures in
-    rw (text_of s.args.figures.now s.args.cut)
-    (wrote-more
-    (wrote-more (wrote-more (wrote-more sums.put_sums-next.ensures.wrote top-told) ability-told) loss-told)
-    last-told)
+    let figures = c.args.figures.now in
+    let at : ℕ → ℕ = λ k. get_or c.args.figures.now k 0 in
+    let top : Writes (top_line (at 24) (at 25)) 22 _ _ = c.put_top.ensures in
+    let ability : Writes (fraction_line (at 20) (at 20 + at 11)) 22 _ _ = c.put_fraction.ensures in
+    let loss : Writes (fraction_line (at 21 - at 22) (at 21)) 22 _ _ = c.put_fraction-2.ensures in
+    let all = writes-more (writes-more (writes-more (writes-more c.put_sums.ensures top) ability) loss) c.put_last.ensures in
+    let told : Wrote c.args.out.now 0 (sheet_text (sheet_in c.args.figures.now) c.args.cut) c.put_last.new.text.out.now c.put_last.new.text.at =
+    rw (text_of figures c.args.cut) all.wrote in
+    let same = all.same in
+    search rules

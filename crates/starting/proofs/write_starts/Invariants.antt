@@ -1,6 +1,5 @@
 -- `starting::write_starts` meets its contract. The loop's invariant: the starts of the jobs passed are written, and the mask
 -- has the picks of those still to come. Assumes nothing.
-use Prim.Native.Nat.{◌-◌}
 use Rattle.packed.specs.Packed.{jobs_in}
 use Rattle.starting.specs.StartsLaws.{Writing}
 use Rattle.starting.proofs.write_starts.Given as goal
@@ -8,6 +7,3 @@ use Rattle.starting.proofs.write_starts.Given as goal
 abbrev pub invariant-loop-i : goal.invariant-loop-i
 invariant-loop-i l =
     Writing (jobs_in l.bytes) l.n l.t0 l.mask l.initial.starts l.starts l.free l.left l.i
-
-abbrev pub decreases-loop-i : goal.decreases-loop-i
-decreases-loop-i l = l.n - l.i

@@ -4,17 +4,17 @@ use mir.Val.{SFits}
 use Rattle.stepping.specs.Cases.{pushes}
 use Rattle.stepping.proofs.push_by.Goals as goal
 
-pub push-other-requires : goal.push-other-requires
-push-other-requires c =
+pub push-list-requires : goal.push-list-requires
+push-list-requires c =
     let ready : SFits w32 c.args.job.ready = search rules in
     rw (to_z-of_z ready) ((pushes c.requires).push _ c.startable_to-end.ensures)
 
 pub overflow_sub-result : goal.overflow_sub-result
 overflow_sub-result c =
     let ready : SFits w32 c.args.job.ready = search rules in
-    (pushes c.requires).fits _ _ _ c.startable_to-end.ensures (rw (to_z-of_z ready) at c.push-other.ensures)
+    (pushes c.requires).fits _ _ _ c.startable_to-end.ensures (rw (to_z-of_z ready) at c.push-list.ensures)
 
 pub returns : goal.returns
 returns c =
     let ready : SFits w32 c.args.job.ready = search rules in
-    (pushes c.requires).gives _ _ _ c.startable_to-end.ensures (rw (to_z-of_z ready) at c.push-other.ensures)
+    (pushes c.requires).gives _ _ _ c.startable_to-end.ensures (rw (to_z-of_z ready) at c.push-list.ensures)

@@ -13,4 +13,5 @@ pub loop-rest-preserved : goal.loop-rest-preserved
 loop-rest-preserved c = omega (arith, length_more c.loop-rest.rest c.loop-rest-test.true)
 
 pub returns : goal.returns
-returns c = omega (arith, ap length (digits-one c.loop-rest.rest (omega arith)))
+returns c =
+    omega (arith, ap length (digits-one c.loop-rest.rest (omega arith)), digits-word c.args.value c.ranges.value.fits)

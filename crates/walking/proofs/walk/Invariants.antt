@@ -5,6 +5,3 @@ use Rattle.walking.proofs.walk.Given as goal
 
 abbrev pub invariant-loop-k : goal.invariant-loop-k
 invariant-loop-k l = Trails l.bytes l.initial.trail.weight l.initial.trail.by l.k l.trail
-
-abbrev pub decreases-loop-k : goal.decreases-loop-k
-decreases-loop-k l = l.k

@@ -1,0 +1,2 @@
+-- What several proofs of the crate rest on.
+pub mod Lesser
