@@ -10,9 +10,7 @@ use Rattle.packed.specs.JudgeLaws.{stages-fine}
 use Rattle.packed.specs.Refusals.{room_checks}
 use Rattle.packed.proofs.RefusalLaws.{room-fine}
 use Rattle.area.specs.Area.{area}
-use Rattle.checking.specs.Calls.{legal_checks}
-use Rattle.checking.specs.declared.Checked.{Checked}
-use Rattle.checking.specs.declared.Checked.TheVariants.{Answered}
+use Rattle.checking.specs.Calls.{Checked, legal_checks}
 use Rattle.checking.specs.contracts.legal as legal
 use Rattle.checking.proofs.legal.Reads as legal-reads
 use Rattle.best_plan.specs.Calls.{best_checks}
@@ -50,13 +48,13 @@ module _ (κs : Lfts 3) (a : Args write.signature κs) (k : ℕ) (x : AtExit wri
 
   -- Legal says yes of them,
   pub written-legal : (κs' : Lfts 2) (b : Args legal.signature κs') (r : Checked) (y : AtExit legal.ended κs')
-      → legal-reads.Post κs' b r y → b.0.now ≡ order → b.1.0.now ≡ written → r ≡ Answered true
+      → legal-reads.Post κs' b r y → b.0.now ≡ order → b.1.0.now ≡ written → r ≡ Ok true
   written-legal κs' b r y said same sent =
       said ∙ rw (same, sent ∙ wrote-own.front, own-accepted wrote-own.accepted own, own-legal wrote-own.accepted own)
 
   -- and so does Best, given the work area.
   pub written-best : (κs' : Lfts 3) (b : Args best.signature κs') (r : Checked) (y : AtExit best.ended κs')
-      → best-reads.Post κs' b r y → b.0.now ≡ order → b.1.0.now ≡ written → area ≤ length b.1.1.0.now → r ≡ Answered true
+      → best-reads.Post κs' b r y → b.0.now ≡ order → b.1.0.now ≡ written → area ≤ length b.1.1.0.now → r ≡ Ok true
   written-best κs' b r y said same sent room =
       let accepted = own-accepted wrote-own.accepted own in
       let passed = best-passed order (bytes_for wrote-own.answer) b.1.1.0.now accepted room in
