@@ -1,27 +1,22 @@
 // Makes what the calls are given: orders and profiles, from the parts of a case.
 use crate::lines::{read_bytes, read_numbers};
-use careful::{at, front_bytes, lend, plus};
+use careful::{lend, plus};
+use comparing::pack_order;
 
 // The most points of a stair: one more than a profile may have.
 const STEPS: i32 = 302;
 
-// Packs a bus-free time and jobs of seven numbers. Returns the bytes, none for an order that is refused: such
-// an order is told by its bytes.
-fn pack_order<'a>(numbers: &[i32], bytes: &'a mut [u8]) -> &'a [u8] {
-    let [t0, jobs @ ..] = numbers else {
-        return &[];
-    };
-    let size = comparing::pack_order(*t0, jobs, bytes);
-    front_bytes(bytes, size)
-}
-
-// The order that a part of a case tells, by its bytes or by its numbers.
+// The order that a part of a case tells, by its bytes or by its numbers: a bus-free time, and seven for each job. An
+// order that is refused is told by its bytes; by its numbers it has none.
 pub fn make_order<'a>(part: &[u8], bytes: &'a mut [u8]) -> &'a [u8] {
     if part.starts_with(b"b") {
         return read_bytes(part, bytes);
     }
     let mut numbers = [0; 350];
-    pack_order(read_numbers(part, &mut numbers), bytes)
+    match read_numbers(part, &mut numbers) {
+        [t0, jobs @ ..] => pack_order(*t0, jobs, bytes),
+        [] => &[],
+    }
 }
 
 // Points of weight 0, 1, 2 and so on, so many seconds apart.

@@ -3,7 +3,8 @@
 use crate::lines::before;
 use fields::Job;
 use packed::Refusal;
-use reader::{Moved, Opened, Read};
+use reader::Moved;
+use text::Writer;
 
 // How many of one number are a long run.
 const LONG: usize = 10;
@@ -21,8 +22,14 @@ pub fn put_name(line: &[u8]) {
 
 // A space and a number.
 pub fn put(z: i32) {
-    let mut figures = [b' '; 12];
-    let end = text::put_number(&mut figures, 1, z);
+    let mut figures = [0; 12];
+    let mut writer = Writer {
+        out: &mut figures,
+        at: 0,
+    };
+    writer.byte(b' ');
+    writer.number(z);
+    let end = writer.at;
     io::write_all(1, &figures[..end]);
 }
 
@@ -39,16 +46,16 @@ pub fn put_refused(number: u32) {
 }
 
 // A refusal and its field, where no place is told.
-pub fn put_refused_field(number: u32, field: u32) {
-    put_refused(number);
-    put_count(field as u64);
+pub fn put_refused_field(refusal: Refusal) {
+    put_refused(refusal.number());
+    put_count(refusal.figure() as u64);
 }
 
 // A refusal, its place and its field.
 pub fn put_refusal(refusal: Refusal) {
-    put_refused(refusal.number);
-    put_count(refusal.place as u64);
-    put_count(refusal.field as u64);
+    put_refused(refusal.number());
+    put_count(refusal.place() as u64);
+    put_count(refusal.figure() as u64);
 }
 
 // A run of one number: each of its numbers, or of a long one how many they are.
@@ -110,20 +117,20 @@ fn put_job(job: Job) {
     put(job.deadline);
 }
 
-// What opening a reader gave.
-pub fn put_opened(opened: Opened) {
+// What opening a reader gave: it refuses with no place and no field.
+pub fn put_opened(opened: Result<usize, Refusal>) {
     match opened {
-        Opened::Accepted(count) => put_count(count as u64),
-        Opened::Refused(number) => put_refused(number),
+        Ok(count) => put_count(count as u64),
+        Err(refusal) => put_refused(refusal.number()),
     }
 }
 
 // What a step of a reader gave, and the place after it.
 pub fn put_moved(moved: Moved) {
     match moved.answer {
-        Read::Job(job) => put_job(job),
-        Read::End => put_word(b" end"),
-        Read::Refused(refusal) => put_refusal(refusal),
+        Ok(Some(job)) => put_job(job),
+        Ok(None) => put_word(b" end"),
+        Err(refusal) => put_refusal(refusal),
     }
     put_count(moved.place as u64);
 }

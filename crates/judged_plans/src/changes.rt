@@ -161,10 +161,9 @@ fn put_bytes(seed: &mut u64, plan: &mut [u8], from: usize) {
     }
 }
 
-// The bytes of a plan of so many changed. A seed is left out behind the flipped bits.
+// The bytes of a plan of so many changed.
 fn change_bytes(seed: &mut u64, change: Change, plan: &mut [u8], size: usize) {
     flip_bits(seed, change, plan, size);
-    *seed = next(*seed);
     match change {
         Change::DrawAll => put_bytes(seed, plan, 0),
         Change::DrawStarts => put_bytes(seed, plan, MASK),
