@@ -17,9 +17,8 @@ use Rattle.packed.specs.Refusals.{order_checks}
 use Rattle.area.specs.Area.{area}
 use Rattle.frames.specs.Frames.{frame_of, frame_numbers, making_checks}
 use Rattle.frames.proofs.FrameLaws.{making-fine, inside-frame}
-use Rattle.planner.specs.Calls.{plan_verdict, planned_of, plan_numbers}
+use Rattle.planner.specs.Calls.{Planned, plan_verdict, planned_of, plan_numbers}
 use Rattle.planner.specs.Answers.{plan-passed}
-use Rattle.planner.specs.declared.Planned.{Planned}
 use Rattle.planner.specs.contracts.plan as plan
 use Rattle.planner.proofs.plan.Reads as plan-reads
 use Rattle.framing.specs.AnswerSays.{FrameWritten, frame_order}

@@ -17,7 +17,7 @@ use Rattle.legal.specs.Legal.{is_legal, is_best}
 use Rattle.packed.specs.Judge.{refusal_of}
 use Rattle.pack.specs.Answer.{bytes_written}
 use Rattle.checking.specs.Calls.{legal_checks, legal_of, checked_numbers}
-use Rattle.checking.specs.declared.Checked.{Checked}
+use Rattle.checking.specs.Calls.{Checked}
 use Rattle.best_plan.specs.Calls.{best_checks, best_of}
 use Rattle.plan_writer.specs.Calls.{write_checks, bytes_for, written_of, out_after}
 use Rattle.report.specs.AsPrinted.{morning_bytes}
