@@ -21,12 +21,10 @@ use Rattle.packed.specs.Refusals.{header_checks, job_checks, fields_within, bad_
 use Rattle.packed.proofs.RefusalLaws.{header-fine}
 use Rattle.packed.proofs.Steps.{jobs-judge, bad-from-0, weights-on}
 use Rattle.fields.specs.Fields.{fields_of, header_fields}
-use Rattle.fields.specs.Asked.{RecordIn}
 use Rattle.fields.specs.Facts.{job-facts, record-in, read-from, header_read}
 use Rattle.fields.specs.declared.Job.{Job}
 use Rattle.fields.specs.declared.Header.{Header}
-use Rattle.judge.specs.Verdicts.{AllGiven, taken_in, noted_in, AllIn}
-use Rattle.judge.specs.declared.Gathered.{Gathered}
+use Rattle.judge.specs.Verdicts.{taken_in, noted_in, AllIn}
 
 -- ---- a number of a job, from 0 to a greatest, as the code casts it
 
@@ -61,28 +59,25 @@ taken-err j k {r} e = cases (fields_within (fields_of j))
 -- ---- on the way
 
 -- No job before the place is out of range; their numbers are gathered, and their weights summed, at most 50 each.
-pub record Passing (zs : List ℤ) (numbers : List ℕ) (count place weight : ℕ) : Type 0 where
-  pub counted : count ≡ job_count zs
-  pub room : count ≤ 48
+pub record Passing (zs : List ℤ) (numbers : List ℕ) (place weight : ℕ) : Type 0 where
+  pub room : job_count zs ≤ 48
   pub long : length numbers ≡ 48
-  pub search : first_bad zs ≡ first (bad_at zs) place count
+  pub search : first_bad zs ≡ first (bad_at zs) place (job_count zs)
   pub gathered : (i : ℕ) → i < place → number_at zs i ≡ pos (get_or numbers i 0)
   pub light : weight ≤ 50 * place
-  pub sum : weight + weight_of (each (job_at zs) place count) ≡ weight_of (jobs_of zs)
+  pub sum : weight + weight_of (each (job_at zs) place (job_count zs)) ≡ weight_of (jobs_of zs)
 
 -- From the first place.
-pub passing-starts : (zs : List ℤ) (count : ℕ) (numbers : List ℕ) → count ≡ job_count zs → count ≤ 48 → length numbers ≡ 48
-    → Passing zs numbers count 0 0
+pub passing-starts : (zs : List ℤ) (numbers : List ℕ) → job_count zs ≤ 48 → length numbers ≡ 48 → Passing zs numbers 0 0
 unfolding jobs_of
-passing-starts zs count numbers c m l =
+passing-starts zs numbers m l =
     record {
-      counted = c;
       room = m;
       long = l;
-      search = bad-from-0 zs ∙ ap (first (bad_at zs) 0) (sym c);
+      search = bad-from-0 zs;
       gathered = λ i h. absurd (omega arith);
       light = omega arith;
-      sum = rw c (zero-add (weight_of (each (job_at zs) 0 (job_count zs))));
+      sum = zero-add (weight_of (each (job_at zs) 0 (job_count zs)));
     }
 
 -- One number more is noted: what holds of each number at its place holds of it too.
@@ -94,12 +89,12 @@ noted-on Q numbers k v b e g i h = cases (ltb i k)
     (λ q. let s : i ≡ k = omega (arith, ltb-false i k q) in rw (s, get_or-set_same numbers k v 0 b) e)
 
 -- A turn: a job was read, and is the job at the place.
-pub record Turn (zs : List ℤ) (numbers : List ℕ) (count place weight : ℕ) (j : Job) : Type 0 where
-  pub more : place < count
+pub record Turn (zs : List ℤ) (numbers : List ℕ) (place weight : ℕ) (j : Job) : Type 0 where
+  pub more : place < job_count zs
   pub read : fields_of j ≡ fields_at zs place
-  pub before : Passing zs numbers count place weight
+  pub before : Passing zs numbers place weight
 
-module _ {zs : List ℤ} {numbers : List ℕ} {count place weight : ℕ} {j : Job} (t : Turn zs numbers count place weight j) where
+module _ {zs : List ℤ} {numbers : List ℕ} {place weight : ℕ} {j : Job} (t : Turn zs numbers place weight j) where
   -- There is room for the job's number.
   pub can-note : place < length numbers
   can-note = omega (arith, t.more, t.before.room, t.before.long)
@@ -120,7 +115,7 @@ module _ {zs : List ℤ} {numbers : List ℕ} {count place weight : ℕ} {j : Jo
 
   -- and it is on to the next place.
   pub passing-on : {w : ℕ} → taken_in j place ≡ Ok w → (noted : List ℕ) → noted ≡ noted_in j place numbers
-      → Passing zs noted count (place + 1) (weight + w)
+      → Passing zs noted (place + 1) (weight + w)
   passing-on {w} e noted notes =
       let told = taken-ok j place e in
       let within = told.0 in
@@ -129,15 +124,14 @@ module _ {zs : List ℤ} {numbers : List ℕ} {count place weight : ℕ} {j : Jo
       let its : nat_abs (the_weight (fields_at zs place)) ≡ nat_abs j.weight =
       ap (λ l. nat_abs (get_or l 3 (pos 0))) (sym t.read) in
       record {
-        counted = b.counted;
         room = b.room;
         long = rw s (length-set numbers place (nat_abs j.number) ∙ b.long);
-        search = b.search ∙ first_on (bad_at zs) place count t.more (ap not (ap fields_within (sym t.read) ∙ within));
+        search = b.search ∙ first_on (bad_at zs) place (job_count zs) t.more (ap not (ap fields_within (sym t.read) ∙ within));
         gathered =
             rw s (noted-on (λ i n. number_at zs i ≡ pos n) numbers place (nat_abs j.number) can-note (number-noted within)
             b.gathered);
         light = omega (arith, b.light, weight-light e);
-        sum = omega (arith, weights-on zs place count t.more, its, b.sum, told.1);
+        sum = omega (arith, weights-on zs place (job_count zs) t.more, its, b.sum, told.1);
       }
 
   -- Out of range: the first such, so refusal 6.
@@ -146,59 +140,18 @@ module _ {zs : List ℤ} {numbers : List ℕ} {count place weight : ℕ} {j : Jo
       let told = taken-err j place e in
       let b = t.before in
       let here : first_bad zs ≡ place =
-      b.search ∙ first-here (bad_at zs) place count t.more (ap not (ap fields_within (sym t.read) ∙ told.0)) in
-      let there : place < job_count zs = omega (arith, t.more, b.counted) in
-      rw (jobs-judge zs, here, lt-ltb place (job_count zs) there, ← t.read, told.1)
+      b.search ∙ first-here (bad_at zs) place (job_count zs) t.more (ap not (ap fields_within (sym t.read) ∙ told.0)) in
+      rw (jobs-judge zs, here, lt-ltb place (job_count zs) t.more, ← t.read, told.1)
 
 -- No job is left.
-pub passing-ends : (zs : List ℤ) (numbers : List ℕ) (count place weight : ℕ) → place ≡ count
-    → Passing zs numbers count place weight → AllIn zs numbers (record { count = count; weight = weight })
-passing-ends zs numbers count place weight e p =
+pub passing-ends : (zs : List ℤ) (numbers : List ℕ) (place weight : ℕ) → place ≡ job_count zs → Passing zs numbers place weight
+    → AllIn zs numbers weight
+passing-ends zs numbers place weight e p =
     record {
-      counted = p.counted;
-      room = omega (arith, p.room, p.long);
-      none-bad = p.search ∙ rw e (first-end (bad_at zs) count) ∙ p.counted;
+      none-bad = p.search ∙ rw e (first-end (bad_at zs) (job_count zs));
       gathered = λ k h. p.gathered k (omega arith);
       weighed =
-          let none : weight_of (each (job_at zs) place count) ≡ 0 = rw e (ap weight_of (each-end (job_at zs) count)) in
+          let none : weight_of (each (job_at zs) place (job_count zs)) ≡ 0 =
+          rw e (ap weight_of (each-end (job_at zs) (job_count zs))) in
           omega (arith, p.sum, none);
     }
-
--- ---- how a job is read
-
--- In bytes that have passed 1 to 5.
-module _ (bytes : List ℕ) {numbers : List ℕ} (passed : judge (header_checks bytes) ≡ fine) where
-  pub there-starts : (h : Header) → header_fields h ≡ header_of bytes → length numbers ≡ 48
-      → Passing (numbers_of bytes) numbers h.count 0 0
-  there-starts h e long =
-      let f = (header-fine bytes).0 passed in
-      let r = header_read bytes h e in
-      passing-starts (numbers_of bytes) h.count numbers (r.count ∙ sym (numbers-count bytes)) (omega (arith, r.count, f.few)) long
-
-  -- The job at the place is there, and read there it has its numbers.
-  module _ {count place weight : ℕ} (more : place < count) (before : Passing (numbers_of bytes) numbers count place weight) where
-    there : place < count_of bytes
-    there = omega (arith, numbers-count bytes, more, before.counted)
-
-    pub there-room : RecordIn bytes place
-    there-room = record-in bytes place ((header-fine bytes).0 passed) there
-
-    pub there-turn : (j : Job) → fields_of j ≡ job_fields bytes place
-        → Turn (numbers_of bytes) numbers count place weight j
-    there-turn j r =
-        record { more = more; read = r ∙ sym (fields-of-numbers bytes place there); before = before }
-
--- In numbers.
-given-count : (zs : List ℤ) → AllGiven zs (length zs / 7) → length zs / 7 ≡ job_count zs
-given-count zs all = sym (whole-count zs (length zs / 7) all.whole)
-
-module _ (zs : List ℤ) {numbers : List ℕ} (all : AllGiven zs (length zs / 7)) where
-  pub given-starts : length numbers ≡ 48 → Passing zs numbers (length zs / 7) 0 0
-  given-starts long = passing-starts zs (length zs / 7) numbers (given-count zs all) all.few long
-
-  module _ {place weight : ℕ} (more : place < length zs / 7) (before : Passing zs numbers (length zs / 7) place weight) where
-    pub given-room : 7 * place + 7 ≤ length zs
-    given-room = omega (arith, all.whole, given-count zs all, more, before.counted)
-
-    pub given-turn : (j : Job) → fields_of j ≡ take 7 (drop (7 * place) zs) → Turn zs numbers (length zs / 7) place weight j
-    given-turn j r = record { more = more; read = read-from zs place (7 * place) j refl r; before = before }

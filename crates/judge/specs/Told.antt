@@ -10,17 +10,18 @@ use Rattle.packed.specs.Judge.{in_field, plainly, Check, Verdict, fine, refused,
 use Rattle.packed.specs.JudgeLaws.{judge-append, judge-tells}
 use Rattle.order.specs.Job.{weight_of}
 use Rattle.packed.specs.Layout.{record_bytes}
-use Rattle.packed.specs.Packed.{count_of, numbers_of, job_count, jobs_of}
+use Rattle.packed.specs.Packed.{header_of, count_of, numbers_of, job_count, jobs_of}
 use Rattle.packed.specs.Refusals.{header_checks, list_checks, job_checks, weight_checks, room_checks, order_checks, first_repeat}
-use Rattle.packed.proofs.RefusalLaws.{list-fine}
+use Rattle.packed.proofs.RefusalLaws.{header-fine, list-fine}
 use Rattle.packed.proofs.RefusalPlaces.{has_place, RefusalIs, nowhere, unpack-refusal, SixIs, six-behind}
 use Rattle.packed.proofs.Steps.{header-judge, jobs-judge}
-use Rattle.fields.specs.Facts.{HeaderRead}
+use Rattle.fields.specs.Facts.{HeaderRead, header_read, record-in}
+use Rattle.fields.specs.Fields.{header_fields}
 use Rattle.fields.specs.declared.Header.{Header}
-use Rattle.judge.specs.Verdicts.{kind_judged, AllGiven, AllIn, repeats_judged, sum_judged}
+use Rattle.jobs.specs.Held.{RecordsStand, AllGiven}
+use Rattle.judge.specs.Verdicts.{kind_judged, AllIn, repeats_judged, sum_judged}
 use Rattle.repeats.specs.Repeats.{first_again}
 use Rattle.repeats.specs.RepeatLaws.{repeat-again}
-use Rattle.judge.specs.declared.Gathered.{Gathered}
 
 -- ---- the header
 
@@ -33,10 +34,23 @@ pub header-told : (bytes : List ℕ) (h : Header) → HeaderRead bytes h → jud
     (cond (not (is_time h.t0)) (refused (plainly 5)) (kind_judged bytes)))))
 header-told bytes h r = rw (r.count, r.t0, r.kind) (header-judge bytes)
 
--- Past 3 to 5, the numbers are those of so many jobs.
-pub given-told : (t0 : ℤ) (zs : List ℤ) → judge (list_checks t0 zs) ≡ fine → AllGiven zs (length zs / 7)
+-- Past 3 to 5, the numbers are those of jobs.
+pub given-told : (t0 : ℤ) (zs : List ℤ) → judge (list_checks t0 zs) ≡ fine → AllGiven zs
 unfolding job_count
 given-told t0 zs passed = let f = (list-fine t0 zs).0 passed in record { few = f.few; whole = f.whole }
+
+-- Past 1 to 5, the records stand in the bytes.
+pub records-told : (bytes : List ℕ) (h : Header) → header_fields h ≡ header_of bytes → judge (header_checks bytes) ≡ fine
+    → RecordsStand bytes h.count h.kind
+records-told bytes h e passed =
+    let f = (header-fine bytes).0 passed in
+    let r = header_read bytes h e in
+    record {
+      few = omega (arith, r.count, f.few);
+      counted = r.count;
+      kinded = r.kind;
+      there = λ k b. record-in bytes k f (omega (arith, r.count));
+    }
 
 -- ---- stages
 
@@ -50,25 +64,28 @@ stays cs ds e = rw (judge-append cs ds, e)
 
 -- ---- 6, 7 and 9
 
--- None is out of range, and the jobs are gathered.
-module _ (zs : List ℤ) (numbers : List ℕ) (jobs : Gathered) (all : AllIn zs numbers jobs) where
-  repeat-is : first_repeat zs ≡ first_again (take jobs.count numbers)
-  repeat-is =
-      let long : length (take jobs.count numbers) ≡ jobs.count = length-take-le jobs.count numbers all.room in
-      repeat-again zs (take jobs.count numbers) (long ∙ all.counted)
-      (λ k h. let b : k < jobs.count = omega arith in
-      all.gathered k b ∙ ap pos (sym (get_or-take jobs.count numbers k 0 b)))
+-- None is out of range, and the jobs are gathered: 6 and 7 are judged by their numbers.
+pub jobs-told : (zs : List ℤ) (numbers : List ℕ) (weight count : ℕ) → AllIn zs numbers weight → count ≡ job_count zs
+    → count ≤ length numbers → judge (job_checks zs) ≡ repeats_judged (take count numbers)
+jobs-told zs numbers weight count all counted room =
+    let long : length (take count numbers) ≡ count = length-take-le count numbers room in
+    let again : first_repeat zs ≡ first_again (take count numbers) =
+    repeat-again zs (take count numbers) (long ∙ counted)
+    (λ k h. let b : k < count = omega arith in
+    all.gathered k (omega (arith, counted)) ∙ ap pos (sym (get_or-take count numbers k 0 b))) in
+    rw (
+      jobs-judge zs,
+      all.none-bad,
+      le-ltb (job_count zs) (job_count zs) (omega arith),
+      again,
+      long ∙ counted,
+    )
 
-  -- 6 and 7 are judged by the numbers that were gathered,
-  pub jobs-told : judge (job_checks zs) ≡ repeats_judged numbers jobs.count
-  jobs-told =
-      let least : job_count zs ≤ job_count zs = omega arith in
-      rw (jobs-judge zs, all.none-bad, le-ltb (job_count zs) (job_count zs) least, repeat-is, ← all.counted)
-
-  -- and 9 by their weight.
-  pub weight-told : (before : ℕ) → judge (weight_checks before zs) ≡ sum_judged before jobs.weight
-  unfolding weight_checks
-  weight-told before = rw all.weighed
+-- Past 6 and 7, 9 is judged by the weight.
+pub weight-told : (zs : List ℤ) (before weight : ℕ) → weight ≡ weight_of (jobs_of zs)
+    → judge (weight_checks before zs) ≡ sum_judged before weight
+unfolding weight_checks
+weight-told zs before weight e = rw e
 
 -- The stages of an order: what is judged first, 6 and 7, and 9.
 module _ (cs : List Check) (zs : List ℤ) (before : ℕ) where
@@ -80,21 +97,15 @@ module _ (cs : List Check) (zs : List ℤ) (before : ℕ) where
   first-refused e = stays (cs ++ job_checks zs) (weight_checks before zs) (stays cs (job_checks zs) e)
 
   module _ (passed : judge cs ≡ fine) where
-    -- by 6,
+    -- by 6 or 7,
     pub jobs-refused : {r : Refusal} → judge (job_checks zs) ≡ refused r → judge three ≡ refused r
     jobs-refused e = stays (cs ++ job_checks zs) (weight_checks before zs) (told-next cs (job_checks zs) passed ∙ e)
 
-    module _ (numbers : List ℕ) (jobs : Gathered) (all : AllIn zs numbers jobs) where
-      -- by 7,
-      pub repeats-refused : {r : Refusal} → repeats_judged numbers jobs.count ≡ refused r → judge three ≡ refused r
-      repeats-refused e = jobs-refused (jobs-told zs numbers jobs all ∙ e)
-
-      -- and past 7 by 9 alone.
-      pub sum-left : repeats_judged numbers jobs.count ≡ fine → judge three ≡ sum_judged before jobs.weight
-      sum-left e =
-          told-next (cs ++ job_checks zs) (weight_checks before zs)
-          (told-next cs (job_checks zs) passed ∙ jobs-told zs numbers jobs all ∙ e)
-          ∙ weight-told zs numbers jobs all before
+    -- and past them by 9 alone.
+    pub sum-left : {weight : ℕ} → (judge (job_checks zs) ≡ fine) × (weight ≡ weight_of (jobs_of zs)) → judge three ≡ sum_judged before weight
+    sum-left {weight} told =
+        told-next (cs ++ job_checks zs) (weight_checks before zs) (told-next cs (job_checks zs) passed ∙ told.0)
+        ∙ weight-told zs before weight told.1
 
 -- The last two stages, of any call: there is not enough room in the first buffer, or in the second, or there is in both.
 module _ (cs : List Check) (passed : judge cs ≡ fine) (need room more space : ℕ) where

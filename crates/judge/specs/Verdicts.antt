@@ -5,32 +5,17 @@ use Rattle.seconds.specs.Limits.{most_weight}
 use Rattle.order.specs.Job.{weight_of}
 use Rattle.packed.specs.declared.Refusal.{Refusal}
 use Rattle.packed.specs.Judge.{in_field, plainly, Verdict, fine, refused, judge, check, check_at}
-use Rattle.packed.specs.Layout.{record_bytes}
 use Rattle.packed.specs.Packed.{kind_of, count_of, numbers_of, kind_for, job_count, jobs_of}
 use Rattle.packed.specs.Refusals.{fields_within, bad_field, number_at, first_bad, job_checks}
 use Rattle.fields.specs.Fields.{fields_of}
 use Rattle.fields.specs.declared.Job.{Job}
 use Rattle.repeats.specs.Repeats.{first_again}
-use Rattle.judge.specs.declared.Gathered.{Gathered}
-
--- The numbers are those of so many jobs, at most 48.
-pub record AllGiven (zs : List ℤ) (count : ℕ) : Type 0 where
-  pub few : count ≤ 48
-  pub whole : length zs ≡ 7 * count
 
 -- ---- the kind
 
 -- 19 alone.
 abbrev pub kind_judged : List ℕ → Verdict
 kind_judged bytes = cond (eqb (kind_of bytes) 1 && eqb (kind_for (numbers_of bytes)) 0) (refused (plainly 19)) fine
-
--- Bytes of a kind and a count that have passed 1 to 4.
-pub record Kinded (bytes : List ℕ) (kind count : ℕ) : Type 0 where
-  pub kind-is : kind ≡ kind_of bytes
-  pub count-is : count ≡ count_of bytes
-  pub known : kind ≤ 1
-  pub few : count ≤ 48
-  pub whole : length bytes ≡ 4 + record_bytes (kind_of bytes) * count_of bytes
 
 -- ---- what is gathered of the jobs
 
@@ -42,27 +27,25 @@ taken_in j place = cond (fields_within (fields_of j)) (Ok (nat_abs j.weight)) (E
 abbrev pub noted_in : Job → ℕ → List ℕ → List ℕ
 noted_in j place numbers = cond (fields_within (fields_of j)) (set numbers place (nat_abs j.number)) numbers
 
--- All jobs are at hand, and there is room for their numbers.
-pub record CanGather (There : Type 0) (numbers : List ℕ) : Type 0 where
-  pub there : There
-  pub room : length numbers ≡ 48
-
--- All jobs were counted, none is out of range, and their numbers and weights are gathered.
-pub record AllIn (zs : List ℤ) (numbers : List ℕ) (jobs : Gathered) : Type 0 where
-  pub counted : jobs.count ≡ job_count zs
-  pub room : jobs.count ≤ length numbers
+-- None is out of range, and their numbers and weights are gathered.
+pub record AllIn (zs : List ℤ) (numbers : List ℕ) (weight : ℕ) : Type 0 where
   pub none-bad : first_bad zs ≡ job_count zs
-  pub gathered : (k : ℕ) → k < jobs.count → number_at zs k ≡ pos (get_or numbers k 0)
-  pub weighed : jobs.weight ≡ weight_of (jobs_of zs)
+  pub gathered : (k : ℕ) → k < job_count zs → number_at zs k ≡ pos (get_or numbers k 0)
+  pub weighed : weight ≡ weight_of (jobs_of zs)
 
 -- That, or refusal 6 as it is judged.
-abbrev pub Gathers : List ℤ → List ℕ → Result Gathered Refusal → Type 0
-Gathers zs numbers (Ok jobs) = AllIn zs numbers jobs
+abbrev pub Gathers : List ℤ → List ℕ → Result ℕ Refusal → Type 0
+Gathers zs numbers (Ok weight) = AllIn zs numbers weight
 Gathers zs numbers (Err r) = judge (job_checks zs) ≡ refused r
 
+-- 6 and 7 are passed, and this is what the jobs weigh; or the refusal as it is judged.
+abbrev pub JudgedEach : List ℤ → Result ℕ Refusal → Type 0
+JudgedEach zs (Ok weight) = (judge (job_checks zs) ≡ fine) × (weight ≡ weight_of (jobs_of zs))
+JudgedEach zs (Err r) = judge (job_checks zs) ≡ refused r
+
 -- 7 of gathered numbers.
-abbrev pub repeats_judged : List ℕ → ℕ → Verdict
-repeats_judged numbers count = judge (check_at 7 (first_again (take count numbers)) count ∷ [])
+abbrev pub repeats_judged : List ℕ → Verdict
+repeats_judged numbers = judge (check_at 7 (first_again numbers) (length numbers) ∷ [])
 
 -- 9 of a weight that is there before, and the weight of all jobs.
 abbrev pub sum_judged : ℕ → ℕ → Verdict

@@ -2,24 +2,18 @@
 // applies (R25). Assumes nothing.
 #![tactic(auto)]
 
-ghost use Rattle.std.specs.Prelude.{◌≡◌, ◌++◌, ◌/◌, ◌≤◌, ◌<◌, length};
+ghost use Rattle.std.specs.Prelude.{◌≡◌, ◌++◌, ◌<◌, length};
 ghost use Rattle.packed.specs.Packed.{numbers_of};
 ghost use Rattle.packed.specs.Judge.{fine, judge};
 ghost use Rattle.packed.specs.Refusals.{header_checks, list_checks, job_checks, weight_checks, number_checks};
-ghost use Rattle.judge.specs.Verdicts.{AllGiven, taken_in, noted_in, CanGather, Gathers};
-ghost use Rattle.judge.specs.Verdicts.{repeats_judged, sum_judged, Kinded, kind_judged};
+ghost use Rattle.judge.specs.Verdicts.{taken_in, noted_in, Gathers, JudgedEach};
+ghost use Rattle.judge.specs.Verdicts.{repeats_judged, sum_judged, kind_judged};
 
 use fields::Job;
+use jobs::{Given, Jobs, Records};
 use packed::Refusal;
 use refusals::Reason;
 use repeats::repeat_in;
-
-// How many jobs were gathered, and what they weigh.
-#[derive(Clone, Copy)]
-struct Gathered {
-    count: usize,
-    weight: u32,
-}
 
 // The most jobs and the most weight of an order.
 pub const MOST_JOBS: usize = 48;
@@ -27,14 +21,13 @@ pub const MOST_JOBS: usize = 48;
 pub const MOST_WEIGHT: u64 = 300;
 
 // Check 19 on bytes that have passed 1 to 5: kind 1 where every pack is 0.
-fn judge_kind(bytes: &[u8], kind: usize, count: usize) -> Result<(), Refusal>
-    requires { Kinded bytes.now kind count }
-    ensures { result ≡ kind_judged bytes.now }
+fn judge_kind(records: Records) -> Result<(), Refusal>
+    ensures { result ≡ kind_judged records.entry.bytes.now }
 {
-    if kind != 1 {
+    if records.kind != 1 {
         return Ok(());
     }
-    match kinds::first_packed(bytes, count) {
+    match kinds::first_packed(&records) {
         Some(_) => Ok(()),
         None => Err(Reason::EveryPackZero.into()),
     }
@@ -60,11 +53,28 @@ pub fn judge_header(bytes: &[u8]) -> Result<(), Refusal>
     if !limits::is_time(header.t0) {
         return Err(Reason::BusFreeOutOfRange.into());
     }
-    judge_kind(bytes, header.kind, header.count)
+    judge_kind(Records {
+        bytes,
+        count: header.count,
+        kind: header.kind,
+    })
+}
+
+// The records of bytes that have passed them.
+fn records_in(bytes: &[u8]) -> Records
+    requires { judge (header_checks bytes.now) ≡ fine }
+    ensures { result.bytes.now ≡ bytes.now }
+{
+    let header = fields::header_at(bytes);
+    Records {
+        bytes,
+        count: header.count,
+        kind: header.kind,
+    }
 }
 
 // A job taken in: within its limits its number is noted at its place, and its weight told.
-fn take_in(job: Job, place: usize, numbers: &mut [u8]) -> Result<u32, Refusal>
+fn take_in(job: Job, place: usize, numbers: &mut [u8; MOST_JOBS]) -> Result<u32, Refusal>
     requires { place < length numbers.old }
     ensures goes { result ≡ taken_in job place }
     ensures notes { numbers.new ≡ noted_in job place numbers.old }
@@ -78,47 +88,36 @@ fn take_in(job: Job, place: usize, numbers: &mut [u8]) -> Result<u32, Refusal>
     }
 }
 
-// Gathers the jobs of bytes that have passed 1 to 5; the first that is out of range is refused.
-fn gather(bytes: &[u8], numbers: &mut [u8]) -> Result<Gathered, Refusal>
-    requires { CanGather (judge (header_checks bytes.now) ≡ fine) numbers.old }
-    ensures { Gathers (numbers_of bytes.now) numbers.new result }
+// What the jobs weigh, with their numbers gathered; the first job that is out of range is refused.
+fn gather<J: Jobs>(jobs: &J, numbers: &mut [u8; MOST_JOBS]) -> Result<u32, Refusal>
+    ensures { Gathers (J.numbers jobs.now) numbers.new result }
 {
-    let header = fields::header_at(bytes);
     let mut weight = 0;
-    for place in 0..header.count {
-        let job = fields::job_by_kind(bytes, header.kind, place);
-        weight += take_in(job, place, numbers)?;
+    for place in 0..jobs.count() {
+        weight += take_in(jobs.job(place), place, numbers)?;
     }
-    Ok(Gathered {
-        count: header.count,
-        weight,
-    })
+    Ok(weight)
 }
 
-// The same over the numbers of the jobs.
-fn gather_given(given: &[i32], numbers: &mut [u8]) -> Result<Gathered, Refusal>
-    requires { CanGather (AllGiven given.now (length given.now / 7)) numbers.old }
-    ensures { Gathers given.now numbers.new result }
+// Check 7 on gathered numbers.
+fn judge_repeats(numbers: &[u8]) -> Result<(), Refusal>
+    ensures { result ≡ repeats_judged numbers.now }
 {
-    let count = given.len() / 7;
-    let mut weight = 0;
-    for place in 0..count {
-        let job = fields::job_from(given, 7 * place);
-        weight += take_in(job, place, numbers)?;
-    }
-    Ok(Gathered { count, weight })
-}
-
-// Check 7 on gathered jobs.
-fn judge_repeats(numbers: &[u8], jobs: Gathered) -> Result<(), Refusal>
-    requires { jobs.count ≤ length numbers.now }
-    ensures { result ≡ repeats_judged numbers.now jobs.count }
-{
-    let again = repeat_in(&numbers[..jobs.count]);
-    if again < jobs.count {
+    let again = repeat_in(numbers);
+    if again < numbers.len() {
         return Err(Refusal::at_place(Reason::NumberRepeated, again));
     }
     Ok(())
+}
+
+// Checks 6 and 7, and what jobs weigh that pass them.
+fn judge_each<J: Jobs>(jobs: &J) -> Result<u32, Refusal>
+    ensures { JudgedEach (J.numbers jobs.now) result }
+{
+    let mut numbers = [0u8; MOST_JOBS];
+    let weight = gather(jobs, &mut numbers)?;
+    judge_repeats(&numbers[..jobs.count()])?;
+    Ok(weight)
 }
 
 // Check 9: a sum of weights.
@@ -136,9 +135,8 @@ pub fn judge_jobs(bytes: &[u8]) -> Result<(), Refusal>
     ensures { result ≡ judge (header_checks bytes.now ++ job_checks (numbers_of bytes.now)) }
 {
     judge_header(bytes)?;
-    let mut numbers = [0u8; MOST_JOBS];
-    let jobs = gather(bytes, &mut numbers)?;
-    judge_repeats(&numbers, jobs)
+    judge_each(&records_in(bytes))?;
+    Ok(())
 }
 
 // Check 9 on bytes that have passed 1 to 7, with the weight that is there before.
@@ -147,8 +145,8 @@ pub fn judge_weight(bytes: &[u8], before: u32) -> Result<(), Refusal>
     ensures { result ≡ judge (weight_checks before (numbers_of bytes.now)) }
 {
     let mut numbers = [0u8; MOST_JOBS];
-    let jobs = gather(bytes, &mut numbers)?;
-    judge_sum(before, jobs.weight)
+    let weight = gather(&records_in(bytes), &mut numbers)?;
+    judge_sum(before, weight)
 }
 
 // Checks 1 to 7 and 9 on bytes, with the weight that is there before.
@@ -157,10 +155,8 @@ pub fn judge_order(bytes: &[u8], before: u32) -> Result<(), Refusal>
         ++ weight_checks before (numbers_of bytes.now)) }
 {
     judge_header(bytes)?;
-    let mut numbers = [0u8; MOST_JOBS];
-    let jobs = gather(bytes, &mut numbers)?;
-    judge_repeats(&numbers, jobs)?;
-    judge_sum(before, jobs.weight)
+    let weight = judge_each(&records_in(bytes))?;
+    judge_sum(before, weight)
 }
 
 // Checks 3 to 5 on a bus-free time and numbers.
@@ -184,8 +180,6 @@ pub fn judge_numbers(t0: i32, given: &[i32]) -> Result<(), Refusal>
     ensures { result ≡ judge (number_checks t0 given.now) }
 {
     judge_list(t0, given)?;
-    let mut numbers = [0u8; MOST_JOBS];
-    let jobs = gather_given(given, &mut numbers)?;
-    judge_repeats(&numbers, jobs)?;
-    judge_sum(0, jobs.weight)
+    let weight = judge_each(&Given { numbers: given })?;
+    judge_sum(0, weight)
 }

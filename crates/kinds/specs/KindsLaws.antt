@@ -13,7 +13,6 @@ use Rattle.packed.specs.Packed.{numbers_of, job_count, fields_at, job_fields, ha
 use Rattle.packed.proofs.PackedLaws.{numbers-count, fields-of-numbers, whole-count}
 use Rattle.fields.specs.Fields.{fields_of}
 use Rattle.fields.specs.declared.Job.{Job}
-use Rattle.kinds.specs.Kinds.{Records, Whole}
 
 -- A pack compared with 0 by its bits.
 some-pack : (z : ℤ) → of_z w32 z ≢ 0 → not (same z (pos 0)) ≡ true
@@ -58,19 +57,3 @@ module _ (zs : List ℤ) (n : ℕ) (counted : n ≡ job_count zs) where
   pub kind-none : None ≡ found_below n (first_packed zs) → 0 ≡ kind_for zs
   unfolding kind_for
   kind-none h = rw (← counted, le-ltb (first_packed zs) n (none-is n (first_packed zs) h))
-
--- In bytes.
-pub counted-in : (bytes : List ℕ) (n : ℕ) → Records bytes n → n ≡ job_count (numbers_of bytes)
-counted-in bytes n r = r.counted ∙ sym (numbers-count bytes)
-
-pub pack-in : (bytes : List ℕ) (n k : ℕ) → Records bytes n → k < n → (j : Job) → fields_of j ≡ job_fields bytes k
-    → the_pack (fields_at (numbers_of bytes) k) ≡ j.pack
-pack-in bytes n k r h j e = ap the_pack (fields-of-numbers bytes k (omega (arith, r.counted)) ∙ sym e)
-
--- In numbers.
-pub counted-given : (zs : List ℤ) (n : ℕ) → Whole zs n → n ≡ job_count zs
-counted-given zs n w = sym (whole-count zs n w.whole)
-
-pub pack-given : (zs : List ℤ) (k : ℕ) → the_pack (fields_at zs k) ≡ get_or zs (7 * k + 1) (pos 0)
-unfolding fields_at part
-pack-given zs k = get_or-take 7 (drop (7 * k) zs) 1 (pos 0) (omega arith) ∙ get_or-drop (7 * k) zs 1 (pos 0)

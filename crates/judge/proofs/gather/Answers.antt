@@ -1,46 +1,41 @@
 -- `judge::gather` meets its contract: a turn takes one job in.
 -- Assumes nothing.
-use mathlib.Core.Path.{◌≡◌, sym, ◌∙◌, subst}
+use Prim.Native.Nat.{◌≤◌, ◌<◌}
+use mathlib.Core.Path.{◌≡◌, refl, sym, ◌∙◌, subst}
 use native.Mathlib.Omega.{arith}
 use borrow.Author.Rules.{rules}
 use Rattle.std.proofs.Common.{Err}
-use Rattle.packed.specs.Packed.{numbers_of}
-use Rattle.packed.proofs.RefusalLaws.{header-fine}
-use Rattle.fields.specs.Facts.{header_read}
+use Rattle.packed.specs.Packed.{job_count}
 use Rattle.judge.specs.Verdicts.{Gathers}
-use Rattle.judge.specs.Gathering.{there-starts, there-room, there-turn, can-note, weight-light, passing-on, refused-here, passing-ends}
+use Rattle.judge.specs.Gathering.{Turn, passing-starts, passing-on, refused-here, passing-ends}
 use Rattle.judge.proofs.gather.Goals as goal
 
-pub header_at-header-requires : goal.header_at-header-requires
-header_at-header-requires c = ((header-fine c.args.bytes.now).0 c.requires.there).long
-
 pub loop-place-init : goal.loop-place-init
-loop-place-init c =
-    there-starts c.args.bytes.now c.requires.there c.header_at-header.result c.header_at-header.ensures c.requires.room
-
-pub job_by_kind-job-requires : goal.job_by_kind-job-requires
-job_by_kind-job-requires c =
-    record {
-      there = there-room c.args.bytes.now c.requires.there c.loop-place-test.true c.loop-place.invariant;
-      kinded = (header_read c.args.bytes.now c.header_at-header.result c.header_at-header.ensures).kind;
-    }
+loop-place-init g c =
+    let few : job_count (g.J.Jobs.numbers c.args.jobs.now) ≤ 48 = omega (arith, c.count-place-end.ensures.few, c.count-place-end.ensures.all) in
+    passing-starts (g.J.Jobs.numbers c.args.jobs.now) c.args.numbers.now few (search rules)
 
 -- The job that was read is the job at the place.
 pub returns-in_err-weight : goal.returns-in_err-weight
-returns-in_err-weight c =
+returns-in_err-weight g c =
+    let zs = g.J.Jobs.numbers c.args.jobs.now in
     let e : c.from_residual.result ≡ Err c.in_err-weight.field-0.0 = search rules in
-    let turn = there-turn c.args.bytes.now c.requires.there c.loop-place-test.true c.loop-place.invariant
-    c.job_by_kind-job.result c.job_by_kind-job.ensures in
-    subst (λ r. Gathers (numbers_of c.args.bytes.now) c.take_in.new.numbers r) (sym e)
-    (refused-here turn (sym c.take_in.ensures.goes ∙ c.in_err-weight.was))
+    let more : c.loop-place.place < job_count zs = omega (arith, c.loop-place-test.true, c.count-place-end.ensures.all) in
+    let turn : Turn zs c.loop-place.numbers c.loop-place.place c.loop-place.weight c.job.result =
+    record { more = more; read = c.job.ensures; before = c.loop-place.invariant } in
+    subst (λ r. Gathers zs c.take_in.new.numbers r) (sym e) (refused-here turn (sym c.take_in.ensures.goes ∙ c.in_err-weight.was))
 
 pub loop-place-preserved : goal.loop-place-preserved
-loop-place-preserved c =
-    let turn = there-turn c.args.bytes.now c.requires.there c.loop-place-test.true c.loop-place.invariant
-    c.job_by_kind-job.result c.job_by_kind-job.ensures in
+loop-place-preserved g c =
+    let zs = g.J.Jobs.numbers c.args.jobs.now in
+    let more : c.loop-place.place < job_count zs = omega (arith, c.loop-place-test.true, c.count-place-end.ensures.all) in
+    let turn : Turn zs c.loop-place.numbers c.loop-place.place c.loop-place.weight c.job.result =
+    record { more = more; read = c.job.ensures; before = c.loop-place.invariant } in
     passing-on turn (sym c.take_in.ensures.goes ∙ c.in_ok-weight.was) c.take_in.new.numbers c.take_in.ensures.notes
 
 pub returns : goal.returns
-returns c =
-    passing-ends (numbers_of c.args.bytes.now) c.loop-place.numbers c.header_at-header.result.count c.loop-place.place c.loop-place.weight (omega arith)
-    c.loop-place.invariant
+returns g c =
+    let zs = g.J.Jobs.numbers c.args.jobs.now in
+    let end : c.loop-place.place ≡ job_count zs =
+    omega (arith, c.loop-place-test.false, c.loop-place.auto.place-end, c.count-place-end.ensures.all) in
+    passing-ends zs c.loop-place.numbers c.loop-place.place c.loop-place.weight end c.loop-place.invariant

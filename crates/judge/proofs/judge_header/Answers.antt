@@ -24,6 +24,7 @@ use Rattle.fields.specs.Facts.{HeaderRead, header_read}
 use Rattle.fields.specs.Fields.{header_fields}
 use Rattle.fields.specs.declared.Header.{Header}
 use Rattle.judge.specs.Verdicts.{kind_judged}
+use Rattle.judge.specs.Kind.{records-stand}
 use Rattle.judge.specs.Told.{header-told}
 use Rattle.judge.proofs.judge_header.Goals as goal
 
@@ -116,17 +117,13 @@ returns-then-not-is_time c =
     c.if-bytes-lt4.false c.if-header-gt1.false c.if-header-gt-MOST_JOBS.false c.record_bytes.ensures c.if-bytes-record_bytes.false c.is_time.ensures in
     rw (c.into-then-not-is_time.ensures, l, c.if-not-is_time.true)
 
-pub judge_kind-requires : goal.judge_kind-requires
-judge_kind-requires c =
+pub invariant_of-judge_kind : goal.invariant_of-judge_kind
+invariant_of-judge_kind c =
     let bytes = c.args.bytes.now in
     let header = c.header_at-header.result in
     let r : HeaderRead c.args.bytes.now c.header_at-header.result = header_read bytes header c.header_at-header.ensures in
     record {
-      kind-is = r.kind;
-      count-is = r.count;
-      known = c.if-header-gt1.false;
-      few = c.if-header-gt-MOST_JOBS.false;
-      whole = rw (← r.kind, ← r.count)
+      stand = records-stand bytes header.count header.kind r.count r.kind c.if-header-gt1.false c.if-header-gt-MOST_JOBS.false
           (whole (length bytes) c.record_bytes.result header.kind header.count c.record_bytes.ensures c.if-bytes-record_bytes.false);
     }
 

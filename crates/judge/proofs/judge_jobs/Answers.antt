@@ -1,11 +1,12 @@
--- `judge::judge_jobs` meets its contract: the header's verdict, or that of the gathered jobs where it is fine.
+-- `judge::judge_jobs` meets its contract: the header's verdict, or that of the jobs where it is fine.
 -- Assumes nothing.
-use mathlib.Core.Path.{◌≡◌, refl, sym, ap, ◌∙◌}
+use mathlib.Core.Path.{◌≡◌, sym, ap, ◌∙◌}
 use borrow.Author.Rules.{rules}
 use Rattle.std.proofs.Common.{Err}
+use Rattle.packed.specs.Judge.{judge}
 use Rattle.packed.specs.Packed.{numbers_of}
 use Rattle.packed.specs.Refusals.{header_checks, job_checks}
-use Rattle.judge.specs.Told.{told-next, stays, jobs-told}
+use Rattle.judge.specs.Told.{told-next, stays}
 use Rattle.judge.proofs.judge_jobs.Goals as goal
 
 pub returns-in_err-judge_header : goal.returns-in_err-judge_header
@@ -14,19 +15,17 @@ returns-in_err-judge_header c =
     let bytes = c.args.bytes.now in
     e ∙ sym (stays (header_checks bytes) (job_checks (numbers_of bytes)) (sym c.judge_header.ensures ∙ c.in_err-judge_header.was))
 
-pub gather-requires : goal.gather-requires
-gather-requires c = record { there = sym c.judge_header.ensures ∙ c.in_ok-judge_header.was; room = refl }
-
-pub returns-in_err-jobs : goal.returns-in_err-jobs
-returns-in_err-jobs c =
-    let e : c.from_residual-in_err-jobs.result ≡ Err c.in_err-jobs.field-0.0 = search rules in
+pub returns-in_err-judge_each : goal.returns-in_err-judge_each
+returns-in_err-judge_each c =
+    let e : c.from_residual-in_err-judge_each.result ≡ Err c.in_err-judge_each.field-0.0 = search rules in
     let bytes = c.args.bytes.now in
+    let seen = ap (λ b. judge (job_checks (numbers_of b))) c.records_in.ensures in
     e ∙ sym (told-next (header_checks bytes) (job_checks (numbers_of bytes)) (sym c.judge_header.ensures ∙ c.in_ok-judge_header.was)
-    ∙ c.in_err-jobs.ensures)
+    ∙ sym seen ∙ c.in_err-judge_each.ensures)
 
 pub returns : goal.returns
 returns c =
     let bytes = c.args.bytes.now in
-    c.judge_repeats.ensures
-    ∙ sym (told-next (header_checks bytes) (job_checks (numbers_of bytes)) (sym c.judge_header.ensures ∙ c.in_ok-judge_header.was)
-    ∙ jobs-told (numbers_of bytes) c.gather.new.numbers c.in_ok-jobs.jobs c.in_ok-jobs.ensures)
+    let seen = ap (λ b. judge (job_checks (numbers_of b))) c.records_in.ensures in
+    sym (told-next (header_checks bytes) (job_checks (numbers_of bytes)) (sym c.judge_header.ensures ∙ c.in_ok-judge_header.was)
+    ∙ sym seen ∙ c.in_ok-judge_each.ensures.0)

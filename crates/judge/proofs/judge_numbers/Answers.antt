@@ -1,6 +1,6 @@
--- `judge::judge_numbers` meets its contract: the verdict of 3 to 5, or that of the gathered jobs where it is fine.
+-- `judge::judge_numbers` meets its contract: the verdict of 3 to 5, or that of the jobs where it is fine.
 -- Assumes nothing.
-use mathlib.Core.Path.{◌≡◌, refl, sym, ap, ◌∙◌}
+use mathlib.Core.Path.{◌≡◌, sym, ap, ◌∙◌}
 use mathlib.Core.List.{List}
 use lib.IntN.{ℤ}
 use mir.Syntax.{w32}
@@ -10,7 +10,7 @@ use borrow.Author.Rules.{rules}
 use Rattle.std.proofs.Common.{Err}
 use Rattle.packed.specs.Judge.{Verdict, judge}
 use Rattle.packed.specs.Refusals.{list_checks}
-use Rattle.judge.specs.Told.{given-told, first-refused, jobs-refused, repeats-refused, sum-left}
+use Rattle.judge.specs.Told.{given-told, first-refused, jobs-refused, sum-left}
 use Rattle.judge.proofs.judge_numbers.Goals as goal
 
 -- The verdict of 3 to 5.
@@ -24,31 +24,20 @@ returns-in_err-judge_list c =
     let zs = c.args.given.now in
     e ∙ sym (first-refused (list_checks c.args.t0 zs) zs 0 (list-says c.args.t0 zs c.ranges.t0 c.judge_list.ensures c.in_err-judge_list.was))
 
-pub gather_given-requires : goal.gather_given-requires
-gather_given-requires c =
+pub invariant_of-judge_each : goal.invariant_of-judge_each
+invariant_of-judge_each c =
     let zs = c.args.given.now in
-    let passed = list-says c.args.t0 zs c.ranges.t0 c.judge_list.ensures c.in_ok-judge_list.was in
-    record { there = given-told c.args.t0 zs passed; room = refl }
+    record { whole = given-told c.args.t0 zs (list-says c.args.t0 zs c.ranges.t0 c.judge_list.ensures c.in_ok-judge_list.was) }
 
-pub returns-in_err-jobs : goal.returns-in_err-jobs
-returns-in_err-jobs c =
-    let e : c.from_residual-in_err-jobs.result ≡ Err c.in_err-jobs.field-0.0 = search rules in
+pub returns-in_err-weight : goal.returns-in_err-weight
+returns-in_err-weight c =
+    let e : c.from_residual-in_err-weight.result ≡ Err c.in_err-weight.field-0.0 = search rules in
     let zs = c.args.given.now in
     let passed = list-says c.args.t0 zs c.ranges.t0 c.judge_list.ensures c.in_ok-judge_list.was in
-    e ∙ sym (jobs-refused (list_checks c.args.t0 zs) zs 0 passed c.in_err-jobs.ensures)
-
-pub returns-in_err-judge_repeats : goal.returns-in_err-judge_repeats
-returns-in_err-judge_repeats c =
-    let e : c.from_residual-in_err-judge_repeats.result ≡ Err c.in_err-judge_repeats.field-0.0 = search rules in
-    let zs = c.args.given.now in
-    let passed = list-says c.args.t0 zs c.ranges.t0 c.judge_list.ensures c.in_ok-judge_list.was in
-    e ∙ sym (repeats-refused (list_checks c.args.t0 zs) zs 0 passed c.gather_given.new.numbers c.in_ok-jobs.jobs c.in_ok-jobs.ensures
-    (sym c.judge_repeats.ensures ∙ c.in_err-judge_repeats.was))
+    e ∙ sym (jobs-refused (list_checks c.args.t0 zs) zs 0 passed c.in_err-weight.ensures)
 
 pub returns : goal.returns
 returns c =
     let zs = c.args.given.now in
     let passed = list-says c.args.t0 zs c.ranges.t0 c.judge_list.ensures c.in_ok-judge_list.was in
-    c.judge_sum.ensures
-    ∙ sym (sum-left (list_checks c.args.t0 zs) zs 0 passed c.gather_given.new.numbers c.in_ok-jobs.jobs c.in_ok-jobs.ensures
-    (sym c.judge_repeats.ensures ∙ c.in_ok-judge_repeats.was))
+    c.judge_sum.ensures ∙ sym (sum-left (list_checks c.args.t0 zs) zs 0 passed c.in_ok-weight.ensures)

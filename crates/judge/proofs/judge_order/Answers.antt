@@ -1,11 +1,12 @@
--- `judge::judge_order` meets its contract: the header's verdict, or that of the gathered jobs where it is fine.
+-- `judge::judge_order` meets its contract: the header's verdict, or that of the jobs where it is fine.
 -- Assumes nothing.
-use mathlib.Core.Path.{◌≡◌, refl, sym, ◌∙◌}
+use mathlib.Core.Path.{◌≡◌, sym, subst, ap, ◌∙◌}
 use borrow.Author.Rules.{rules}
-use Rattle.std.proofs.Common.{Err}
+use Rattle.std.proofs.Common.{Ok, Err}
 use Rattle.packed.specs.Packed.{numbers_of}
 use Rattle.packed.specs.Refusals.{header_checks}
-use Rattle.judge.specs.Told.{first-refused, jobs-refused, repeats-refused, sum-left}
+use Rattle.judge.specs.Verdicts.{JudgedEach}
+use Rattle.judge.specs.Told.{first-refused, jobs-refused, sum-left}
 use Rattle.judge.proofs.judge_order.Goals as goal
 
 pub returns-in_err-judge_header : goal.returns-in_err-judge_header
@@ -14,28 +15,17 @@ returns-in_err-judge_header c =
     let bytes = c.args.bytes.now in
     e ∙ sym (first-refused (header_checks bytes) (numbers_of bytes) c.args.before (sym c.judge_header.ensures ∙ c.in_err-judge_header.was))
 
-pub gather-requires : goal.gather-requires
-gather-requires c = record { there = sym c.judge_header.ensures ∙ c.in_ok-judge_header.was; room = refl }
-
-pub returns-in_err-jobs : goal.returns-in_err-jobs
-returns-in_err-jobs c =
-    let e : c.from_residual-in_err-jobs.result ≡ Err c.in_err-jobs.field-0.0 = search rules in
+pub returns-in_err-weight : goal.returns-in_err-weight
+returns-in_err-weight c =
+    let e : c.from_residual-in_err-weight.result ≡ Err c.in_err-weight.field-0.0 = search rules in
     let bytes = c.args.bytes.now in
     let passed = sym c.judge_header.ensures ∙ c.in_ok-judge_header.was in
-    e ∙ sym (jobs-refused (header_checks bytes) (numbers_of bytes) c.args.before passed c.in_err-jobs.ensures)
-
-pub returns-in_err-judge_repeats : goal.returns-in_err-judge_repeats
-returns-in_err-judge_repeats c =
-    let e : c.from_residual-in_err-judge_repeats.result ≡ Err c.in_err-judge_repeats.field-0.0 = search rules in
-    let bytes = c.args.bytes.now in
-    let passed = sym c.judge_header.ensures ∙ c.in_ok-judge_header.was in
-    e ∙ sym (repeats-refused (header_checks bytes) (numbers_of bytes) c.args.before passed c.gather.new.numbers c.in_ok-jobs.jobs
-    c.in_ok-jobs.ensures (sym c.judge_repeats.ensures ∙ c.in_err-judge_repeats.was))
+    let told = subst (λ b. JudgedEach (numbers_of b) (Err c.in_err-weight.field-0.0)) c.records_in.ensures c.in_err-weight.ensures in
+    e ∙ sym (jobs-refused (header_checks bytes) (numbers_of bytes) c.args.before passed told)
 
 pub returns : goal.returns
 returns c =
     let bytes = c.args.bytes.now in
     let passed = sym c.judge_header.ensures ∙ c.in_ok-judge_header.was in
-    c.judge_sum.ensures
-    ∙ sym (sum-left (header_checks bytes) (numbers_of bytes) c.args.before passed c.gather.new.numbers c.in_ok-jobs.jobs
-    c.in_ok-jobs.ensures (sym c.judge_repeats.ensures ∙ c.in_ok-judge_repeats.was))
+    let told = subst (λ b. JudgedEach (numbers_of b) (Ok c.in_ok-weight.weight)) c.records_in.ensures c.in_ok-weight.ensures in
+    c.judge_sum.ensures ∙ sym (sum-left (header_checks bytes) (numbers_of bytes) c.args.before passed told)

@@ -1,33 +1,37 @@
--- `kinds::first_packed` meets its contract. The loop's invariant: what is found is what is found from here on.
+-- `kinds::first_packed` meets its contract: a turn reads one job.
 -- Assumes nothing.
+use Prim.Native.Nat.{◌<◌}
+use mathlib.Core.Path.{◌≡◌, refl, sym, ap}
 use native.Mathlib.Omega.{arith}
 use mir.Syntax.{w32}
 use mir.Val.{SFits}
 use borrow.Author.Rules.{rules}
-use Rattle.packed.specs.Packed.{numbers_of}
-use Rattle.kinds.specs.KindsLaws.{search-starts, search-on, search-finds, search-ends, counted-in, pack-in}
+use Rattle.packed.specs.Packed.{job_count, the_pack}
+use Rattle.kinds.specs.KindsLaws.{search-starts, search-on, search-finds, search-ends}
 use Rattle.kinds.proofs.first_packed.Goals as goal
 
-pub loop-k-init : goal.loop-k-init
-loop-k-init c =
-    search-starts (numbers_of c.args.bytes.now) c.args.count (counted-in c.args.bytes.now c.args.count c.requires)
+pub loop-place-init : goal.loop-place-init
+loop-place-init g c = let zs = g.J.Jobs.numbers c.args.jobs.now in search-starts zs (job_count zs) refl
 
 pub returns-then-job-ne0 : goal.returns-then-job-ne0
-returns-then-job-ne0 c =
-    let read = c.job_in-job in
-    let bytes = c.args.bytes.now in
-    let fits : SFits w32 c.job_in-job.result.pack = search rules in
-    search-finds (numbers_of bytes) c.args.count (counted-in bytes c.args.count c.requires) c.loop-k.k c.loop-k-test.true c.loop-k.invariant
-    read.result.pack (pack-in bytes c.args.count c.loop-k.k c.requires c.loop-k-test.true read.result read.ensures) fits c.if-job-ne0.true
+returns-then-job-ne0 g c =
+    let zs = g.J.Jobs.numbers c.args.jobs.now in
+    let fits : SFits w32 c.job.result.pack = search rules in
+    let more : c.loop-place.place < job_count zs = omega (arith, c.loop-place-test.true, c.count-place-end.ensures.all) in
+    search-finds zs (job_count zs) refl c.loop-place.place more c.loop-place.invariant c.job.result.pack
+    (ap the_pack (sym c.job.ensures)) fits c.if-job-ne0.true
 
-pub loop-k-preserved : goal.loop-k-preserved
-loop-k-preserved c =
-    let read = c.job_in-job in
-    let bytes = c.args.bytes.now in
-    let fits : SFits w32 c.job_in-job.result.pack = search rules in
-    search-on (numbers_of bytes) c.args.count (counted-in bytes c.args.count c.requires) c.loop-k.k c.loop-k-test.true c.loop-k.invariant
-    read.result.pack (pack-in bytes c.args.count c.loop-k.k c.requires c.loop-k-test.true read.result read.ensures) fits c.if-job-ne0.false
+pub loop-place-preserved : goal.loop-place-preserved
+loop-place-preserved g c =
+    let zs = g.J.Jobs.numbers c.args.jobs.now in
+    let fits : SFits w32 c.job.result.pack = search rules in
+    let more : c.loop-place.place < job_count zs = omega (arith, c.loop-place-test.true, c.count-place-end.ensures.all) in
+    search-on zs (job_count zs) refl c.loop-place.place more c.loop-place.invariant c.job.result.pack
+    (ap the_pack (sym c.job.ensures)) fits c.if-job-ne0.false
 
 pub returns : goal.returns
-returns c =
-    search-ends (numbers_of c.args.bytes.now) c.args.count (counted-in c.args.bytes.now c.args.count c.requires) c.loop-k.k (omega arith) c.loop-k.invariant
+returns g c =
+    let zs = g.J.Jobs.numbers c.args.jobs.now in
+    let end : c.loop-place.place ≡ job_count zs =
+    omega (arith, c.loop-place-test.false, c.loop-place.auto.place-end, c.count-place-end.ensures.all) in
+    search-ends zs (job_count zs) refl c.loop-place.place end c.loop-place.invariant

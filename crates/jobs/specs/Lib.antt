@@ -1,0 +1,2 @@
+-- How the jobs of an order are held.
+pub mod Held
