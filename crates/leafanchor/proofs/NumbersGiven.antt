@@ -20,15 +20,15 @@ use Rattle.packed.specs.JudgeLaws.{every_number, number-passes}
 use Rattle.packed.specs.Refusals.{header_checks, list_checks, job_checks, weight_checks, halves_checks, unpack_checks, pack_checks}
 use Rattle.plan.specs.Plan.{Answer, plan_answer}
 use Rattle.heat.specs.Heat.{heat_up}
-use Rattle.heat.specs.Answer.{refusal_of as heat_refusal, heating, heating_of}
+use Rattle.heat.specs.Answer.{refusal_of as heat_refusal, heating}
 use Rattle.unpack.specs.Answer.{unpacked_by, unpack_of}
 use Rattle.pack.specs.Answer.{packed_by, pack_of}
 use Rattle.reader.specs.Reading.{opened_by, open_of, open_refusal, step_checks, stepped_by, step_of, read_refusal}
 use Rattle.order.specs.Job.{Point}
-use Rattle.profile.specs.Profile.{lookup}
+use Rattle.profile.specs.Profile.{lookup as last_by}
 use Rattle.profiles.specs.Numbers.{most_numbers, profile_in}
-use Rattle.profiles.specs.Answer.{finding_of, finding_in, lookup_of, lookup_refusal}
-use Rattle.better.specs.Answer.{better_in, joined_in, joined_of, join_refusal}
+use Rattle.profiles.specs.Answer.{finding_of, finding_in, lookup_refusal}
+use Rattle.better.specs.Answer.{better_in, joined_in, join_refusal}
 use Rattle.extending.specs.Calls.{extend_judged, extend_checks, extension, extended_by, extended_of, extend_refusal}
 use Rattle.planner.specs.Calls.{plan_checks, planned_by, planned_of, plan_numbers}
 use Rattle.halves.specs.Calls.{plan_halves_checks, with_seconds, lost_seconds, halves_of, halves_numbers}
@@ -107,7 +107,7 @@ found-low (some p) = tt
 
 lookup-low : (o : Option (List Point)) (t : ℤ) → T (low (lookup_refusal (finding_in o t)))
 lookup-low none t = tt
-lookup-low (some ps) t = found-low (lookup ps t)
+lookup-low (some ps) t = found-low (last_by ps t)
 
 better-low : (o : Option (List Point)) (room : ℕ) → T (low (join_refusal (joined_in o room)))
 better-low none room = tt
