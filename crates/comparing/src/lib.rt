@@ -31,7 +31,7 @@ pub fn leaves(work: &[i32], number: i32) -> bool {
     all_are(front(work, AREA), number) & (at(work, AREA) == MARK)
 }
 
-// What the work area must hold after a call that may be refused: it stays where it is.
+// What the work area must hold after a call that may be refused: it stays where it is. A number, as the judge by hand tells it.
 pub fn held_after(refusal: u32) -> i32 {
     if refusal != 0 {
         return MARK;
@@ -39,7 +39,7 @@ pub fn held_after(refusal: u32) -> i32 {
     0
 }
 
-// The refusal by whether an order has a choice that may be run, 0 for none.
+// The refusal by whether an order has a choice that may be run, 0 for none. A number, as the judge by hand tells it.
 pub fn no_choice(found: bool) -> u32 {
     if found {
         return 0;
