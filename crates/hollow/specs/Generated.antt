@@ -33,8 +33,8 @@ use Rattle.reader_struct.specs.Standing.{seen}
 use Rattle.reader_struct.specs.declared.Begun.{Begun}
 use Rattle.reader_struct.specs.declared.Stepped.{Stepped}
 use Rattle.reader_struct.specs.declared.Reading.{Reading}
-use Rattle.reader_struct.specs.contracts.open as begin
-use Rattle.reader_struct.specs.contracts.step as reader-step
+use Rattle.reader_struct.specs.contracts.Reader.open as begin
+use Rattle.reader_struct.specs.contracts.Reader.step as reader-step
 use Rattle.reader_struct.specs.contracts.read_at as read_at
 use Rattle.reader_struct.proofs.read_at.Reads as read-at-reads
 use Rattle.reader_struct.proofs.Determined as readers
