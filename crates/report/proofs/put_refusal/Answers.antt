@@ -4,7 +4,6 @@ use borrow.Author.Rules.{rules}
 use Rattle.text.specs.Buffer.{Wrote}
 use Rattle.text.specs.WritingLaws.{writes-more}
 use Rattle.report.specs.Report.{refusal_line}
-use Rattle.report.specs.Report.{refusal_line}
 use Rattle.report.specs.WritingLaws.{refusal-line}
 use Rattle.report.proofs.put_refusal.Goals as goal
 
