@@ -42,9 +42,10 @@ pub fn put_refusal(out: &mut [u8], refusal: Refusal) -> usize
     requires { CanRefuse refusal out.old }
     ensures { Wrote out.old 0 (refusal_line refusal) out.new result }
 {
+    let field = refusal.figure();
     let mut text = Writer { out, at: 0 };
     put_front(&mut text, refusal.number(), refusal.place() as u32);
-    text.figure(refusal.figure(), NEWLINE);
+    text.figure(field, NEWLINE);
     text.at
 }
 
