@@ -42,11 +42,11 @@ use Rattle.report.specs.contracts.report as report
 use Rattle.report.proofs.report.Reads as report-reads
 use Rattle.heat.specs.contracts.heat_up as heat-up
 use Rattle.heat.proofs.heat_up.Reads as heat-up-reads
-use Rattle.planner.specs.declared.Planned.{Planned}
-use Rattle.extending.specs.declared.Extended.{Extended}
+use Rattle.planner.specs.Calls.{Planned}
+use Rattle.extending.specs.Calls.{Extended}
 use Rattle.planner.specs.contracts.plan as plan
 use Rattle.planner.proofs.plan.Reads as plan-reads
-use Rattle.halves.specs.declared.HalvesPlanned.{HalvesPlanned}
+use Rattle.halves.specs.Calls.{HalvesPlanned}
 use Rattle.halves.specs.contracts.plan_halves as plan-halves
 use Rattle.halves.proofs.plan_halves.Reads as plan-halves-reads
 use Rattle.extending.specs.contracts.extend as extend
@@ -60,7 +60,7 @@ use Rattle.openings.specs.contracts.choose as choose
 use Rattle.openings.proofs.choose.Reads as choose-reads
 use Rattle.openings.specs.contracts.choose_first as choose-first
 use Rattle.openings.proofs.choose_first.Reads as choose-first-reads
-use Rattle.checking.specs.declared.Checked.{Checked}
+use Rattle.checking.specs.Calls.{Checked}
 use Rattle.checking.specs.contracts.legal as legal
 use Rattle.checking.proofs.legal.Reads as legal-reads
 use Rattle.best_plan.specs.contracts.best as best

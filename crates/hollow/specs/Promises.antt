@@ -27,24 +27,16 @@ use Rattle.reader_struct.specs.declared.Reader.{Reader}
 use Rattle.reader_struct.specs.declared.Stepped.{Stepped}
 use Rattle.reader_struct.specs.declared.Reading.{Reading}
 use Rattle.heat.specs.Answer.{heating_of}
-use Rattle.planner.specs.Calls.{planned_of, starts_after, plan_work_after, PlanCall}
-use Rattle.extending.specs.Calls.{extended_of, out_after, extend_work_after, ExtendCall}
-use Rattle.planner.specs.declared.Planned.{Planned}
-use Rattle.planner.specs.declared.Planned.TheVariants as planned
-use Rattle.halves.specs.Calls.{halves_of, halves_starts_after, halves_work_after, HalvesCall}
-use Rattle.halves.specs.declared.HalvesPlanned.{HalvesPlanned}
-use Rattle.halves.specs.declared.HalvesPlanned.TheVariants as halved
-use Rattle.extending.specs.declared.Extended.{Extended}
-use Rattle.extending.specs.declared.Extended.TheVariants as extended
+use Rattle.planner.specs.Calls.{Planned, planned_of, starts_after, plan_work_after, PlanCall}
+use Rattle.extending.specs.Calls.{Extended, extended_of, out_after, extend_work_after, ExtendCall}
+use Rattle.halves.specs.Calls.{HalvesPlanned, halves_of, halves_starts_after, halves_work_after, HalvesCall}
 use Rattle.ties.specs.Winning.{TieRule}
 use Rattle.choosing.specs.Choosing.{chosen_of, work_after, part_of, place_of, Handed}
 use Rattle.ties.specs.declared.Chosen.{Chosen}
 use Rattle.ties.specs.declared.Chosen.TheVariants as chosen
 use Rattle.openings.specs.Answer.{answer_of, Questioned}
 use Rattle.openings.specs.declared.Answer.{Answer}
-use Rattle.checking.specs.Calls.{legal_of}
-use Rattle.checking.specs.declared.Checked.{Checked}
-use Rattle.checking.specs.declared.Checked.TheVariants as checked
+use Rattle.checking.specs.Calls.{Checked, legal_of}
 use Rattle.best_plan.specs.Calls.{best_of, best_work_after, BestCall}
 use Rattle.plan_writer.specs.Calls.{written_of, out_after as written_after, write_work_after, WriteCall}
 use Rattle.report.specs.Report.{printed}
@@ -57,16 +49,16 @@ use Rattle.hollow.specs.Contract.{Contract, answering, writing, over}
 -- ---- which answers are refusals
 
 abbrev plan_refused : Planned → Bool
-plan_refused (planned.Refused r) = true
-plan_refused (planned.Made f) = false
+plan_refused (Err r) = true
+plan_refused (Ok f) = false
 
 abbrev halves_refused : HalvesPlanned → Bool
-halves_refused (halved.Refused r) = true
-halves_refused (halved.Made f s) = false
+halves_refused (Err r) = true
+halves_refused (Ok p) = false
 
 abbrev extend_refused : Extended → Bool
-extend_refused (extended.Refused r) = true
-extend_refused (extended.Points n) = false
+extend_refused (Err r) = true
+extend_refused (Ok n) = false
 
 abbrev join_refused : Joined → Bool
 join_refused (Err r) = true
@@ -107,8 +99,8 @@ question_refused chosen.First = false
 question_refused chosen.Second = false
 
 abbrev check_refused : Checked → Bool
-check_refused (checked.Refused r) = true
-check_refused (checked.Answered b) = false
+check_refused (Err r) = true
+check_refused (Ok b) = false
 
 -- ---- planning and profiles
 

@@ -21,7 +21,8 @@ use Rattle.pack.specs.Answer.{refusal_of as pack_refusal}
 use Rattle.reader.specs.Reading.{opened_by, open_refusal, place_check, step_checks, stepped_by, read_refusal}
 use Rattle.profiles.specs.Numbers.{most_numbers}
 use Rattle.area.specs.Area.{area}
-use Rattle.extending.specs.Calls.{profile_checks, extend_judged, extend_checks, extension, extended_by, extend_refusal}
+use Rattle.packed.specs.Judge.{refusal_of as extend_refusal}
+use Rattle.extending.specs.Calls.{profile_checks, extend_judged, extend_checks, extension, extended_by}
 use Rattle.planner.specs.Calls.{plan_checks, planned_by, plan_numbers}
 use Rattle.halves.specs.Calls.{plan_halves_checks, with_seconds, lost_seconds, halves_numbers}
 use Rattle.plan_writer.specs.Calls.{plan_room, write_checks, written_by}

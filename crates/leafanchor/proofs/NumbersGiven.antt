@@ -29,7 +29,8 @@ use Rattle.profile.specs.Profile.{lookup}
 use Rattle.profiles.specs.Numbers.{most_numbers, profile_in}
 use Rattle.profiles.specs.Answer.{finding_of, finding_in, lookup_of, lookup_refusal}
 use Rattle.better.specs.Answer.{better_in, joined_in, joined_of, join_refusal}
-use Rattle.extending.specs.Calls.{extend_judged, extend_checks, extension, extended_by, extended_of, extend_refusal}
+use Rattle.packed.specs.Judge.{refusal_of as extend_refusal}
+use Rattle.extending.specs.Calls.{extend_judged, extend_checks, extension, extended_by, extended_of}
 use Rattle.planner.specs.Calls.{plan_checks, planned_by, planned_of, plan_numbers}
 use Rattle.halves.specs.Calls.{plan_halves_checks, with_seconds, lost_seconds, halves_of, halves_numbers}
 use Rattle.plan_writer.specs.Calls.{write_checks, written_by, written_of}

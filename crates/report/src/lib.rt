@@ -11,7 +11,7 @@ ghost use Rattle.report.specs.Writing.{front_words, kept_words, CanRefuse, CanLi
 use area::AREA;
 use fields::{header_at, job_in};
 use packed::Refusal;
-use planner::{Figures, Planned, plan};
+use planner::{Figures, plan};
 use starting::LEFT_OUT;
 use text::Writer;
 
@@ -43,8 +43,8 @@ pub fn put_refusal(out: &mut [u8], refusal: Refusal) -> usize
     ensures { Wrote out.old 0 (refusal_line refusal) out.new result }
 {
     let mut text = Writer { out, at: 0 };
-    put_front(&mut text, refusal.number, refusal.place as u32);
-    text.figure(refusal.field, NEWLINE);
+    put_front(&mut text, refusal.number(), refusal.place() as u32);
+    text.figure(refusal.figure(), NEWLINE);
     text.at
 }
 
@@ -122,8 +122,8 @@ fn plan_and_tell(bytes: &[u8], starts: &mut [i32], work: &mut [i32], out: &mut [
     ensures { Wrote out.old 0 (report_of bytes.now) out.new result }
 {
     match plan(bytes, starts, work) {
-        Planned::Refused(refusal) => put_refusal(out, refusal),
-        Planned::Made(figures) => tell_plan(bytes, figures, starts, out),
+        Ok(figures) => tell_plan(bytes, figures, starts, out),
+        Err(refusal) => put_refusal(out, refusal),
     }
 }
 
