@@ -28,6 +28,18 @@ pub fn says(refusal: Refusal, reason: Reason, place: usize) -> bool {
     refusal.number() == reason.number() && refusal.place() == place && refusal.figure() == 0
 }
 
+// Whether a call's answer is the one expected; a refusal is at no place.
+pub fn answers<T: Copy + PartialEq>(
+    answer: Result<T, Refusal>,
+    expected: Result<T, Reason>,
+) -> bool {
+    match (answer, expected) {
+        (Ok(given), Ok(wanted)) => given == wanted,
+        (Err(refusal), Err(reason)) => says(refusal, reason, 0),
+        _ => false,
+    }
+}
+
 // Whether a call left the work area as it should, full of one number, and what is past it as it was.
 pub fn leaves(work: &[i32], number: i32) -> bool {
     all_are(front(work, AREA), number) && at(work, AREA) == MARK

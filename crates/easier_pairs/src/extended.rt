@@ -2,10 +2,7 @@
 // them apart, the second extended one keeps no less.
 use careful::{front, plus};
 use comparing::{MARK, count};
-use extending::Extended;
 use packed::Refusal;
-use profiles::Finding;
-use refusals::Reason;
 
 // A time past the last of every profile.
 const PAST_ALL: i32 = 150_000;
@@ -33,35 +30,18 @@ pub fn numbers_of(points: usize) -> usize {
     2 * points.min(POINTS)
 }
 
-// How many points extending wrote, or why it refused.
-fn points_of(answer: Extended) -> Result<usize, Refusal> {
-    match answer {
-        Extended::Refused(refusal) => Err(refusal),
-        Extended::Points(points) => Ok(points),
-    }
-}
-
 // A profile extended by an order.
 fn extend<'a>(profile: &[i32], order: &[u8], out: &'a mut [i32]) -> Result<&'a [i32], Refusal> {
     let mut work = [MARK; 14_750];
-    let points = points_of(extending::extend(profile, order, out, &mut work))?;
+    let points = extending::extend(profile, order, out, &mut work)?;
     Ok(front(out, numbers_of(points)))
-}
-
-// The weight that a lookup finds, if any, in a profile that is valid.
-fn weight_of(finding: Finding) -> Result<Option<u32>, Reason> {
-    match finding {
-        Finding::NotValid => Err(Reason::ProfileNotValid),
-        Finding::Found(weight) => Ok(Some(weight)),
-        Finding::NotFound => Ok(None),
-    }
 }
 
 impl Seen {
     // Looks two profiles up at a time. Nothing found is less than any weight.
     fn look(&mut self, one: &[i32], other: &[i32], t: i32) {
-        let before = weight_of(profiles::lookup(one, t));
-        let after = weight_of(profiles::lookup(other, t));
+        let before = profiles::lookup(one, t);
+        let after = profiles::lookup(other, t);
         count(&mut self.lookups, true);
         match (before, after) {
             (Ok(before), Ok(after)) => {

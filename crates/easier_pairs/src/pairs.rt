@@ -3,8 +3,7 @@
 use crate::counts::Run;
 use crate::extended::{Refused, Seen, compare_extended, numbers_of};
 use crate::plans::plan_of;
-use better::Joined;
-use careful::{front, front_bytes, more};
+use careful::{front, more};
 use comparing::{MARK, count, pack_order, records_kind, says};
 use packed::Refusal;
 use refusals::Reason;
@@ -29,9 +28,8 @@ const NO_PROFILE: usize = 1;
 
 // An order packed.
 fn packed_in<'a>(order: Order, room: &'a mut [u8]) -> Packed<'a> {
-    let size = pack_order(order.t0, order.numbers, room);
     Packed {
-        bytes: front_bytes(room, size),
+        bytes: pack_order(order.t0, order.numbers, room),
         t0: order.t0,
     }
 }
@@ -39,8 +37,7 @@ fn packed_in<'a>(order: Order, room: &'a mut [u8]) -> Packed<'a> {
 // Whether a drawn profile may be refused, if it is: it may not be valid, or too heavy.
 fn may_be(refusal: Option<Refusal>) -> bool {
     refusal.is_none_or(|refusal| {
-        says(refusal, Reason::ProfileNotValid.number(), 0)
-            || says(refusal, Reason::TooMuchWeight.number(), 0)
+        says(refusal, Reason::ProfileNotValid, 0) || says(refusal, Reason::TooMuchWeight, 0)
     })
 }
 
@@ -87,11 +84,11 @@ impl Run {
 }
 
 // How many numbers better-of wrote; where a profile is not valid, as many as no profile has.
-fn joined_size(answer: Joined) -> usize {
+fn joined_size(answer: Result<usize, Reason>) -> usize {
     match answer {
-        Joined::NotValid => NO_PROFILE,
-        Joined::NoRoom => 0,
-        Joined::Points(points) => numbers_of(points),
+        Ok(points) => numbers_of(points),
+        Err(Reason::ProfileNotValid) => NO_PROFILE,
+        Err(_) => 0,
     }
 }
 

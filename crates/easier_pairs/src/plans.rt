@@ -2,29 +2,21 @@
 use crate::counts::Run;
 use comparing::{MARK, count, says};
 use packed::Refusal;
-use planner::{Figures, Planned};
+use planner::Figures;
 use refusals::Reason;
-
-// The figures of a plan, or why there is none.
-fn figures_of(answer: Planned) -> Result<Figures, Refusal> {
-    match answer {
-        Planned::Refused(refusal) => Err(refusal),
-        Planned::Made(figures) => Ok(figures),
-    }
-}
 
 // The plan of an order.
 pub fn plan_of(order: &[u8]) -> Result<Figures, Refusal> {
     let mut starts = [MARK; 12];
     let mut work = [MARK; 14_750];
-    figures_of(planner::plan(order, &mut starts, &mut work))
+    planner::plan(order, &mut starts, &mut work)
 }
 
 // Whether there is a plan, or none since no choice may be run.
 fn is_known(plan: Result<Figures, Refusal>) -> bool {
     match plan {
         Ok(_) => true,
-        Err(refusal) => says(refusal, Reason::NoFeasibleChoice.number(), 0),
+        Err(refusal) => says(refusal, Reason::NoFeasibleChoice, 0),
     }
 }
 

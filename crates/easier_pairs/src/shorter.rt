@@ -3,7 +3,7 @@
 use crate::counts::Run;
 use crate::pairs::{Order, compare_orders};
 use crate::plans::plan_of;
-use careful::{count_of, front_bytes, number_of};
+use careful::{count_of, number_of};
 use comparing::{pack_order, write_count, write_figure};
 use planner::Figures;
 use trial_orders::kind_of;
@@ -44,8 +44,8 @@ fn write_line(length: u64, figures: Figures) {
 // Writes what the plan of the morning comes to with job 12 of a length.
 pub fn write_morning(length: u64) {
     let mut space = [0; 94];
-    let size = pack_order(FREE, &morning(length), &mut space);
-    if let Ok(figures) = plan_of(front_bytes(&space, size)) {
+    let order = pack_order(FREE, &morning(length), &mut space);
+    if let Ok(figures) = plan_of(order) {
         write_line(length, figures);
     }
 }
