@@ -1,17 +1,22 @@
 -- The question on two openings and the one that asks only who wins.
 use Rattle.std.specs.Prelude.{ℕ, ◌≡◌, refl, List, ◌↔◌, ℤ, Ok, Err}
 use Rattle.std.proofs.Common.{ap, sym, ◌∙◌}
+use Rattle.packed.specs.Judge.{refusal_of}
 use Rattle.ties.specs.Winning.{Chosen, TieRule}
 use Rattle.choosing.specs.Choosing.{Asked, kind_won}
 use Rattle.openings.specs.Answer.{Answer, chosen_in, kind_told, with_kind, Questioned}
 
 module _ (first second : List ℕ) where
-  -- Who wins is told as it is, and with it the kind of the winner's records.
-  chosen-told : (c : Chosen) → chosen_in (with_kind first second c) ≡ c
+  -- Who wins is told as it is, or the refusal, and with it the kind of the winner's records.
+  pub chosen-told : (c : Chosen) → chosen_in (with_kind first second c) ≡ c
   chosen-told (Err r) = refl
   chosen-told (Ok w) = refl
 
-  kind-told : (c : Chosen) → kind_told (with_kind first second c) ≡ kind_won c first second
+  pub refusal-told : (c : Chosen) → refusal_of (with_kind first second c) ≡ refusal_of c
+  refusal-told (Err r) = refl
+  refusal-told (Ok w) = refl
+
+  pub kind-told : (c : Chosen) → kind_told (with_kind first second c) ≡ kind_won c first second
   kind-told (Err r) = refl
   kind-told (Ok w) = refl
 
