@@ -3,8 +3,7 @@ use Rattle.std.specs.Prelude.{ℕ, ◌+◌, ◌≤◌, ◌≡◌, Bool, true, Li
 use Rattle.packed.specs.declared.Refusal.{Refusal}
 use Rattle.area.specs.Area.{area, cleared}
 use Rattle.planner.specs.declared.Figures.{Figures}
-use Rattle.planner.specs.declared.Planned.{Planned}
-use Rattle.planner.specs.declared.Planned.TheVariants.{Refused, Made}
+use Rattle.planner.specs.Calls.{Planned, Refused, Made}
 use Rattle.sheet.specs.Sheet.{figure_count, most_orders, orders, sheet_in, sheet_over, fits}
 use Rattle.sheet.specs.Answered.{with_order}
 

@@ -17,8 +17,7 @@ use Rattle.area.specs.Clearing.{cleared-behind}
 use Rattle.filling.specs.After.{work_by}
 use Rattle.planner.specs.Calls.{plan_verdict, planned_by, planned_of, plan_work_after}
 use Rattle.planner.specs.declared.Figures.{Figures}
-use Rattle.planner.specs.declared.Planned.{Planned}
-use Rattle.planner.specs.declared.Planned.TheVariants.{Refused, Made}
+use Rattle.planner.specs.Calls.{Planned, Refused, Made}
 use Rattle.sheet.specs.Sheet.{Sheet, most_orders, orders, feasible, one_order, join, numbers_of, sheet_in, sheet_over, is_sheet}
 use Rattle.sheet.specs.Answered.{answered, with_order}
 use Rattle.sheet.specs.Joining.{CanJoin}

@@ -4,7 +4,7 @@
 
 ghost use Rattle.std.specs.Prelude.{◌≡◌, ◌≤◌, length};
 ghost use Rattle.area.specs.Area.{cleared};
-ghost use Rattle.planner.specs.declared.Planned.TheVariants.{Refused, Made};
+ghost use Rattle.planner.specs.Calls.{Refused, Made};
 ghost use Rattle.sheet.specs.Sheet.{figure_count, one_order, numbers_of, sheet_in, sheet_over};
 ghost use Rattle.sheet.specs.Answered.{with_order};
 ghost use Rattle.adding.specs.Calls.{takes_one, AddCall};
@@ -12,7 +12,7 @@ ghost use Rattle.adding.specs.Adding.{CanAdd, Added, Numbered, Light, Countable}
 
 use area::{AREA, clear};
 use packed::Refusal;
-use planner::{Figures, Planned, plan};
+use planner::{Figures, plan};
 use refusals::Reason;
 use sheet::{FEASIBLE, FIGURES, JOBS, KEPT, MOST, OFFERED, TOP, is_sheet, join_into, none};
 
@@ -26,7 +26,7 @@ fn one_refused(refusal: Refusal) -> [u32; FIGURES]
 {
     let mut one = none();
     one[0] = 1;
-    one[refusal.number as usize] = 1;
+    one[refusal.number() as usize] = 1;
     one
 }
 
@@ -46,13 +46,13 @@ fn one_made(figures: Figures) -> [u32; FIGURES]
 }
 
 // The sheet of one order, by what planning says of it.
-fn one_order(planned: Planned) -> [u32; FIGURES]
+fn one_order(planned: Result<Figures, Refusal>) -> [u32; FIGURES]
     requires { Countable planned }
     ensures { result ≡ numbers_of (one_order planned) }
 {
     match planned {
-        Planned::Refused(refusal) => one_refused(refusal),
-        Planned::Made(figures) => one_made(figures),
+        Ok(figures) => one_made(figures),
+        Err(refusal) => one_refused(refusal),
     }
 }
 

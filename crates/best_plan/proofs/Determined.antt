@@ -3,7 +3,7 @@ use mathlib.Core.List.{List}
 use contract.Lifetimes.{Lfts}
 use lib.IntN.{ℤ}
 use Rattle.seconds.specs.Determined.{Determines, determined, two}
-use Rattle.checking.specs.declared.Checked.{Checked}
+use Rattle.checking.specs.Calls.{Checked}
 use Rattle.best_plan.specs.Calls.{best_of, best_work_after}
 use Rattle.best_plan.proofs.best.Reads as best
 

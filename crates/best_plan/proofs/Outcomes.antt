@@ -17,10 +17,9 @@ use Rattle.packed.specs.Packed.{count_of, numbers_of, order_of}
 use Rattle.packed.specs.Refusals.{header_checks, order_checks}
 use Rattle.packed.proofs.RefusalPlaces.{BadField, RefusalIs}
 use Rattle.area.specs.Area.{area, cleared}
-use Rattle.checking.specs.Calls.{legal_checks, checked_numbers}
+use Rattle.checking.specs.Calls.{Checked, legal_checks, checked_numbers}
 use Rattle.checking.specs.Judged.{NotWhole, SetBits}
 use Rattle.checking.specs.Answers.{LegalIn}
-use Rattle.checking.specs.declared.Checked.{Checked}
 use Rattle.best_plan.specs.Calls.{best_checks}
 use Rattle.best_plan.specs.Answers.{BestIn, told_no, best-yes, best-passed, illegal-no, hopeless-no}
 use Rattle.best_plan.specs.Answers.{best-refusal, best-six, best-ten, best-fourteen, best-fifteen, best-never}

@@ -1,6 +1,6 @@
 -- Best stage by stage, as the code goes through it: each refusal, the verdict by legality and by weight, and what is left when all
 -- checks are passed.
-use Rattle.std.specs.Prelude.{ℕ, ◌≤◌, ◌<◌, ◌≡◌, Bool, true, false, ◌&&◌, List, ℤ, length, drop}
+use Rattle.std.specs.Prelude.{ℕ, ◌≤◌, ◌<◌, ◌≡◌, Bool, true, false, ◌&&◌, List, ℤ, length, drop, Ok, Err}
 use Rattle.std.proofs.Common.{sym, ap, ◌∙◌, lt-ltb, le-ltb}
 use Rattle.std.proofs.Math.Option.{Option}
 use Rattle.seconds.specs.Limits.{latest_free}
@@ -13,16 +13,13 @@ use Rattle.packed.proofs.Accepted.{order-within}
 use Rattle.packed_plan.specs.Plan.{mask_bytes, mask_in, kept_in}
 use Rattle.fields.specs.Facts.{HeaderRead}
 use Rattle.fields.specs.declared.Header.{Header}
-use Rattle.judge.specs.Verdicts.{verdict_of}
-use Rattle.judge.specs.Told.{refusal-told, stays, told-next}
-use Rattle.judge.specs.declared.Verdict.TheVariants.{Refused as Stopped}
+use Rattle.judge.specs.Told.{stays, told-next}
 use Rattle.legal.specs.Legal.{weight_kept, is_best}
 use Rattle.area.specs.Area.{area, cleared}
 use Rattle.area.specs.Clearing.{cleared-same}
 use Rattle.weighing.specs.Weighing.{CanWeigh}
 use Rattle.checking.specs.Calls.{legal_checks, legal_in}
 use Rattle.checking.specs.CallLaws.{order-passed, order-accepted, plan-accepted}
-use Rattle.checking.specs.declared.Checked.TheVariants.{Refused, Answered}
 use Rattle.best_plan.specs.Calls.{best_checks, best_verdict, best_in, BestCall}
 use Rattle.best_plan.specs.Weights.{weight_under, CanSum, not_above, CanWeighPlan, most_in}
 use Rattle.best_plan.specs.Most.{most-told}
@@ -79,14 +76,13 @@ legal-then order plan e t m = m ∙ ap (λ (b : Bool). b && most_in order plan) 
 
 module _ (order plan : List ℕ) (work : List ℤ) where
   -- A refusal leaves the work area as it was.
-  by-verdict : {r : Refusal} → best_verdict order plan work ≡ refused r → BestCall order plan work (Refused r) work
+  by-verdict : {r : Refusal} → best_verdict order plan work ≡ refused r → BestCall order plan work (Err r) work
   by-verdict e = record { answer = rw e; area = rw e }
 
   -- By the checks of order and plan,
-  pub best-stopped : (r : Refusal) → verdict_of (judge (legal_checks order plan)) ≡ Stopped r
-      → BestCall order plan work (Refused r) work
+  pub best-stopped : {r : Refusal} → judge (legal_checks order plan) ≡ refused r → BestCall order plan work (Err r) work
   unfolding best_checks
-  best-stopped r e = by-verdict (stays (legal_checks order plan) (room_checks area (length work)) (refusal-told _ r e))
+  best-stopped e = by-verdict (stays (legal_checks order plan) (room_checks area (length work)) e)
 
   module _ (passed : judge (legal_checks order plan) ≡ fine) where
     room-told : best_verdict order plan work ≡ judge (room_checks area (length work))
@@ -94,12 +90,12 @@ module _ (order plan : List ℕ) (work : List ℤ) where
     room-told = told-next (legal_checks order plan) (room_checks area (length work)) passed
 
     -- or by the work area.
-    pub no_room : length work < area → BestCall order plan work (Refused (plainly 10)) work
+    pub no_room : length work < area → BestCall order plan work (Err (plainly 10)) work
     no_room h = by-verdict {r = plainly 10} (room-told ∙ rw (lt-ltb (length work) area h))
 
     -- Past all of them the verdict is told, and the work area cleared.
     pub best-told : {yes : Bool} {end : List ℤ} (left : List ℤ) → area ≤ length work → yes ≡ best_in order plan
-        → drop area left ≡ drop area work → end ≡ cleared left → BestCall order plan work (Answered yes) end
+        → drop area left ≡ drop area work → end ≡ cleared left → BestCall order plan work (Ok yes) end
     best-told left h e past c =
         let fit : best_verdict order plan work ≡ fine = room-told ∙ rw (le-ltb (length work) area h) in
-        record { answer = rw fit (ap Answered e); area = rw fit (c ∙ cleared-same work left past) }
+        record { answer = rw fit (ap (λ (b : Bool). Ok b) e); area = rw fit (c ∙ cleared-same work left past) }

@@ -6,8 +6,7 @@ use Rattle.packed.specs.Packed.{count_of, order_of}
 use Rattle.packed.specs.Refusals.{room_checks}
 use Rattle.packed_plan.specs.Plan.{kept_in, starts_in}
 use Rattle.legal.specs.Legal.{is_best}
-use Rattle.checking.specs.Calls.{legal_checks, checked_by}
-use Rattle.checking.specs.declared.Checked.{Checked}
+use Rattle.checking.specs.Calls.{Checked, legal_checks, checked_by}
 use Rattle.area.specs.Area.{area}
 use Rattle.filling.specs.After.{work_by}
 

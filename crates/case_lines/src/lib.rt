@@ -8,8 +8,8 @@ mod told;
 
 pub use given::{make_order, make_profile};
 pub use lines::{
-    between, call_of, count_setting, is_case, part, past, place_of, place_setting, read_bytes,
-    read_numbers, read_sizes, setting,
+    call_of, count_setting, is_case, part, place_setting, read_bytes, read_numbers, read_sizes,
+    setting,
 };
 pub use told::{
     put, put_buffer, put_bytes, put_count, put_moved, put_name, put_opened, put_part, put_refusal,

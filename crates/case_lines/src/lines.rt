@@ -1,198 +1,121 @@
-// Reads a case: the parts of its line and the numbers in them. Every text and every place has an
-// answer, so that the program carries no bounds.
-ghost use Rattle.std.specs.Prelude.{◌+◌, ◌≤◌, min, length};
+// Reads a case: the parts of its line and the numbers in them. Every text has an answer, so that the program
+// carries no bounds.
 
-use careful::put;
-
-// The byte at a place, a space past the end.
-pub fn byte_at(text: &[u8], place: usize) -> u8 {
-    if place < text.len() {
-        return text[place];
+// The text in front of the first such byte, all of it where there is none.
+pub fn before(text: &[u8], byte: u8) -> &[u8] {
+    match text.iter().position(|b| *b == byte) {
+        Some(place) => &text[..place],
+        None => text,
     }
-    b' '
 }
 
-// The first place, from a place on, that holds a byte; none is past the end.
-pub fn place_of(text: &[u8], from: usize, byte: u8) -> usize
-    ensures { from ≤ result }
-{
-    let mut i = from;
-    while i < text.len() {
-        if byte_at(text, i) == byte {
-            return i;
-        }
-        i += 1;
+// The text behind the first such byte, none of it where there is none.
+fn behind(text: &[u8], byte: u8) -> &[u8] {
+    match text.iter().position(|b| *b == byte) {
+        Some(place) => &text[place + 1..],
+        None => &[],
     }
-    i
-}
-
-// The place past the first such byte: from within the text it lies further on.
-pub fn past(text: &[u8], from: usize, byte: u8) -> usize
-    ensures { min (from + 1) (length text.now) ≤ result }
-{
-    let place = place_of(text, from, byte);
-    if place < text.len() {
-        return place + 1;
-    }
-    place
-}
-
-// The text from one place to another; none where the text has no such part.
-pub fn between(text: &[u8], from: usize, to: usize) -> &[u8] {
-    if from <= to && to <= text.len() {
-        return &text[from..to];
-    }
-    &text[..0]
 }
 
 // The word that a case begins with: the call that it is for.
 pub fn call_of(line: &[u8]) -> &[u8] {
-    between(line, 0, place_of(line, 0, b' '))
+    before(line, b' ')
 }
 
 // Whether a line is a case: an empty one and one that begins with # are none.
 pub fn is_case(line: &[u8]) -> bool {
-    line.len() > 0 && byte_at(line, 0) != b'#'
+    !line.is_empty() && !line.starts_with(b"#")
 }
 
 // The part of a case behind its name and so many bars.
 pub fn part(line: &[u8], which: usize) -> &[u8] {
-    let mut from = past(line, 0, b':');
-    let mut left = which;
-    while left > 0 {
-        left -= 1;
-        from = past(line, from, b'|');
+    let mut rest = behind(line, b':');
+    for _ in 0..which {
+        rest = behind(rest, b'|');
     }
-    let begin = past(line, from, b' ');
-    between(line, begin, place_of(line, begin, b'|'))
-}
-
-// A number with one more figure; what is no figure adds none, nor does one that is too many.
-fn with_figure(value: u32, byte: u8) -> u32 {
-    if byte < b'0' {
-        return value;
-    }
-    if byte > b'9' {
-        return value;
-    }
-    let longer = value as u64 * 10 + (byte - b'0') as u64;
-    if longer > 4_294_967_295 {
-        return value;
-    }
-    longer as u32
+    before(behind(rest, b' '), b'|')
 }
 
 // Whether a byte is part of a number.
 fn in_number(byte: u8) -> bool {
-    byte == b'-' || (byte >= b'0' && byte <= b'9')
+    byte == b'-' || byte.is_ascii_digit()
 }
 
-// The number whose figures stand at a place, without its sign.
-fn size_at(text: &[u8], at: usize) -> u32 {
-    let mut value = 0;
-    let mut i = at;
-    while i < text.len() {
-        let byte = byte_at(text, i);
-        if !in_number(byte) {
-            return value;
-        }
-        value = with_figure(value, byte);
-        i += 1;
+// A number with one more figure; what is no figure adds none, nor does one that is too many.
+fn with_figure(value: u32, byte: u8) -> u32 {
+    if !byte.is_ascii_digit() {
+        return value;
     }
-    value
+    let longer = u64::from(value) * 10 + u64::from(byte - b'0');
+    u32::try_from(longer).unwrap_or(value)
 }
 
-// A number by its size and sign, or the last one on that side.
-fn signed(size: u32, below: bool) -> i32 {
-    if size > 2_147_483_647 {
-        if below {
-            return -2_147_483_648;
-        }
-        return 2_147_483_647;
+// The number that a text begins with, without its sign.
+fn size_at(text: &[u8]) -> u32 {
+    let figures = text.iter().take_while(|byte| in_number(**byte));
+    figures.fold(0, |value, byte| with_figure(value, *byte))
+}
+
+// The number that a text begins with, or the last one on its side.
+fn number_at(text: &[u8]) -> i32 {
+    let size = size_at(text);
+    if text.starts_with(b"-") {
+        return 0i32.saturating_sub_unsigned(size);
     }
-    if below {
-        return 0 - size as i32;
-    }
-    size as i32
+    0i32.saturating_add_unsigned(size)
 }
 
-// The number at a place.
-fn number_at(text: &[u8], at: usize) -> i32 {
-    signed(size_at(text, at), byte_at(text, at) == b'-')
-}
-
-// Puts the low eight bits of a number at a place; past the end nothing is written.
-fn put_byte(bytes: &mut [u8], place: usize, value: u32) {
-    if place < bytes.len() {
-        bytes[place] = (value % 256) as u8;
-    }
-}
-
-// Puts a number without its sign at a place; past the end nothing is written.
-fn put_size(sizes: &mut [u32], place: usize, value: u32) {
-    if place < sizes.len() {
-        sizes[place] = value;
-    }
-}
-
-// The numbers behind the first word of a part, put into one buffer as numbers, into the next as bytes and into
-// the last without their signs, as far as each goes. Returns how many there are.
-fn read_each(part: &[u8], numbers: &mut [i32], bytes: &mut [u8], sizes: &mut [u32]) -> usize {
-    let mut at = past(part, 0, b' ');
+// What stands behind the spaces of a part, read as far as a buffer goes. Returns what was read.
+fn read_each<'a, T: Copy, F: Fn(&[u8]) -> T>(part: &[u8], out: &'a mut [T], read: F) -> &'a mut [T]
+    requires { F.IsAlwaysCallable read }
+{
+    let mut rest = behind(part, b' ');
     let mut count = 0;
-    while at < part.len() {
-        put(numbers, count, number_at(part, at));
-        let size = size_at(part, at);
-        put_byte(bytes, count, size);
-        put_size(sizes, count, size);
+    for place in out.iter_mut() {
+        if rest.is_empty() {
+            break;
+        }
+        *place = read(rest);
+        rest = behind(rest, b' ');
         count += 1;
-        at = past(part, at, b' ');
     }
-    count
+    &mut out[..count]
 }
 
-// Those numbers. Returns how many there are.
-pub fn read_numbers(part: &[u8], numbers: &mut [i32]) -> usize {
-    let mut unused = [0; 1];
-    let mut sizes = [0; 1];
-    read_each(part, numbers, &mut unused, &mut sizes)
+// The numbers behind the first word of a part.
+pub fn read_numbers<'a>(part: &[u8], numbers: &'a mut [i32]) -> &'a mut [i32] {
+    read_each(part, numbers, |word| number_at(word))
 }
 
-// The same as bytes.
-pub fn read_bytes(part: &[u8], bytes: &mut [u8]) -> usize {
-    let mut unused = [0; 1];
-    let mut sizes = [0; 1];
-    read_each(part, &mut unused, bytes, &mut sizes)
+// The low eight bits of each.
+pub fn read_bytes<'a>(part: &[u8], bytes: &'a mut [u8]) -> &'a mut [u8] {
+    read_each(part, bytes, |word| (size_at(word) % 256) as u8)
 }
 
-// The same without their signs.
-pub fn read_sizes(part: &[u8], sizes: &mut [u32]) -> usize {
-    let mut numbers = [0; 1];
-    let mut bytes = [0; 1];
-    read_each(part, &mut numbers, &mut bytes, sizes)
+// Each without its sign.
+pub fn read_sizes<'a>(part: &[u8], sizes: &'a mut [u32]) -> &'a mut [u32] {
+    read_each(part, sizes, |word| size_at(word))
 }
 
-// Where the number stands in front of a case's first bar that follows a word, by the word's last letter.
-fn setting_place(head: &[u8], letter: u8) -> usize {
-    past(head, place_of(head, 0, letter), b' ')
+// The text from the number on in front of a case's first bar that follows a word, by the word's last letter.
+fn at_setting(line: &[u8], letter: u8) -> &[u8] {
+    behind(behind(part(line, 0), letter), b' ')
 }
 
 // That number, 0 if the word is not there.
 pub fn setting(line: &[u8], letter: u8) -> i32 {
-    let head = part(line, 0);
-    number_at(head, setting_place(head, letter))
+    number_at(at_setting(line, letter))
 }
 
 // The same as a count, without its sign.
 pub fn count_setting(line: &[u8], letter: u8) -> usize {
-    let head = part(line, 0);
-    size_at(head, setting_place(head, letter)) as usize
+    size_at(at_setting(line, letter)) as usize
 }
 
 // The same as a place; below 0 stands for the greatest.
 pub fn place_setting(line: &[u8], letter: u8) -> usize {
     if setting(line, letter) < 0 {
-        return 18_446_744_073_709_551_615;
+        return usize::MAX;
     }
     count_setting(line, letter)
 }

@@ -1,12 +1,13 @@
 // Writes answers and all that buffers hold. A long run of one number is written as the number, a star and
 // how often it stands.
-ghost use Rattle.std.specs.Prelude.{◌<◌, length};
-
-use crate::lines::{between, place_of};
-use careful::{at, first_other};
+use crate::lines::before;
 use fields::Job;
 use packed::Refusal;
-use reader::{Moved, Opened, Read};
+use reader::Moved;
+use text::Writer;
+
+// How many of one number are a long run.
+const LONG: usize = 10;
 
 // A word.
 pub fn put_word(word: &[u8]) {
@@ -15,14 +16,20 @@ pub fn put_word(word: &[u8]) {
 
 // A case's name.
 pub fn put_name(line: &[u8]) {
-    put_word(between(line, 0, place_of(line, 0, b':')));
+    put_word(before(line, b':'));
     put_word(b":");
 }
 
 // A space and a number.
 pub fn put(z: i32) {
-    let mut figures = [32u8; 12];
-    let end = text::put_number(&mut figures, 1, z);
+    let mut figures = [0; 12];
+    let mut writer = Writer {
+        out: &mut figures,
+        at: 0,
+    };
+    writer.byte(b' ');
+    writer.number(z);
+    let end = writer.at;
     io::write_all(1, &figures[..end]);
 }
 
@@ -39,62 +46,49 @@ pub fn put_refused(number: u32) {
 }
 
 // A refusal and its field, where no place is told.
-pub fn put_refused_field(number: u32, field: u32) {
-    put_refused(number);
-    put_count(field as u64);
+pub fn put_refused_field(refusal: Refusal) {
+    put_refused(refusal.number());
+    put_count(refusal.figure() as u64);
 }
 
 // A refusal, its place and its field.
 pub fn put_refusal(refusal: Refusal) {
-    put_refused(refusal.number);
-    put_count(refusal.place as u64);
-    put_count(refusal.field as u64);
+    put_refused(refusal.number());
+    put_count(refusal.place() as u64);
+    put_count(refusal.figure() as u64);
 }
 
-// The number at a place; of ten and more of one kind how many they are. Returns the place past them.
-fn put_run(numbers: &[i32], place: usize) -> usize
-    requires { place < length numbers.now }
-    ensures { place < result }
-{
-    let number = at(numbers, place);
-    let end = first_other(numbers, number, place + 1).unwrap_or(numbers.len());
-    put(number);
-    if end - place < 10 {
-        return place + 1;
-    }
-    io::write_all(1, b"*");
-    io::print_decimal(1, (end - place) as u64);
-    end
-}
-
-// All numbers, run by run.
-fn put_runs(numbers: &[i32]) {
-    let mut i = 0;
-    while i < numbers.len() {
-        i = put_run(numbers, i);
+// A run of one number: each of its numbers, or of a long one how many they are.
+fn put_run(run: &[i32]) {
+    match run {
+        [number, ..] if run.len() >= LONG => {
+            put(*number);
+            put_word(b"*");
+            io::print_decimal(1, run.len() as u64);
+        }
+        _ => {
+            for number in run {
+                put(*number);
+            }
+        }
     }
 }
 
 // A bar and all that a buffer holds; nothing of an empty one.
 pub fn put_buffer(numbers: &[i32]) {
-    if numbers.len() == 0 {
+    if numbers.is_empty() {
         return;
     }
     put_word(b" |");
-    put_runs(numbers);
-}
-
-// A byte as a count.
-fn wide(byte: u8) -> u64 {
-    byte as u64
+    for run in numbers.chunk_by(|one, other| one == other) {
+        put_run(run);
+    }
 }
 
 // Bytes, one behind the other.
 fn put_each(bytes: &[u8]) {
-    let mut i = 0;
-    while i < bytes.len() {
-        put_count(wide(bytes[i]));
-        i += 1;
+    for byte in bytes {
+        put_count(*byte as u64);
     }
 }
 
@@ -123,21 +117,20 @@ fn put_job(job: Job) {
     put(job.deadline);
 }
 
-// What opening a reader gave.
-pub fn put_opened(opened: Opened) {
+// What opening a reader gave: it refuses with no place and no field.
+pub fn put_opened(opened: Result<usize, Refusal>) {
     match opened {
-        Opened::Accepted(count) => put_count(count as u64),
-        Opened::Refused(number) => put_refused(number),
+        Ok(count) => put_count(count as u64),
+        Err(refusal) => put_refused(refusal.number()),
     }
 }
 
 // What a step of a reader gave, and the place after it.
 pub fn put_moved(moved: Moved) {
-    let answer = moved.answer;
-    match answer {
-        Read::Job(job) => put_job(job),
-        Read::End => put_word(b" end"),
-        Read::Refused(refusal) => put_refusal(refusal),
+    match moved.answer {
+        Ok(Some(job)) => put_job(job),
+        Ok(None) => put_word(b" end"),
+        Err(refusal) => put_refusal(refusal),
     }
     put_count(moved.place as u64);
 }

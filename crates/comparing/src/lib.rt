@@ -2,9 +2,9 @@
 // wrote, and counts of what was met. Every function is safe and ends.
 #![tactic(auto)]
 
-use careful::{all_are, at, front};
-use pack::Packed;
+use careful::{all_are, at, front, more};
 use packed::Refusal;
+use refusals::Reason;
 
 // What lent numbers hold before a call, so that every number written shows.
 pub const MARK: i32 = 7_777;
@@ -12,46 +12,42 @@ pub const MARK: i32 = 7_777;
 // The numbers of the work area.
 const AREA: usize = 14_749;
 
-// The bytes of an order; an order that is refused has none.
-pub fn pack_order(t0: i32, numbers: &[i32], bytes: &mut [u8]) -> usize {
-    match pack::pack(t0, numbers, bytes) {
-        Packed::Refused(_) => 0,
-        Packed::Bytes(written) => written,
-    }
+// The bytes of an order, packed to the front of a space; an order that is refused has none.
+pub fn pack_order<'a>(t0: i32, numbers: &[i32], space: &'a mut [u8]) -> &'a [u8] {
+    let size = pack::pack(t0, numbers, space).unwrap_or(0);
+    front(space, size)
 }
 
-// The kind of a packed order's records, which the last byte of its header says; without a header, none that there is.
-pub fn records_kind(bytes: &[u8]) -> u8 {
-    if bytes.len() < 4 {
-        return 255;
-    }
-    bytes[3]
+// The kind of a packed order's records, which the last byte of its header says.
+pub fn records_kind(bytes: &[u8]) -> Option<u32> {
+    bytes.get(3).map(|kind| u32::from(*kind))
 }
 
-// Whether a refusal is this one at this place; none of the orders compared has a field out of range.
-pub fn says(refusal: Refusal, number: u32, place: usize) -> bool {
-    (refusal.number == number) & (refusal.place == place) & (refusal.field == 0)
+// Whether a refusal gives this reason at this place; none of the orders compared has a field out of range.
+pub fn says(refusal: Refusal, reason: Reason, place: usize) -> bool {
+    refusal.number() == reason.number() && refusal.place() == place && refusal.figure() == 0
+}
+
+// Whether a call's answer is the one expected; a refusal is at no place.
+pub fn answers<T: Copy + PartialEq>(
+    answer: Result<T, Refusal>,
+    expected: Result<T, Reason>,
+) -> bool {
+    match (answer, expected) {
+        (Ok(given), Ok(wanted)) => given == wanted,
+        (Err(refusal), Err(reason)) => says(refusal, reason, 0),
+        _ => false,
+    }
 }
 
 // Whether a call left the work area as it should, full of one number, and what is past it as it was.
 pub fn leaves(work: &[i32], number: i32) -> bool {
-    all_are(front(work, AREA), number) & (at(work, AREA) == MARK)
+    all_are(front(work, AREA), number) && at(work, AREA) == MARK
 }
 
-// What the work area must hold after a call that may be refused: it stays where it is.
-pub fn held_after(refusal: u32) -> i32 {
-    if refusal != 0 {
-        return MARK;
-    }
-    0
-}
-
-// The refusal by whether an order has a choice that may be run, 0 for none.
-pub fn no_choice(found: bool) -> u32 {
-    if found {
-        return 0;
-    }
-    11
+// Counts one more where something holds.
+pub fn count(so_far: &mut u64, holds: bool) {
+    *so_far = more(*so_far, holds as u64);
 }
 
 // Writes a count behind a word.

@@ -10,8 +10,8 @@ mod shorter;
 
 use careful::{front, more};
 use comparing::write_count;
-use counts::{Run, new_run, write_counts};
-use pairs::compare_orders;
+use counts::Run;
+use pairs::{Order, compare_orders};
 use shorter::{shorten, write_morning};
 use trial_orders::{KINDS, Kind, draw_order, ease, kind_of};
 
@@ -21,30 +21,28 @@ const ROUNDS: u64 = 24_000;
 const SEED: u64 = 71_530_229;
 
 // An order of a kind drawn and eased, and both compared.
-fn try_pair(so_far: Run, kind: Kind) -> Run {
+fn try_pair(run: &mut Run, kind: Kind) {
     let mut first = [0; 70];
-    let old = draw_order(so_far.seed, kind, &mut first);
     let mut second = [0; 70];
-    let new = ease(old.seed, front(&first, old.size), old.t0, &mut second);
-    let mut run = so_far;
-    run.seed = new.seed;
-    compare_orders(
-        run,
-        kind,
-        front(&first, old.size),
-        old.t0,
-        front(&second, old.size),
-        new.t0,
-    )
+    let drawn = draw_order(run.seed, kind, &mut first);
+    let old = Order {
+        numbers: front(&first, drawn.size),
+        t0: drawn.t0,
+    };
+    let eased = ease(drawn.seed, old.numbers, old.t0, &mut second);
+    let new = Order {
+        numbers: front(&second, drawn.size),
+        t0: eased.t0,
+    };
+    run.seed = eased.seed;
+    compare_orders(run, kind, old, new);
 }
 
-// All pairs, the kinds in turn.
+// All pairs, the kinds in turn from the last on.
 fn play_rounds() -> Run {
-    let mut run = new_run(SEED);
-    let mut left = ROUNDS;
-    while left > 0 {
-        left -= 1;
-        run = try_pair(run, kind_of(left % KINDS));
+    let mut run = Run::new(SEED);
+    for left in (0..ROUNDS).rev() {
+        try_pair(&mut run, kind_of(left % KINDS));
     }
     run
 }
@@ -52,11 +50,10 @@ fn play_rounds() -> Run {
 fn main() {
     let run = play_rounds();
     let shorter = shorten(run.seed);
-    write_counts(run);
-    write_morning(200);
-    write_morning(85);
-    write_morning(75);
-    write_morning(45);
+    run.write();
+    for length in [200, 85, 75, 45] {
+        write_morning(length);
+    }
     write_count(b"shorter lengths of job 12 ", shorter.pairs);
     write_count(b"worse ", more(run.worse, shorter.worse));
 }

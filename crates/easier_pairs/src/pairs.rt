@@ -1,135 +1,127 @@
 // A pair of orders, the second easier, held against each other: their plans, their profiles, and profiles drawn
 // and extended by them.
-use crate::counts::{Run, counted, expect};
-use crate::extended::{Seen, compare_extended, numbers_of};
-use crate::plans::{plan_of, with_plans};
+use crate::counts::Run;
+use crate::extended::{Refused, Seen, compare_extended, numbers_of};
+use crate::plans::plan_of;
 use careful::{front, more};
-use comparing::{MARK, pack_order, records_kind};
+use comparing::{MARK, count, pack_order, records_kind, says};
+use packed::Refusal;
 use refusals::Reason;
 use trial_orders::{Change, Kind, change_of, draw_profile};
 
-// The refusals of a profile that is not valid, and of one that is too heavy for the order.
-const NOT_VALID: u32 = 8;
+// An order by its jobs' numbers and the time from which on the bus is free.
+#[derive(Clone, Copy)]
+pub struct Order<'a> {
+    pub numbers: &'a [i32],
+    pub t0: i32,
+}
 
-const TOO_HEAVY: u32 = 9;
+// The same packed.
+#[derive(Clone, Copy)]
+struct Packed<'a> {
+    bytes: &'a [u8],
+    t0: i32,
+}
 
 // Numbers that are no profile: they are odd.
 const NO_PROFILE: usize = 1;
 
-// A run with the lookups of two extended profiles, none of which finds less.
-fn with_lookups(so_far: Run, seen: Seen) -> Run {
-    let mut run = so_far;
-    run.lookups = more(run.lookups, seen.lookups);
-    run.lookups_more = more(run.lookups_more, seen.found_more);
-    run.worse = more(run.worse, seen.found_less);
-    run
-}
-
-// A run with the profiles of two orders, which have no refusal.
-fn with_profiles(so_far: Run, seen: Seen) -> Run {
-    let accepted = (seen.refusal == 0) & (seen.refusal_after == 0);
-    let mut run = expect(with_lookups(so_far, seen), accepted);
-    run.profiles_more = counted(run.profiles_more, seen.found_more > 0);
-    run.profiles_same = counted(run.profiles_same, seen.found_more == 0);
-    run
-}
-
-// Whether a drawn profile may have a refusal: it may not be valid, or too heavy.
-fn may_be(refusal: u32) -> bool {
-    (refusal == 0) | (refusal == NOT_VALID) | (refusal == TOO_HEAVY)
-}
-
-// A run with a tail, passed over where one of its profiles is refused.
-fn with_tail(so_far: Run, seen: Seen) -> Run {
-    let accepted = (seen.refusal == 0) & (seen.refusal_after == 0);
-    let known = may_be(seen.refusal) & may_be(seen.refusal_after);
-    let mut run = expect(so_far, known);
-    run.tails = counted(run.tails, accepted);
-    run.passed_over = counted(run.passed_over, !accepted);
-    if !accepted {
-        return run;
+// An order packed.
+fn packed_in<'a>(order: Order, room: &'a mut [u8]) -> Packed<'a> {
+    Packed {
+        bytes: pack_order(order.t0, order.numbers, room),
+        t0: order.t0,
     }
-    run.tails_more = counted(run.tails_more, seen.found_more > 0);
-    with_lookups(run, seen)
+}
+
+// Whether a drawn profile may be refused, if it is: it may not be valid, or too heavy.
+fn may_be(refusal: Option<Refusal>) -> bool {
+    refusal.is_none_or(|refusal| {
+        says(refusal, Reason::ProfileNotValid, 0) || says(refusal, Reason::TooMuchWeight, 0)
+    })
+}
+
+impl Run {
+    // Counts the lookups of two extended profiles, none of which finds less.
+    fn count_lookups(&mut self, seen: Seen) {
+        self.lookups = more(self.lookups, seen.lookups);
+        self.lookups_more = more(self.lookups_more, seen.found_more);
+        self.worse = more(self.worse, seen.found_less);
+    }
+
+    // Counts the profiles of two orders, which have no refusal.
+    fn count_profiles(&mut self, seen: Result<Seen, Refused>) {
+        self.expect(seen.is_ok());
+        if let Ok(seen) = seen {
+            self.count_lookups(seen);
+            count(&mut self.profiles_more, seen.found_more > 0);
+            count(&mut self.profiles_same, seen.found_more == 0);
+        }
+    }
+
+    // Counts a tail, passed over where one of its profiles is refused.
+    fn count_tail(&mut self, seen: Result<Seen, Refused>) {
+        match seen {
+            Ok(seen) => {
+                count(&mut self.tails, true);
+                count(&mut self.tails_more, seen.found_more > 0);
+                self.count_lookups(seen);
+            }
+            Err(refused) => {
+                self.expect(may_be(refused.before) && may_be(refused.after));
+                count(&mut self.passed_over, true);
+            }
+        }
+    }
+
+    // Counts a pair, the second of which must be easier.
+    fn count_pair(&mut self, change: Change) {
+        self.expect(change.easier);
+        count(&mut self.pairs, true);
+        count(&mut self.as_it_was, change.eased == 0);
+        count(&mut self.one_eased, change.eased == 1);
+    }
 }
 
 // How many numbers better-of wrote; where a profile is not valid, as many as no profile has.
 fn joined_size(answer: Result<usize, Reason>) -> usize {
     match answer {
+        Ok(points) => numbers_of(points),
         Err(Reason::ProfileNotValid) => NO_PROFILE,
         Err(_) => 0,
-        Ok(points) => numbers_of(points),
     }
 }
 
-// A profile and the better of it and another, the first extended by an order and the second by an easier one.
-fn compare_tail(run: Run, one: &[i32], other: &[i32], old: &[u8], new: &[u8]) -> Run {
-    let mut joined = [MARK; 602];
-    let size = joined_size(better::better_of(one, other, &mut joined));
-    with_tail(run, compare_extended(one, front(&joined, size), old, new))
-}
-
-// A tail of a kind drawn, and extended by two orders.
-fn try_tail(so_far: Run, kind: Kind, old: &[u8], new: &[u8]) -> Run {
+// A tail of a kind drawn: a profile extended by an order, and the better of it and another by an easier one.
+fn try_tail(run: &mut Run, kind: Kind, old: &[u8], new: &[u8]) {
     let mut first = [0; 8];
-    let one = draw_profile(so_far.seed, kind, &mut first);
     let mut second = [0; 8];
-    let other = draw_profile(one.seed, kind, &mut second);
-    let mut run = so_far;
-    run.seed = other.seed;
-    compare_tail(
-        run,
-        front(&first, one.size),
-        front(&second, other.size),
-        old,
-        new,
-    )
+    let mut out = [MARK; 602];
+    let drawn = draw_profile(run.seed, kind, &mut first);
+    let one = front(&first, drawn.size);
+    let drawn = draw_profile(drawn.seed, kind, &mut second);
+    let other = front(&second, drawn.size);
+    run.seed = drawn.seed;
+    let size = joined_size(better::better_of(one, other, &mut out));
+    run.count_tail(compare_extended(one, front(&out, size), old, new));
 }
 
 // The plans of two packed orders, and their profiles from the time on at which the bus is free.
-fn compare_plans(so_far: Run, old: &[u8], old_t0: i32, new: &[u8], new_t0: i32) -> Run {
-    let one = [old_t0, 0];
-    let other = [new_t0, 0];
-    let unlike = records_kind(old) != records_kind(new);
-    let mut run = with_plans(so_far, plan_of(old), plan_of(new));
-    run.other_records = counted(run.other_records, unlike);
-    with_profiles(run, compare_extended(&one, &other, old, new))
-}
-
-// The same, and a tail of a kind.
-fn compare_packed(run: Run, kind: Kind, old: &[u8], old_t0: i32, new: &[u8], new_t0: i32) -> Run {
-    let planned = compare_plans(run, old, old_t0, new, new_t0);
-    try_tail(planned, kind, old, new)
-}
-
-// A run with a pair more, the second of which must be easier.
-fn with_pair(so_far: Run, change: Change) -> Run {
-    let mut run = expect(so_far, change.easier);
-    run.pairs = more(run.pairs, 1);
-    run.as_it_was = counted(run.as_it_was, change.eased == 0);
-    run.one_eased = counted(run.one_eased, change.eased == 1);
-    run
+fn compare_packed(run: &mut Run, old: Packed, new: Packed) {
+    let unlike = records_kind(old.bytes) != records_kind(new.bytes);
+    run.compare_plans(plan_of(old.bytes), plan_of(new.bytes));
+    count(&mut run.other_records, unlike);
+    let seen = compare_extended(&[old.t0, 0], &[new.t0, 0], old.bytes, new.bytes);
+    run.count_profiles(seen);
 }
 
 // Two orders, the second of which must be easier: their plans, their profiles, and a tail of a kind.
-pub fn compare_orders(
-    run: Run,
-    kind: Kind,
-    old: &[i32],
-    old_t0: i32,
-    new: &[i32],
-    new_t0: i32,
-) -> Run {
-    let mut first = [0; 94];
-    let mut second = [0; 94];
-    let size = pack_order(old_t0, old, &mut first);
-    let new_size = pack_order(new_t0, new, &mut second);
-    compare_packed(
-        with_pair(run, change_of(old, old_t0, new, new_t0)),
-        kind,
-        front(&first, size),
-        old_t0,
-        front(&second, new_size),
-        new_t0,
-    )
+pub fn compare_orders(run: &mut Run, kind: Kind, old: Order, new: Order) {
+    let mut one = [0; 94];
+    let mut other = [0; 94];
+    let first = packed_in(old, &mut one);
+    let second = packed_in(new, &mut other);
+    run.count_pair(change_of(old.numbers, old.t0, new.numbers, new.t0));
+    compare_packed(run, first, second);
+    try_tail(run, kind, first.bytes, second.bytes);
 }

@@ -1,9 +1,9 @@
 // The morning of the worked example with job 12 made shorter, second by second: what its plan comes to at some
 // lengths, and each length held against the one before.
-use crate::counts::{Run, new_run};
-use crate::pairs::compare_orders;
+use crate::counts::Run;
+use crate::pairs::{Order, compare_orders};
 use crate::plans::plan_of;
-use careful::{count_of, front, number_of, put};
+use careful::{count_of, number_of};
 use comparing::{pack_order, write_count, write_figure};
 use planner::Figures;
 use trial_orders::kind_of;
@@ -28,7 +28,7 @@ const JOBS: [i32; 35] = [
 // The jobs with job 12 of a length.
 fn morning(length: u64) -> [i32; 35] {
     let mut jobs = JOBS;
-    put(&mut jobs, PLACE, number_of(length));
+    jobs[PLACE] = number_of(length);
     jobs
 }
 
@@ -43,28 +43,31 @@ fn write_line(length: u64, figures: Figures) {
 
 // Writes what the plan of the morning comes to with job 12 of a length.
 pub fn write_morning(length: u64) {
-    let jobs = morning(length);
     let mut space = [0; 94];
-    let size = pack_order(FREE, &jobs, &mut space);
-    let made = plan_of(front(&space, size));
-    write_line(length, made.figures);
+    let order = pack_order(FREE, &morning(length), &mut space);
+    if let Ok(figures) = plan_of(order) {
+        write_line(length, figures);
+    }
 }
 
-// The morning with job 12 of a length, held against the same with a longer one.
-fn compare_lengths(run: Run, longer: u64, length: u64) -> Run {
-    let old = morning(longer);
-    let new = morning(length);
-    compare_orders(run, kind_of(TAILS), &old, FREE, &new, FREE)
+// The morning with job 12 of a length, held against the same a second longer.
+fn compare_lengths(run: &mut Run, length: u64) {
+    let old = Order {
+        numbers: &morning(length.saturating_add(1)),
+        t0: FREE,
+    };
+    let new = Order {
+        numbers: &morning(length),
+        t0: FREE,
+    };
+    compare_orders(run, kind_of(TAILS), old, new);
 }
 
 // All lengths below that of job 12, each held against the one a second longer. Tails are drawn from a seed on.
 pub fn shorten(seed: u64) -> Run {
-    let mut run = new_run(seed);
-    let mut length = LONGEST;
-    while length > 1 {
-        let longer = length;
-        length -= 1;
-        run = compare_lengths(run, longer, length);
+    let mut run = Run::new(seed);
+    for length in (1..LONGEST).rev() {
+        compare_lengths(&mut run, length);
     }
     run
 }

@@ -11,9 +11,8 @@ mod plans;
 mod point_calls;
 mod readers;
 
-use careful::front;
-use case_lines::{between, call_of, is_case, make_order, part, past, place_of, put_name, put_word};
-use check::same;
+use careful::lend;
+use case_lines::{count_setting, is_case, make_order, part, put_buffer, put_name, put_word};
 
 // What starts, points and jobs are written over, and what the work area holds before a call: a time so
 // early that a call which took it for one of its own would go wrong.
@@ -24,13 +23,31 @@ pub const WORK_MARK: i32 = -77_777;
 // What bytes are written over.
 pub const BYTE_MARK: u8 = 170;
 
-// Whether a case is for a call.
-pub fn calls(line: &[u8], call: &[u8]) -> bool {
-    same(call_of(line), call)
+// Runs a call with a work area lent, and writes what the area holds after it.
+pub fn with_work<F: FnOnce(&mut [i32])>(line: &[u8], call: F)
+    requires { F.IsAlwaysCallable call }
+{
+    let mut space = [WORK_MARK; 15_000];
+    let work = lend(&mut space, count_setting(line, b'k'));
+    call(work);
+    put_buffer(work);
+}
+
+// The same with room for starts or points lent before it.
+pub fn with_room<F: FnOnce(&mut [i32], &mut [i32])>(line: &[u8], call: F)
+    requires { F.IsAlwaysCallable call }
+{
+    let mut out = [MARK; 700];
+    let mut space = [WORK_MARK; 15_000];
+    let room = lend(&mut out, count_setting(line, b'm'));
+    let work = lend(&mut space, count_setting(line, b'k'));
+    call(room, work);
+    put_buffer(room);
+    put_buffer(work);
 }
 
 // The call that a case is for, in the file that has it, on the orders or other bytes that the case tells.
-fn run<'a>(line: &[u8], first: &'a [u8], second: &'a [u8]) -> bool {
+fn run(line: &[u8], first: &[u8], second: &[u8]) -> bool {
     orders::run(line, first)
         || plans::run(line, first)
         || packed_plans::run(line, first, second)
@@ -42,14 +59,10 @@ fn run<'a>(line: &[u8], first: &'a [u8], second: &'a [u8]) -> bool {
 // The same, from the parts of the case; a part that tells no bytes has none that are used.
 fn run_case(line: &[u8]) -> bool {
     let mut one = [0; 450];
-    let size = make_order(part(line, 1), &mut one);
     let mut other = [0; 450];
-    let other_size = make_order(part(line, 2), &mut other);
-    run(
-        line,
-        front(&one, size),
-        front(&other, other_size),
-    )
+    let first = make_order(part(line, 1), &mut one);
+    let second = make_order(part(line, 2), &mut other);
+    run(line, first, second)
 }
 
 // One line: a case's name and its answer.
@@ -63,16 +76,7 @@ fn answer(line: &[u8]) {
     }
 }
 
-// Every line of the text.
-fn answers(text: &[u8]) {
-    let mut start = 0;
-    while start < text.len() {
-        answer(between(text, start, place_of(text, start, b'\n')));
-        start = past(text, start, b'\n');
-    }
-}
-
-// Room for the lines.
+// Room for the lines, made apart: a list of so many zeros in `main` itself is too deep for its proof.
 fn room() -> [u8; 524_288] {
     [0; 524_288]
 }
@@ -80,5 +84,7 @@ fn room() -> [u8; 524_288] {
 fn main() {
     let mut input = room();
     let n = io::read_full(0, &mut input);
-    answers(front(&input, n));
+    for line in input[..n].split(|byte| *byte == b'\n') {
+        answer(line);
+    }
 }

@@ -1,11 +1,12 @@
 // Packed orders and heat-up: unpacking, packing, the order of a frame, and the length for a sampler's byte.
-use crate::{BYTE_MARK, MARK, calls};
-use careful::{front, lend};
+use crate::{BYTE_MARK, MARK};
+use careful::{lend, lend_bytes};
 use case_lines::{
-    count_setting, part, put, put_buffer, put_bytes, put_count, put_refusal, put_refused,
+    call_of, count_setting, part, put, put_buffer, put_bytes, put_count, put_refusal, put_refused,
     read_numbers, setting,
 };
 use framing::Framed;
+use heat::Heating;
 use pack::Packed;
 use unpack::Unpacked;
 
@@ -39,10 +40,10 @@ pub fn put_packed(answer: Packed) {
 // `pack`: a bus-free time and numbers, into the room lent.
 fn pack(line: &[u8]) {
     let mut numbers = [0; 350];
-    let many = read_numbers(part(line, 1), &mut numbers);
+    let numbers = read_numbers(part(line, 1), &mut numbers);
     let mut space = [BYTE_MARK; 450];
-    let bytes = lend(&mut space, count_setting(line, b'm'));
-    put_packed(pack::pack(setting(line, b'f'), front(&numbers, many), bytes));
+    let bytes = lend_bytes(&mut space, count_setting(line, b'm'));
+    put_packed(pack::pack(setting(line, b'f'), numbers, bytes));
     put_bytes(bytes);
 }
 
@@ -60,38 +61,34 @@ fn put_framed(answer: Framed) {
 // `frame`: numbers of repeating jobs, into the room lent.
 fn frame(line: &[u8]) {
     let mut numbers = [0; 300];
-    let many = read_numbers(part(line, 1), &mut numbers);
+    let numbers = read_numbers(part(line, 1), &mut numbers);
     let mut space = [BYTE_MARK; 400];
-    let bytes = lend(&mut space, count_setting(line, b'm'));
-    put_framed(framing::frame(front(&numbers, many), bytes));
+    let bytes = lend_bytes(&mut space, count_setting(line, b'm'));
+    put_framed(framing::frame(numbers, bytes));
     put_bytes(bytes);
+}
+
+// What the heat-up table answered.
+fn put_heating(answer: Heating) {
+    match answer {
+        Heating::Seconds(seconds) => put_count(seconds as u64),
+        Heating::TooCold => put_refused(12),
+    }
 }
 
 // `heat`: a byte.
 fn heat_up(line: &[u8]) {
-    match heat::heat_up((count_setting(line, b'e') % 256) as u8) {
-        Ok(seconds) => put_count(seconds as u64),
-        Err(reason) => put_refused(reason.number()),
-    }
+    put_heating(heat::heat_up((count_setting(line, b'e') % 256) as u8));
 }
 
 // Runs a case that is for one of these calls; false for any other.
 pub fn run(line: &[u8], bytes: &[u8]) -> bool {
-    if calls(line, b"unpack") {
-        unpack(line, bytes);
-        return true;
+    match call_of(line) {
+        b"unpack" => unpack(line, bytes),
+        b"pack" => pack(line),
+        b"frame" => frame(line),
+        b"heat" => heat_up(line),
+        _ => return false,
     }
-    if calls(line, b"pack") {
-        pack(line);
-        return true;
-    }
-    if calls(line, b"frame") {
-        frame(line);
-        return true;
-    }
-    if calls(line, b"heat") {
-        heat_up(line);
-        return true;
-    }
-    false
+    true
 }

@@ -1,7 +1,6 @@
 // Plans: of an order, of an order of halves, and the text that the program prints for an order.
-use crate::{MARK, WORK_MARK, calls};
-use careful::{front, lend};
-use case_lines::{count_setting, put, put_buffer, put_count, put_refusal, put_word};
+use crate::with_room;
+use case_lines::{call_of, put, put_count, put_refusal, put_word};
 use halves::HalvesPlanned;
 use planner::{Figures, Planned};
 
@@ -37,24 +36,16 @@ fn put_halves(answer: HalvesPlanned) {
 
 // `plan`: an order, with room for starts and a work area lent.
 fn plan(line: &[u8], order: &[u8]) {
-    let mut out = [MARK; 700];
-    let mut space = [WORK_MARK; 15_000];
-    let starts = lend(&mut out, count_setting(line, b'm'));
-    let work = lend(&mut space, count_setting(line, b'k'));
-    put_planned(planner::plan(order, starts, work));
-    put_buffer(starts);
-    put_buffer(work);
+    with_room(line, |starts, work| {
+        put_planned(planner::plan(order, starts, work))
+    });
 }
 
 // `plan_halves`: the same of an order of halves.
 fn plan_halves(line: &[u8], order: &[u8]) {
-    let mut out = [MARK; 700];
-    let mut space = [WORK_MARK; 15_000];
-    let starts = lend(&mut out, count_setting(line, b'm'));
-    let work = lend(&mut space, count_setting(line, b'k'));
-    put_halves(halves::plan_halves(order, starts, work));
-    put_buffer(starts);
-    put_buffer(work);
+    with_room(line, |starts, work| {
+        put_halves(halves::plan_halves(order, starts, work))
+    });
 }
 
 // `report`: any bytes; the text stands on lines of its own.
@@ -62,22 +53,16 @@ fn report(bytes: &[u8]) {
     let mut text = [0; report::ROOM];
     let end = report::report(bytes, &mut text);
     put_word(b"\n");
-    put_word(front(&text, end));
+    put_word(&text[..end]);
 }
 
 // Runs a case that is for one of these calls; false for any other.
 pub fn run(line: &[u8], order: &[u8]) -> bool {
-    if calls(line, b"plan") {
-        plan(line, order);
-        return true;
+    match call_of(line) {
+        b"plan" => plan(line, order),
+        b"plan_halves" => plan_halves(line, order),
+        b"report" => report(order),
+        _ => return false,
     }
-    if calls(line, b"plan_halves") {
-        plan_halves(line, order);
-        return true;
-    }
-    if calls(line, b"report") {
-        report(order);
-        return true;
-    }
-    false
+    true
 }

@@ -1,7 +1,6 @@
 // The reader: opening one over an order, a step from a place, and both by the struct that stands over the
 // caller's bytes.
-use crate::calls;
-use case_lines::{place_setting, put_moved, put_opened};
+use case_lines::{call_of, place_setting, put_moved, put_opened};
 
 // `open`: an order.
 fn open(order: &[u8]) {
@@ -16,25 +15,17 @@ fn step(line: &[u8], order: &[u8]) {
 // `read`: a reader is opened over an order, and takes a step from a place.
 fn read(line: &[u8], order: &[u8]) {
     let reading = reader_struct::read_at(order, place_setting(line, b't'));
-    let opened = reading.opened;
-    let moved = reading.moved;
-    put_opened(opened);
-    put_moved(moved);
+    put_opened(reading.opened);
+    put_moved(reading.moved);
 }
 
 // Runs a case that is for one of these calls; false for any other.
 pub fn run(line: &[u8], order: &[u8]) -> bool {
-    if calls(line, b"open") {
-        open(order);
-        return true;
+    match call_of(line) {
+        b"open" => open(order),
+        b"step" => step(line, order),
+        b"read" => read(line, order),
+        _ => return false,
     }
-    if calls(line, b"step") {
-        step(line, order);
-        return true;
-    }
-    if calls(line, b"read") {
-        read(line, order);
-        return true;
-    }
-    false
+    true
 }

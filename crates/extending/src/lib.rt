@@ -42,10 +42,7 @@ fn extend_with_room(
     ensures { ExtendCall profile.now bytes.now out.old work.old result
         out.new work.new }
 {
-    if out.len() < MOST_NUMBERS {
-        return Err(Reason::BufferTooShort.into());
-    }
-    if work.len() < AREA {
+    if out.len() < MOST_NUMBERS || work.len() < AREA {
         return Err(Reason::BufferTooShort.into());
     }
     let points = extend_by_lists(profile, bytes, out, &mut work[..AREA]);

@@ -27,7 +27,8 @@ const SIZE: usize = 27;
 
 const GOT: usize = 28;
 
-// What has come of the next entry: how many bytes of its length, the number that they say, and how many of its bytes.
+// What has come of the next entry: how many bytes of its length, the number that they say, and how many of its bytes. All three are
+// counts, as the numbers that the C interface lends hold them.
 #[derive(Clone, Copy)]
 pub struct Part {
     pub known: u32,
@@ -136,6 +137,7 @@ pub fn feed_piece(
 {
     let mut state = begun;
     let mut at = 0;
+    // A turn takes as many bytes as it has use for, so no range and no iterator fits.
     while at < piece.len() {
         if is_over(figures) {
             return state;

@@ -1,7 +1,7 @@
 -- Tomorrow's frame is today's again, over the definitions and over the calls: whatever an outcome of framing that its contract allows
 -- has written, planning accepts it, and every outcome of planning on the order of two frames, or of more, keeps as many times the
 -- weight as there are frames, and is refused with 11 exactly where planning one frame is.
-use Rattle.std.specs.Prelude.{ℕ, suc, ◌*◌, ◌≤◌, ◌≡◌, refl, false, ◌↔◌, List, ℤ, pos, length, take}
+use Rattle.std.specs.Prelude.{ℕ, suc, ◌*◌, ◌≤◌, ◌≡◌, refl, false, ◌↔◌, List, ℤ, pos, length, take, Ok}
 use Rattle.std.proofs.Common.{sym, ap, ◌∙◌}
 use Rattle.std.proofs.Math.Option.{none, map, map-eq-none_iff}
 use contract.Lifetimes.{Lfts}
@@ -17,14 +17,12 @@ use Rattle.packed.specs.Refusals.{order_checks}
 use Rattle.area.specs.Area.{area}
 use Rattle.frames.specs.Frames.{frame_of, frame_numbers, making_checks}
 use Rattle.frames.proofs.FrameLaws.{making-fine, inside-frame}
-use Rattle.planner.specs.Calls.{plan_verdict, planned_of, plan_numbers}
+use Rattle.planner.specs.Calls.{Planned, plan_verdict, planned_of, plan_numbers}
 use Rattle.planner.specs.Answers.{plan-passed}
-use Rattle.planner.specs.declared.Planned.{Planned}
 use Rattle.planner.specs.contracts.plan as plan
 use Rattle.planner.proofs.plan.Reads as plan-reads
 use Rattle.framing.specs.AnswerSays.{FrameWritten, frame_order}
 use Rattle.framing.specs.declared.FrameOrder.{FrameOrder}
-use Rattle.framing.specs.declared.Framed.TheVariants.{Made}
 use Rattle.framing.specs.contracts.frame as frame
 use Rattle.framing.proofs.frame.Reads as frame-reads
 use Rattle.framing.proofs.Outcomes.{outcome-written}
@@ -78,13 +76,13 @@ module _ {bytes : List ℕ} (p : Planning bytes) where
 
 -- A call of framing that answers with bytes.
 module _ (κs : Lfts 2) (a : Args frame.signature κs) (made : FrameOrder) (x : AtExit frame.ended κs)
-    (h : frame-reads.Post κs a (Made made) x) where
+    (h : frame-reads.Post κs a (Ok made) x) where
   -- The bytes written.
   abbrev pub written : List ℕ
   written = take made.bytes x.1.0.now
 
   wrote : FrameWritten a.0.now x.1.0.now made
-  wrote = outcome-written κs a (Made made) x h made refl
+  wrote = outcome-written κs a (Ok made) x h made refl
 
   -- Planning accepts them,
   pub frame-accepted : judge (order_checks written) ≡ fine

@@ -1,5 +1,5 @@
 -- The weight that an answer of planning keeps: past the checks it is the best there is, and no weight is 11.
-use Rattle.std.specs.Prelude.{ℕ, ◌≡◌, refl, ◌↔◌, List, ℤ}
+use Rattle.std.specs.Prelude.{ℕ, ◌≡◌, refl, ◌↔◌, List, ℤ, Ok, Err}
 use Rattle.std.proofs.Common.{sym, arith}
 use Rattle.std.proofs.Math.Option.{Option, none, some, map, none-ne-some}
 use Rattle.order.specs.Job.{Order}
@@ -7,14 +7,12 @@ use Rattle.plan.specs.Plan.{Ended, plan, Answer, answer_of, plan_answer}
 use Rattle.plan.specs.Frames.{end_weight, best_kept}
 use Rattle.packed.specs.Judge.{fine}
 use Rattle.packed.specs.Packed.{order_of}
-use Rattle.planner.specs.Calls.{plan_verdict, planned_by, planned_of, plan_numbers}
-use Rattle.planner.specs.declared.Planned.{Planned}
-use Rattle.planner.specs.declared.Planned.TheVariants.{Refused, Made}
+use Rattle.planner.specs.Calls.{Planned, plan_verdict, planned_by, planned_of, plan_numbers}
 
 -- None where the answer is a refusal.
 abbrev pub plan_kept : Planned → Option ℕ
-plan_kept (Refused r) = none
-plan_kept (Made f) = some f.kept_weight
+plan_kept (Err r) = none
+plan_kept (Ok f) = some f.kept_weight
 
 module _ (o : Order) where
   -- Past the checks it is the weight that the plan of the order keeps,

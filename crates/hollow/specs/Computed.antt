@@ -1,6 +1,6 @@
 -- What the definitions say at the named inputs, by computation, as far as it depends on the bytes: the orders that they
 -- mean, that all checks are passed, or which is not, and which plans are legal and best.
-use Rattle.std.specs.Prelude.{ℕ, suc, ◌≡◌, refl, true, false, List, [], ◌∷◌, ℤ, pos, negsuc, length, get_or}
+use Rattle.std.specs.Prelude.{ℕ, suc, ◌≡◌, refl, true, false, List, [], ◌∷◌, ℤ, pos, negsuc, length, get_or, Ok, Err}
 use Rattle.std.proofs.Common.{◌∙◌}
 use Rattle.std.specs.Int.Count.{ones as count_ones}
 use Rattle.std.proofs.lemmas.List.{length-replicate}
@@ -23,7 +23,6 @@ use Rattle.planner.specs.Calls.{plan_checks, plan_verdict}
 use Rattle.halves.specs.Calls.{plan_halves_checks, halves_verdict}
 use Rattle.choosing.specs.Choosing.{choosing_checks, choosing_verdict}
 use Rattle.checking.specs.Calls.{legal_checks, legal_of}
-use Rattle.checking.specs.declared.Checked.TheVariants.{Refused, Answered}
 use Rattle.best_plan.specs.Calls.{best_checks, best_verdict, best_of}
 use Rattle.plan_writer.specs.Calls.{write_checks, write_verdict}
 use Rattle.text.specs.Decimal.{digits_in, digits, figure}
@@ -64,14 +63,14 @@ pub record Accepted (out work : List ℤ) : Type 0 where
   pub extend-morning : extend_verdict start morning_bytes out work ≡ fine
   pub extend-one-job : extend_verdict start one_job_bytes out work ≡ fine
   pub choose : choosing_verdict morning_bytes one_pack_bytes work ≡ fine
-  pub legal-own : legal_of morning_bytes own_plan ≡ Answered true
-  pub legal-other : legal_of morning_bytes one_job_plan ≡ Answered false
-  pub legal-one-job : legal_of one_job_bytes one_job_plan ≡ Answered true
-  pub legal-refused : legal_of one_job_bytes own_plan ≡ Refused (plainly 15)
+  pub legal-own : legal_of morning_bytes own_plan ≡ Ok true
+  pub legal-other : legal_of morning_bytes one_job_plan ≡ Ok false
+  pub legal-one-job : legal_of one_job_bytes one_job_plan ≡ Ok true
+  pub legal-refused : legal_of one_job_bytes own_plan ≡ Err (plainly 15)
   pub best-passed : best_verdict morning_bytes own_plan work ≡ fine
-  pub best-own : best_of morning_bytes own_plan work ≡ Answered true
-  pub best-lighter : best_of morning_bytes lighter_plan work ≡ Answered false
-  pub best-refused : best_of one_job_bytes own_plan work ≡ Refused (plainly 15)
+  pub best-own : best_of morning_bytes own_plan work ≡ Ok true
+  pub best-lighter : best_of morning_bytes lighter_plan work ≡ Ok false
+  pub best-refused : best_of one_job_bytes own_plan work ≡ Err (plainly 15)
   pub write-morning : write_verdict morning_bytes plan_page work ≡ fine
   pub write-one-job : write_verdict one_job_bytes plan_page work ≡ fine
   pub morning-order : order_of morning_bytes ≡ morning

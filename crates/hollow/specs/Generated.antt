@@ -1,6 +1,6 @@
 -- The relations of Contracts are the contracts of the code: for each call, what its generated contract claims of the
 -- arguments, the answer and the parameters at exit is what the relation says. A contract that changes is refused here.
-use Rattle.std.specs.Prelude.{◌≡◌, refl, List, ℕ, Result}
+use Rattle.std.specs.Prelude.{◌≡◌, refl, List, ℕ, Result, ⊤}
 use contract.Lifetimes.{Lfts}
 use Rattle.std.specs.Borrow.{Bor}
 use denote.Triple.Clauses.{AtExit}
@@ -14,16 +14,16 @@ use Rattle.point_records.proofs.Determined as records
 use Rattle.better.specs.Answer.{Joined}
 use Rattle.better.specs.contracts.better_of as better-of
 use Rattle.better.proofs.better_of.Reads as better-of-reads
-use Rattle.unpack.specs.declared.Unpacked.{Unpacked}
+use Rattle.unpack.specs.Answer.{Answer as Unpacking}
 use Rattle.unpack.specs.contracts.unpack as unpack
 use Rattle.unpack.proofs.unpack.Reads as unpack-reads
-use Rattle.pack.specs.declared.Packed.{Packed}
+use Rattle.pack.specs.Answer.{Packed}
 use Rattle.pack.specs.contracts.pack as pack
 use Rattle.pack.proofs.pack.Reads as pack-reads
-use Rattle.framing.specs.declared.Framed.{Framed}
+use Rattle.framing.specs.Answer.{Framed}
 use Rattle.framing.specs.contracts.frame as frame
 use Rattle.framing.proofs.frame.Reads as frame-reads
-use Rattle.reader.specs.declared.Opened.{Opened}
+use Rattle.reader.specs.Reading.{Opened}
 use Rattle.reader.specs.declared.Moved.{Moved}
 use Rattle.reader.specs.contracts.open as opens
 use Rattle.reader.proofs.open.Reads as open-reads
@@ -33,8 +33,8 @@ use Rattle.reader_struct.specs.Standing.{seen}
 use Rattle.reader_struct.specs.declared.Begun.{Begun}
 use Rattle.reader_struct.specs.declared.Stepped.{Stepped}
 use Rattle.reader_struct.specs.declared.Reading.{Reading}
-use Rattle.reader_struct.specs.contracts.open as begin
-use Rattle.reader_struct.specs.contracts.step as reader-step
+use Rattle.reader_struct.specs.contracts.Reader.open as begin
+use Rattle.reader_struct.specs.contracts.Reader.step as reader-step
 use Rattle.reader_struct.specs.contracts.read_at as read_at
 use Rattle.reader_struct.proofs.read_at.Reads as read-at-reads
 use Rattle.reader_struct.proofs.Determined as readers
@@ -42,11 +42,11 @@ use Rattle.report.specs.contracts.report as report
 use Rattle.report.proofs.report.Reads as report-reads
 use Rattle.heat.specs.contracts.heat_up as heat-up
 use Rattle.heat.proofs.heat_up.Reads as heat-up-reads
-use Rattle.planner.specs.declared.Planned.{Planned}
-use Rattle.extending.specs.declared.Extended.{Extended}
+use Rattle.planner.specs.Calls.{Planned}
+use Rattle.extending.specs.Calls.{Extended}
 use Rattle.planner.specs.contracts.plan as plan
 use Rattle.planner.proofs.plan.Reads as plan-reads
-use Rattle.halves.specs.declared.HalvesPlanned.{HalvesPlanned}
+use Rattle.halves.specs.Calls.{HalvesPlanned}
 use Rattle.halves.specs.contracts.plan_halves as plan-halves
 use Rattle.halves.proofs.plan_halves.Reads as plan-halves-reads
 use Rattle.extending.specs.contracts.extend as extend
@@ -60,7 +60,7 @@ use Rattle.openings.specs.contracts.choose as choose
 use Rattle.openings.proofs.choose.Reads as choose-reads
 use Rattle.openings.specs.contracts.choose_first as choose-first
 use Rattle.openings.proofs.choose_first.Reads as choose-first-reads
-use Rattle.checking.specs.declared.Checked.{Checked}
+use Rattle.checking.specs.Calls.{Checked}
 use Rattle.checking.specs.contracts.legal as legal
 use Rattle.checking.proofs.legal.Reads as legal-reads
 use Rattle.best_plan.specs.contracts.best as best
@@ -73,7 +73,6 @@ use Rattle.adding.specs.contracts.add as add
 use Rattle.adding.proofs.add.Reads as add_reads
 use Rattle.feeding.specs.contracts.feed as feed
 use Rattle.feeding.proofs.feed.Reads as feed-reads
-use Rattle.sheet_text.specs.declared.Told.{Told}
 use Rattle.sheet_text.specs.contracts.tell as tell
 use Rattle.sheet_text.proofs.tell.Reads as tell-reads
 use Rattle.hollow.specs.Promises.{planning, extending, joining_profiles, looking_up, looking_up_records, unpacking, packing, framing}
@@ -111,7 +110,7 @@ pub lookup-records-is : (κs : Lfts 1) (a : Args lookup-records.signature κs) (
     → records.Post κs a r x ≡ looking_up_records.allows (a.0.now, a.1.0) r tt
 lookup-records-is κs a r x = refl
 
-pub unpack-is : (κs : Lfts 2) (a : Args unpack.signature κs) (r : Unpacked) (x : AtExit unpack.ended κs)
+pub unpack-is : (κs : Lfts 2) (a : Args unpack.signature κs) (r : Unpacking) (x : AtExit unpack.ended κs)
     → unpack-reads.Post κs a r x ≡ unpacking.allows (a.0.now, a.1.0.now) r x.1.0.now
 unpack-is κs a r x = refl
 
@@ -187,21 +186,21 @@ pub write-plan-is : (κs : Lfts 3) (a : Args write-plan.signature κs) (r : Pack
     ≡ writing_plan.allows (a.0.now, a.1.0.now, a.1.1.0.now) r (x.1.0.now, x.1.1.0.now)
 write-plan-is κs a r x = refl
 
-pub join_is : (κs : Lfts 2) (a : Args join.signature κs) (r : ℕ) (x : AtExit join.ended κs)
+pub join_is : (κs : Lfts 2) (a : Args join.signature κs) (r : Result ⊤ Reason) (x : AtExit join.ended κs)
     → join-reads.Post κs a r x ≡ joining_sheets.allows (a.0.now, a.1.0.now) r x.0.now
 join_is κs a r x = refl
 
-pub add_is : (κs : Lfts 3) (a : Args add.signature κs) (r : ℕ) (x : AtExit add.ended κs)
+pub add_is : (κs : Lfts 3) (a : Args add.signature κs) (r : Result ⊤ Reason) (x : AtExit add.ended κs)
     → add_reads.Post κs a r x
     ≡ adding.allows (a.0.now, a.1.0.now, a.1.1.0.now) r (x.0.now, x.1.1.0.now)
 add_is κs a r x = refl
 
-pub feed-is : (κs : Lfts 4) (a : Args feed.signature κs) (r : ℕ) (x : AtExit feed.ended κs)
+pub feed-is : (κs : Lfts 4) (a : Args feed.signature κs) (r : Result ⊤ Reason) (x : AtExit feed.ended κs)
     → feed-reads.Post κs a r x
     ≡ feeding.allows (a.0.now, a.1.0.now, a.1.1.0.now, a.1.1.1.0.now) r
     (x.0.now, x.1.0.now, x.1.1.1.0.now)
 feed-is κs a r x = refl
 
-pub tell-is : (κs : Lfts 2) (a : Args tell.signature κs) (r : Told) (x : AtExit tell.ended κs)
+pub tell-is : (κs : Lfts 2) (a : Args tell.signature κs) (r : Result ℕ Reason) (x : AtExit tell.ended κs)
     → tell-reads.Post κs a r x ≡ telling.allows (a.0.now, a.1.0, a.1.1.0.now) r x.1.1.0.now
 tell-is κs a r x = refl

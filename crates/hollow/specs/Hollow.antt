@@ -2,19 +2,14 @@
 -- handles the first job and passes the rest by, a profile that comes back unextended, an invented point total, an invented field,
 -- and invented seconds lost.
 -- Definitions only.
-use Rattle.std.specs.Prelude.{ℕ, ◌≡◌, List, ◌++◌, ℤ, take}
+use Rattle.std.specs.Prelude.{ℕ, ◌≡◌, List, ◌++◌, ℤ, take, Ok, Err}
 use Rattle.order.specs.Job.{Job, Point}
 use Rattle.profile.specs.Profile.{extend, better_of}
 use Rattle.packed.specs.Judge.{in_field}
 use Rattle.packed.specs.Packed.{order_of}
-use Rattle.planner.specs.Calls.{planned_of, starts_after, plan_work_after}
-use Rattle.extending.specs.Calls.{profile_given, extend_verdict, extended_by, out_by, extend_work_after}
-use Rattle.planner.specs.declared.Planned.{Planned}
-use Rattle.planner.specs.declared.Planned.TheVariants.{Refused, Made}
-use Rattle.halves.specs.Calls.{halves_of, halves_starts_after, halves_work_after}
-use Rattle.halves.specs.declared.HalvesPlanned.{HalvesPlanned}
-use Rattle.halves.specs.declared.HalvesPlanned.TheVariants as halved
-use Rattle.extending.specs.declared.Extended.{Extended}
+use Rattle.planner.specs.Calls.{Planned, Refused, Made, planned_of, starts_after, plan_work_after}
+use Rattle.extending.specs.Calls.{Extended, profile_given, extend_verdict, extended_by, out_by, extend_work_after}
+use Rattle.halves.specs.Calls.{HalvesPlanned, plan_with, halves_of, halves_starts_after, halves_work_after}
 use Rattle.hollow.specs.Promises.{PlanInput, ExtendInput}
 
 -- ---- extensions
@@ -90,8 +85,8 @@ planning_naming field x = (
 
 -- An answer of planning halves with other seconds.
 abbrev pub with_lost : ℕ → HalvesPlanned → HalvesPlanned
-with_lost s (halved.Refused r) = halved.Refused r
-with_lost s (halved.Made f t) = halved.Made f s
+with_lost s (Err r) = Err r
+with_lost s (Ok p) = Ok (plan_with p.figures s)
 
 -- Planning halves as it should be, but for the seconds.
 abbrev pub halves_with : (PlanInput → ℕ) → PlanInput → HalvesPlanned × (List ℤ × List ℤ)

@@ -1,7 +1,7 @@
 -- An invented point total is shut out: at every order that has a plan any total but the definition's, at P1 any but 14. So is an
 -- invented field: at every order that is refused any but the definition's, at the README's any but 6. So are invented seconds
 -- lost: at every order of halves that is planned any but the definition's, at the README's any but 300.
-use Rattle.std.specs.Prelude.{ℕ, ◌≡◌, false, ◌≢◌}
+use Rattle.std.specs.Prelude.{ℕ, ◌≡◌, false, ◌≢◌, Ok, Err}
 use Rattle.std.proofs.Common.{ap, arith}
 use Rattle.std.proofs.Math.Option.{Option, none, some, map}
 use Rattle.seconds.specs.Limits.{rest}
@@ -10,9 +10,7 @@ use Rattle.plan.specs.Plan.{Ended, answer_of, plan, plan_answer}
 use Rattle.packed.specs.declared.Refusal.{Refusal}
 use Rattle.packed.specs.Judge.{in_field, Verdict, fine, refused}
 use Rattle.packed.specs.Packed.{order_of}
-use Rattle.planner.specs.Calls.{plan_verdict, planned_by, plan_numbers}
-use Rattle.planner.specs.declared.Planned.{Planned}
-use Rattle.planner.specs.declared.Planned.TheVariants as planned
+use Rattle.planner.specs.Calls.{Planned, plan_verdict, planned_by, plan_numbers}
 use Rattle.halves.specs.Calls.{halves_verdict, lost_seconds, with_seconds, halves_numbers}
 use Rattle.hollow.specs.Contract.{ShutOut}
 use Rattle.hollow.specs.Promises.{PlanInput, planning, planning_halves}
@@ -47,7 +45,7 @@ morning-total total d =
     invented-total total plan_morning (rw (accepted.plan-morning, accepted.morning-order)) (rw accepted.morning-order d)
 
 -- The field, of an order that is refused.
-pub invented-field : (field : PlanInput → ℕ) (x : PlanInput) (r : Refusal) → planning.answer x ≡ planned.Refused r
+pub invented-field : (field : PlanInput → ℕ) (x : PlanInput) (r : Refusal) → planning.answer x ≡ Err r
     → field x ≢ r.field → ShutOut planning (planning_naming field) x
 invented-field field x r is d =
     other-answer planning (planning_naming field) x (λ e. d (ap (λ a. (plan_numbers a).refusal.field) (rw is at e)))
@@ -67,8 +65,8 @@ invented-seconds seconds x made d =
     said : (r : Planned) → planning_halves.refusal (with_seconds (lost_seconds (order_of x.0)) r) ≡ false
         → with_lost (seconds x) (with_seconds (lost_seconds (order_of x.0)) r) ≡ with_seconds (lost_seconds (order_of x.0)) r
         → seconds x ≡ lost_seconds (order_of x.0)
-    said (planned.Made f) a e = ap (λ r. (halves_numbers r).seconds_lost) e
-    said (planned.Refused r) a e = let z : ◌≡◌ {A = ℕ} 0 1 = cc in absurd (omega arith)
+    said (Ok f) a e = ap (λ r. (halves_numbers r).seconds_lost) e
+    said (Err r) a e = let z : ◌≡◌ {A = ℕ} 0 1 = cc in absurd (omega arith)
 
 -- Of the README's order.
 pub checked-seconds : (seconds : PlanInput → ℕ) → seconds halves_checked ≢ 300

@@ -1,14 +1,12 @@
-// A run so far: the seed, what was judged, what it was, and how often an answer differed. It is a value that
-// every trial takes and gives back.
-use by_hand::{Judged, Rule};
-use careful::more;
-use comparing::write_count;
+// A run so far: the seed, what was judged, what it was, and how often an answer differed.
+use by_hand::{BEFORE_FREE, BEFORE_READY, BEFORE_RESTED, Judged, PAST_DEADLINE};
+use comparing::{count, write_count};
 use refusals::Reason;
 
 // How a run stands: orders; plans of ours and all plans; those refused by their length or their bits, and accepted;
 // the legal and the best of these, and those that let the bus wait; and plans of ours with one start a second
 // off, by the rule that they break.
-#[derive(Clone, Copy)]
+#[derive(Clone, Copy, Default)]
 pub struct Run {
     pub seed: u64,
     pub orders: u64,
@@ -29,109 +27,93 @@ pub struct Run {
     pub mismatches: u64,
 }
 
-// A run that begins with a seed.
-pub fn new_run(seed: u64) -> Run {
-    Run {
-        seed: seed,
-        orders: 0,
-        ours: 0,
-        plans: 0,
-        wrong_length: 0,
-        wrong_bits: 0,
-        accepted: 0,
-        legal: 0,
-        best: 0,
-        idle_best: 0,
-        idle_not_best: 0,
-        off_legal: 0,
-        off_free: 0,
-        off_ready: 0,
-        off_rested: 0,
-        off_deadline: 0,
-        mismatches: 0,
+// The verdict on a plan that was judged: a rule for the plans that are accepted, or why it is refused.
+pub fn verdict(judged: Judged, holds: bool) -> Result<bool, Reason> {
+    match judged.refusal {
+        0 => Ok(holds),
+        14 => Err(Reason::PlanWrongLength),
+        _ => Err(Reason::PlanStrayBits),
     }
-}
-
-// Counts a mismatch where an answer differs.
-pub fn expect(so_far: Run, agrees: bool) -> Run {
-    let mut run = so_far;
-    run.mismatches = more(run.mismatches, !agrees as u64);
-    run
 }
 
 // Whether a plan that was judged is legal.
-pub fn is_legal(judged: Result<Judged, Reason>) -> bool {
-    judged.is_ok_and(|plan| plan.broken.is_none())
+pub fn is_legal(judged: Judged) -> bool {
+    verdict(judged, judged.broken == 0) == Ok(true)
 }
 
-// Whether a plan that was judged is refused for a reason.
-fn is_refused(judged: Result<Judged, Reason>, reason: Reason) -> bool {
-    judged.is_err_and(|told| told == reason)
-}
-
-// Counts a plan by what it was judged to be, and whether it is best.
-pub fn with_plan(so_far: Run, judged: Result<Judged, Reason>, best: bool) -> Run {
-    let legal = is_legal(judged);
-    let idle = judged.is_ok_and(|plan| plan.idle);
-    let length = is_refused(judged, Reason::PlanWrongLength);
-    let bits = is_refused(judged, Reason::PlanStrayBits);
-    let mut run = so_far;
-    run.plans = more(run.plans, 1);
-    run.wrong_length = more(run.wrong_length, length as u64);
-    run.wrong_bits = more(run.wrong_bits, bits as u64);
-    run.accepted = more(run.accepted, judged.is_ok() as u64);
-    run.legal = more(run.legal, legal as u64);
-    run.best = more(run.best, best as u64);
-    run.idle_best = more(run.idle_best, (best & idle) as u64);
-    run.idle_not_best = more(run.idle_not_best, (legal & !best & idle) as u64);
-    run
-}
-
-// Counts a plan of ours with one start a second off by the rule that it breaks.
-pub fn with_second(so_far: Run, broken: Option<Rule>) -> Run {
-    let mut run = so_far;
-    match broken {
-        None => run.off_legal = more(run.off_legal, 1),
-        Some(Rule::BeforeFree) => run.off_free = more(run.off_free, 1),
-        Some(Rule::BeforeReady) => run.off_ready = more(run.off_ready, 1),
-        Some(Rule::BeforeRested) => run.off_rested = more(run.off_rested, 1),
-        Some(Rule::PastDeadline) => run.off_deadline = more(run.off_deadline, 1),
-        Some(Rule::CriticalOut) => {}
+impl Run {
+    // A run that begins with a seed.
+    pub fn new(seed: u64) -> Run {
+        Run {
+            seed,
+            ..Run::default()
+        }
     }
-    run
-}
 
-// Writes how many orders and plans there were.
-fn write_met(run: Run) {
-    write_count(b"orders ", run.orders);
-    write_count(b"plans of ours ", run.ours);
-    write_count(b"plans judged ", run.plans);
-    write_count(b"refused with 14 ", run.wrong_length);
-    write_count(b"refused with 15 ", run.wrong_bits);
-}
+    // Counts a mismatch where an answer differs.
+    pub fn expect(&mut self, agrees: bool) {
+        count(&mut self.mismatches, !agrees);
+    }
 
-// Writes how many were accepted, and what they were.
-fn write_accepted(run: Run) {
-    write_count(b"accepted ", run.accepted);
-    write_count(b"legal ", run.legal);
-    write_count(b"best ", run.best);
-    write_count(b"idle and best ", run.idle_best);
-    write_count(b"idle and not best ", run.idle_not_best);
-}
+    // Counts a plan by what it was judged to be, and whether it is best.
+    pub fn count_plan(&mut self, judged: Judged, best: bool) {
+        let legal = is_legal(judged);
+        count(&mut self.plans, true);
+        match verdict(judged, legal) {
+            Err(Reason::PlanWrongLength) => count(&mut self.wrong_length, true),
+            Err(_) => count(&mut self.wrong_bits, true),
+            Ok(_) => count(&mut self.accepted, true),
+        }
+        count(&mut self.legal, legal);
+        count(&mut self.best, best);
+        count(&mut self.idle_best, best && judged.idle);
+        count(&mut self.idle_not_best, legal && !best && judged.idle);
+    }
 
-// Writes how many of ours were a second off.
-fn write_seconds(run: Run) {
-    write_count(b"a second off and legal ", run.off_legal);
-    write_count(b"a second before the bus is free ", run.off_free);
-    write_count(b"a second before the job is ready ", run.off_ready);
-    write_count(b"a second before the rest is over ", run.off_rested);
-    write_count(b"a second past the deadline ", run.off_deadline);
-}
+    // Counts a plan of ours with one start a second off, by the rule that it breaks.
+    pub fn count_second(&mut self, broken: usize) {
+        match broken {
+            0 => count(&mut self.off_legal, true),
+            BEFORE_FREE => count(&mut self.off_free, true),
+            BEFORE_READY => count(&mut self.off_ready, true),
+            BEFORE_RESTED => count(&mut self.off_rested, true),
+            PAST_DEADLINE => count(&mut self.off_deadline, true),
+            _ => {}
+        }
+    }
 
-// Writes all counts.
-pub fn write_counts(run: Run) {
-    write_met(run);
-    write_accepted(run);
-    write_seconds(run);
-    write_count(b"mismatches ", run.mismatches);
+    // Writes all counts.
+    pub fn write(self) {
+        self.write_met();
+        self.write_accepted();
+        self.write_seconds();
+        write_count(b"mismatches ", self.mismatches);
+    }
+
+    // Writes how many orders and plans there were.
+    fn write_met(self) {
+        write_count(b"orders ", self.orders);
+        write_count(b"plans of ours ", self.ours);
+        write_count(b"plans judged ", self.plans);
+        write_count(b"refused with 14 ", self.wrong_length);
+        write_count(b"refused with 15 ", self.wrong_bits);
+    }
+
+    // Writes how many were accepted, and what they were.
+    fn write_accepted(self) {
+        write_count(b"accepted ", self.accepted);
+        write_count(b"legal ", self.legal);
+        write_count(b"best ", self.best);
+        write_count(b"idle and best ", self.idle_best);
+        write_count(b"idle and not best ", self.idle_not_best);
+    }
+
+    // Writes how many of ours were a second off.
+    fn write_seconds(self) {
+        write_count(b"a second off and legal ", self.off_legal);
+        write_count(b"a second before the bus is free ", self.off_free);
+        write_count(b"a second before the job is ready ", self.off_ready);
+        write_count(b"a second before the rest is over ", self.off_rested);
+        write_count(b"a second past the deadline ", self.off_deadline);
+    }
 }

@@ -7,11 +7,11 @@ mod checks;
 mod counts;
 
 use by_hand::Best;
-use careful::{front, more};
-use changes::{SECOND_WAYS, WAYS, draw_plan};
+use careful::{front, front_bytes};
+use changes::{Change, OF_DRAWN, OF_OURS, draw_plan};
 use checks::{check_plan, check_written};
-use comparing::pack_order;
-use counts::{Run, new_run, with_second, write_counts};
+use comparing::{count, pack_order};
+use counts::Run;
 use trial_orders::{KINDS, Kind, draw_order, kind_of};
 
 // How many orders there are, and the first seed.
@@ -22,81 +22,75 @@ const SEED: u64 = 48_611_903;
 // The bytes of a plan that keeps nothing.
 const EMPTY: usize = 6;
 
-// The same run with another seed.
-fn with_seed(so_far: Run, seed: u64) -> Run {
-    let mut run = so_far;
-    run.seed = seed;
-    run
+// An order that plans are judged for: packed, by its jobs' numbers and the time from which on the bus is free, and
+// its best choice by trial, if it has one.
+#[derive(Clone, Copy)]
+pub struct Trial<'a> {
+    pub order: &'a [u8],
+    pub numbers: &'a [i32],
+    pub t0: i32,
+    pub best: Option<Best>,
 }
 
-// A plan for an order drawn in a way, and judged.
-fn try_plan(
-    so_far: Run,
-    way: u8,
-    order: &[u8],
-    numbers: &[i32],
-    t0: i32,
-    best: Option<Best>,
-) -> Run {
-    let mut space = [0; 116];
-    let drawn = draw_plan(so_far.seed, way, numbers, t0, best, &mut space);
-    let judged = by_hand::judge_plan(numbers, t0, front(&space, drawn.size));
-    let mut run = with_seed(so_far, drawn.seed);
-    if best.is_some() && way < SECOND_WAYS && drawn.size > EMPTY {
-        run = with_second(run, judged.ok().and_then(|plan| plan.broken));
-    }
-    check_plan(run, order, best, front(&space, drawn.size), judged)
-}
-
-// Plans for an order drawn in every way.
-fn try_plans(so_far: Run, order: &[u8], numbers: &[i32], t0: i32, best: Option<Best>) -> Run {
-    let mut run = so_far;
-    let mut way = 0;
-    while way < WAYS {
-        run = try_plan(run, way, order, numbers, t0, best);
-        way += 1;
-    }
-    run
-}
-
-// Plans for a packed order judged: what is written for it, and drawn ones.
-fn judge_plans(run: Run, order: &[u8], numbers: &[i32], t0: i32) -> Run {
+// The best choice of an order by trial, if there is one.
+fn best_choice(numbers: &[i32], t0: i32) -> Option<Best> {
     let best = by_hand::best_choice(numbers, t0);
-    let written = check_written(run, order, numbers, t0, best);
-    try_plans(written, order, numbers, t0, best)
+    best.found.then_some(best)
 }
 
-// The same for an order's numbers.
-fn pack_and_judge(so_far: Run, numbers: &[i32], t0: i32) -> Run {
+// A plan for an order drawn, changed and judged: that of the best choice, if it is given.
+fn try_plan(run: &mut Run, change: Change, trial: Trial, best: Option<Best>) {
+    let mut space = [0; 116];
+    let size = draw_plan(&mut run.seed, change, trial, best, &mut space);
+    let plan = front_bytes(&space, size);
+    let judged = by_hand::judge_plan(trial.numbers, trial.t0, plan);
+    let by_second = matches!(change, Change::Sooner | Change::Later);
+    if by_second && best.is_some() && size > EMPTY {
+        run.count_second(judged.broken);
+    }
+    check_plan(run, trial, plan, judged);
+}
+
+// Plans for an order changed in every way.
+fn try_plans(run: &mut Run, trial: Trial) {
+    for change in OF_OURS {
+        try_plan(run, change, trial, trial.best);
+    }
+    for change in OF_DRAWN {
+        try_plan(run, change, trial, None);
+    }
+}
+
+// Plans for an order judged: what is written for it, and drawn ones.
+fn judge_plans(run: &mut Run, numbers: &[i32], t0: i32) {
     let mut space = [0; 94];
     let size = pack_order(t0, numbers, &mut space);
-    let mut run = judge_plans(so_far, front(&space, size), numbers, t0);
-    run.orders = more(run.orders, 1);
-    run
+    let order = front_bytes(&space, size);
+    let best = best_choice(numbers, t0);
+    let trial = Trial {
+        order,
+        numbers,
+        t0,
+        best,
+    };
+    check_written(run, trial);
+    try_plans(run, trial);
+    count(&mut run.orders, true);
 }
 
 // An order of a kind drawn, and plans for it judged.
-fn try_order(run: Run, kind: Kind) -> Run {
+fn try_order(run: &mut Run, kind: Kind) {
     let mut jobs = [0; 70];
     let order = draw_order(run.seed, kind, &mut jobs);
-    pack_and_judge(
-        with_seed(run, order.seed),
-        front(&jobs, order.size),
-        order.t0,
-    )
+    run.seed = order.seed;
+    judge_plans(run, front(&jobs, order.size), order.t0);
 }
 
-// All orders, the kinds in turn.
-fn play_rounds() -> Run {
-    let mut run = new_run(SEED);
-    let mut left = ROUNDS;
-    while left > 0 {
-        left -= 1;
-        run = try_order(run, kind_of(left % KINDS));
-    }
-    run
-}
-
+// All orders, the kinds in turn from the last on.
 fn main() {
-    write_counts(play_rounds());
+    let mut run = Run::new(SEED);
+    for left in (0..ROUNDS).rev() {
+        try_order(&mut run, kind_of(left % KINDS));
+    }
+    run.write();
 }

@@ -10,6 +10,7 @@ pub fn gcd(a: u32, b: u32) -> u32
     ensures { result ≡ gcd_of a b }
 {
     let (mut x, mut y) = (a, b);
+    // The steps end with the second number at 0, so no range fits.
     while y != 0 {
         (x, y) = (y, x % y);
     }

@@ -1,6 +1,6 @@
 -- Over the calls: whatever an outcome of the writer that its contract allows has written, every outcome of Legal and of Best on it
 -- says yes. Each call stands with any arguments, its answer, and its parameters at exit.
-use Rattle.std.specs.Prelude.{ℕ, ◌≤◌, ◌≡◌, refl, true, List, ℤ, length, take}
+use Rattle.std.specs.Prelude.{ℕ, ◌≤◌, ◌≡◌, refl, true, List, ℤ, length, take, Ok}
 use Rattle.std.proofs.Common.{◌∙◌}
 use contract.Lifetimes.{Lfts}
 use denote.Triple.Clauses.{AtExit}
@@ -10,9 +10,7 @@ use Rattle.packed.specs.JudgeLaws.{stages-fine}
 use Rattle.packed.specs.Refusals.{room_checks}
 use Rattle.packed.proofs.RefusalLaws.{room-fine}
 use Rattle.area.specs.Area.{area}
-use Rattle.checking.specs.Calls.{legal_checks}
-use Rattle.checking.specs.declared.Checked.{Checked}
-use Rattle.checking.specs.declared.Checked.TheVariants.{Answered}
+use Rattle.checking.specs.Calls.{Checked, legal_checks}
 use Rattle.checking.specs.contracts.legal as legal
 use Rattle.checking.proofs.legal.Reads as legal-reads
 use Rattle.best_plan.specs.Calls.{best_checks}
@@ -21,7 +19,6 @@ use Rattle.best_plan.proofs.best.Reads as best-reads
 use Rattle.plan_writer.specs.Calls.{bytes_for}
 use Rattle.plan_writer.specs.OwnPlans.{OwnPlan, own-plan}
 use Rattle.plan_writer.specs.Answers.{PlanWritten, plan-written}
-use Rattle.pack.specs.declared.Packed.TheVariants.{Bytes}
 use Rattle.plan_writer.specs.contracts.write_plan as write
 use Rattle.plan_writer.proofs.write_plan.Reads as write-reads
 use Rattle.own_plans.specs.Own.{own-accepted, own-legal, own-best}
@@ -34,7 +31,7 @@ best-passed order plan work e room =
     (stages-fine (legal_checks order plan) (room_checks area (length work))).1 (e, (room-fine area (length work)).1 room)
 
 -- A call of the writer that answers with a number of bytes.
-module _ (κs : Lfts 3) (a : Args write.signature κs) (k : ℕ) (x : AtExit write.ended κs) (h : write-reads.Post κs a (Bytes k) x) where
+module _ (κs : Lfts 3) (a : Args write.signature κs) (k : ℕ) (x : AtExit write.ended κs) (h : write-reads.Post κs a (Ok k) x) where
   abbrev order : List ℕ
   order = a.0.now
 
@@ -51,13 +48,13 @@ module _ (κs : Lfts 3) (a : Args write.signature κs) (k : ℕ) (x : AtExit wri
 
   -- Legal says yes of them,
   pub written-legal : (κs' : Lfts 2) (b : Args legal.signature κs') (r : Checked) (y : AtExit legal.ended κs')
-      → legal-reads.Post κs' b r y → b.0.now ≡ order → b.1.0.now ≡ written → r ≡ Answered true
+      → legal-reads.Post κs' b r y → b.0.now ≡ order → b.1.0.now ≡ written → r ≡ Ok true
   written-legal κs' b r y said same sent =
       said ∙ rw (same, sent ∙ wrote-own.front, own-accepted wrote-own.accepted own, own-legal wrote-own.accepted own)
 
   -- and so does Best, given the work area.
   pub written-best : (κs' : Lfts 3) (b : Args best.signature κs') (r : Checked) (y : AtExit best.ended κs')
-      → best-reads.Post κs' b r y → b.0.now ≡ order → b.1.0.now ≡ written → area ≤ length b.1.1.0.now → r ≡ Answered true
+      → best-reads.Post κs' b r y → b.0.now ≡ order → b.1.0.now ≡ written → area ≤ length b.1.1.0.now → r ≡ Ok true
   written-best κs' b r y said same sent room =
       let accepted = own-accepted wrote-own.accepted own in
       let passed = best-passed order (bytes_for wrote-own.answer) b.1.1.0.now accepted room in

@@ -12,7 +12,7 @@ use Rattle.packed.specs.Refusals.{number_checks, room_checks, pack_checks}
 use Rattle.packed.proofs.RefusalLaws.{within-is, room-fine}
 use Rattle.packed.proofs.Accepted.{numbers-fine}
 use Rattle.fields.specs.Asked.{HeaderRoom}
-use Rattle.kinds.specs.Kinds.{Whole}
+use Rattle.jobs.specs.Held.{AllGiven}
 use Rattle.pack.specs.Answer.{Packed, packed_by, bytes_by, pack_of, bytes_after}
 use Rattle.pack.specs.Writing.{Packable, first_records}
 use Rattle.pack.specs.WritingLaws.{all-written}
@@ -44,7 +44,7 @@ module _ (t0 : ℤ) (numbers : List ℤ) (was : List ℕ) where
   -- They are one, and are packed by the count of jobs that the code takes.
   module _ (order : judge (number_checks t0 numbers) ≡ fine) where
     -- They are of whole jobs.
-    pub whole-jobs : Whole numbers (length numbers / 7)
+    pub whole-jobs : AllGiven numbers
     unfolding job_count
     whole-jobs = let f = ((numbers-fine t0 numbers).0 order).list in record { few = f.few; whole = f.whole }
 

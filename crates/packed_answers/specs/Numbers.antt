@@ -5,14 +5,12 @@ use Rattle.heat.specs.Answer.{refusal_of as heat_refusal, length_of}
 use Rattle.refusals.specs.declared.Reason.{Reason}
 use Rattle.packed.specs.declared.Refusal.{Refusal}
 use Rattle.packed.specs.Packed.{the_number, the_pack, the_mark, the_weight, the_ready, the_length, the_deadline}
-use Rattle.unpack.specs.Answer.{refusal_of as unpack_refusal, jobs_unpacked, t0_unpacked}
-use Rattle.unpack.specs.declared.Unpacked.{Unpacked}
-use Rattle.pack.specs.Answer.{refusal_of as pack_refusal, bytes_written}
-use Rattle.pack.specs.declared.Packed.{Packed}
-use Rattle.framing.specs.Answer.{refusal_of as frame_refusal, bytes_written as frame_written, frame_told}
-use Rattle.framing.specs.declared.Framed.{Framed}
-use Rattle.reader.specs.Reading.{open_refusal, open_count, read_refusal, read_end, read_numbers}
-use Rattle.reader.specs.declared.Opened.{Opened}
+use Rattle.packed.specs.Judge.{no_refusal, refusal_of}
+use Rattle.fields.specs.declared.Job.{Job}
+use Rattle.unpack.specs.Answer.{Answer, jobs_unpacked, t0_unpacked}
+use Rattle.pack.specs.Answer.{Packed, bytes_written}
+use Rattle.framing.specs.Answer.{Framed, bytes_written as frame_written, frame_told}
+use Rattle.reader.specs.Reading.{Opened, open_refusal, open_count, read_refusal, read_end, read_numbers}
 use Rattle.reader.specs.declared.Moved.{Moved}
 use Rattle.packed_answers.specs.declared.HeatAnswer.{HeatAnswer}
 use Rattle.packed_answers.specs.declared.UnpackAnswer.{UnpackAnswer}
@@ -28,19 +26,19 @@ heat_numbers h = record { refusal = heat_refusal h; seconds = length_of h }
 
 -- ---- packed orders
 
-abbrev pub unpack_numbers : Unpacked → UnpackAnswer
+abbrev pub unpack_numbers : Answer → UnpackAnswer
 unpack_numbers u =
-    let r = unpack_refusal u in
+    let r = refusal_of u in
     record { refusal = r.number; place = r.place; field = r.field; jobs = jobs_unpacked u; t0 = t0_unpacked u }
 
 abbrev pub pack_numbers : Packed → PackAnswer
 pack_numbers p =
-    let r = pack_refusal p in
+    let r = refusal_of p in
     record { refusal = r.number; place = r.place; field = r.field; bytes = bytes_written p }
 
 abbrev pub framed_numbers : Framed → FrameAnswer
 framed_numbers f =
-    let r = frame_refusal f in
+    let r = refusal_of f in
     record { refusal = r.number; place = r.place; bytes = frame_written f; frame = frame_told f }
 
 abbrev pub open_numbers : Opened → OpenAnswer
@@ -61,6 +59,24 @@ no_job r end next =
       ready = pos 0;
       length = pos 0;
       deadline = pos 0;
+      next = next;
+    }
+
+-- One that gives a job.
+abbrev pub with_job : Job → ℕ → StepAnswer
+with_job j next =
+    record {
+      refusal = no_refusal.number;
+      place = no_refusal.place;
+      field = no_refusal.field;
+      end = 0;
+      number = j.number;
+      pack = j.pack;
+      critical = j.critical;
+      weight = j.weight;
+      ready = j.ready;
+      length = j.length;
+      deadline = j.deadline;
       next = next;
     }
 

@@ -3,13 +3,14 @@
 #![tactic(auto)]
 
 ghost use Rattle.std.specs.Prelude.{◌≡◌};
+ghost use Rattle.packed.specs.Judge.{no_refusal};
 ghost use Rattle.packed_answers.specs.Numbers.{heat_numbers, unpack_numbers, pack_numbers, framed_numbers};
-ghost use Rattle.packed_answers.specs.Numbers.{open_numbers, no_job, step_numbers};
+ghost use Rattle.packed_answers.specs.Numbers.{open_numbers, no_job, with_job, step_numbers};
 
-use framing::Framed;
-use pack::Packed;
-use packed::{Refusal, plainly};
-use reader::{Moved, Opened, Read};
+use fields::Job;
+use framing::FrameOrder;
+use packed::Refusal;
+use reader::Moved;
 use refusals::Reason;
 use unpack::Unpacked;
 
@@ -96,92 +97,89 @@ pub fn heat_answer(heating: Result<u32, Reason>) -> HeatAnswer
 }
 
 // The answer of unpacking.
-pub fn unpack_answer(unpacked: Unpacked) -> UnpackAnswer
+pub fn unpack_answer(unpacked: Result<Unpacked, Refusal>) -> UnpackAnswer
     ensures { result ≡ unpack_numbers unpacked }
 {
     match unpacked {
-        Unpacked::Refused(refusal) => UnpackAnswer {
-            refusal: refusal.number,
-            place: refusal.place,
-            field: refusal.field,
-            jobs: 0,
-            t0: 0,
-        },
-        Unpacked::Jobs(jobs, t0) => UnpackAnswer {
+        Ok(order) => UnpackAnswer {
             refusal: 0,
             place: 0,
             field: 0,
-            jobs: jobs,
-            t0: t0,
+            jobs: order.jobs,
+            t0: order.t0,
+        },
+        Err(refusal) => UnpackAnswer {
+            refusal: refusal.number(),
+            place: refusal.place(),
+            field: refusal.figure(),
+            jobs: 0,
+            t0: 0,
         },
     }
 }
 
 // The answer of packing.
-pub fn pack_answer(packed: Packed) -> PackAnswer
+pub fn pack_answer(packed: Result<usize, Refusal>) -> PackAnswer
     ensures { result ≡ pack_numbers packed }
 {
     match packed {
-        Packed::Refused(refused) => PackAnswer {
-            refusal: refused.number,
-            place: refused.place,
-            field: refused.field,
-            bytes: 0,
-        },
-        Packed::Bytes(bytes) => PackAnswer {
+        Ok(bytes) => PackAnswer {
             refusal: 0,
             place: 0,
             field: 0,
-            bytes: bytes,
+            bytes,
+        },
+        Err(refused) => PackAnswer {
+            refusal: refused.number(),
+            place: refused.place(),
+            field: refused.figure(),
+            bytes: 0,
         },
     }
 }
 
 // The answer of framing.
-pub fn frame_answer(framed: Framed) -> FrameAnswer
+pub fn frame_answer(framed: Result<FrameOrder, Refusal>) -> FrameAnswer
     ensures { result ≡ framed_numbers framed }
 {
     match framed {
-        Framed::Refused(refused) => FrameAnswer {
-            refusal: refused.number,
-            place: refused.place,
-            bytes: 0,
-            frame: 0,
-        },
-        Framed::Made(made) => FrameAnswer {
+        Ok(FrameOrder { bytes, frame }) => FrameAnswer {
             refusal: 0,
             place: 0,
-            bytes: made.bytes,
-            frame: made.frame,
+            bytes,
+            frame,
+        },
+        Err(refused) => FrameAnswer {
+            refusal: refused.number(),
+            place: refused.place(),
+            bytes: 0,
+            frame: 0,
         },
     }
 }
 
 // The answer of opening.
-pub fn open_answer(opened: Opened) -> OpenAnswer
+pub fn open_answer(opened: Result<usize, Refusal>) -> OpenAnswer
     ensures { result ≡ open_numbers opened }
 {
     match opened {
-        Opened::Refused(number) => OpenAnswer {
-            refusal: number,
+        Ok(jobs) => OpenAnswer { refusal: 0, jobs },
+        Err(refused) => OpenAnswer {
+            refusal: refused.number(),
             jobs: 0,
-        },
-        Opened::Accepted(count) => OpenAnswer {
-            refusal: 0,
-            jobs: count,
         },
     }
 }
 
-// A step that gives no job.
-fn no_job(said: Refusal, end: u32, next: usize) -> StepAnswer
-    ensures { result ≡ no_job said end next }
+// A step that is not refused and gives no job.
+fn no_job(end: u32, next: usize) -> StepAnswer
+    ensures { result ≡ no_job no_refusal end next }
 {
     StepAnswer {
-        refusal: said.number,
-        place: said.place,
-        field: said.field,
-        end: end,
+        refusal: 0,
+        place: 0,
+        field: 0,
+        end,
         number: 0,
         pack: 0,
         critical: 0,
@@ -189,7 +187,23 @@ fn no_job(said: Refusal, end: u32, next: usize) -> StepAnswer
         ready: 0,
         length: 0,
         deadline: 0,
-        next: next,
+        next,
+    }
+}
+
+// One that gives a job.
+fn with_job(job: Job, next: usize) -> StepAnswer
+    ensures { result ≡ with_job job next }
+{
+    StepAnswer {
+        number: job.number,
+        pack: job.pack,
+        critical: job.critical,
+        weight: job.weight,
+        ready: job.ready,
+        length: job.length,
+        deadline: job.deadline,
+        ..no_job(0, next)
     }
 }
 
@@ -198,23 +212,14 @@ pub fn step_answer(moved: Moved) -> StepAnswer
     ensures { result ≡ step_numbers moved }
 {
     let next = moved.place;
-    let answer = moved.answer;
-    match answer {
-        Read::Refused(refusal) => no_job(refusal, 0, next),
-        Read::End => no_job(plainly(0), 1, next),
-        Read::Job(job) => StepAnswer {
-            refusal: 0,
-            place: 0,
-            field: 0,
-            end: 0,
-            number: job.number,
-            pack: job.pack,
-            critical: job.critical,
-            weight: job.weight,
-            ready: job.ready,
-            length: job.length,
-            deadline: job.deadline,
-            next: next,
+    match moved.answer {
+        Ok(Some(job)) => with_job(job, next),
+        Ok(None) => no_job(1, next),
+        Err(said) => StepAnswer {
+            refusal: said.number(),
+            place: said.place(),
+            field: said.figure(),
+            ..no_job(0, next)
         },
     }
 }

@@ -3,16 +3,16 @@
 use Rattle.std.specs.Prelude.{ℕ, ◌≡◌, List, ℤ}
 use Rattle.packed.specs.Judge.{fine, judge}
 use Rattle.packed.specs.Refusals.{order_checks}
-use Rattle.pack.specs.declared.Packed.{Packed}
-use Rattle.checking.specs.declared.Checked.{Checked}
+use Rattle.checking.specs.Calls.{Checked}
 use Rattle.checking.proofs.legal.Reads as legal
-use Rattle.extending.specs.declared.Extended.{Extended}
+use Rattle.extending.specs.Calls.{Extended}
 use Rattle.extending.proofs.extend.Reads as extend
-use Rattle.planner.specs.declared.Planned.{Planned}
+use Rattle.planner.specs.Calls.{Planned}
 use Rattle.planner.proofs.plan.Reads as plan
 use Rattle.best_plan.proofs.best.Reads as best
-use Rattle.halves.specs.declared.HalvesPlanned.{HalvesPlanned}
+use Rattle.halves.specs.Calls.{HalvesPlanned}
 use Rattle.halves.proofs.plan_halves.Reads as plan-halves
+use Rattle.plan_writer.specs.Calls.{Written}
 use Rattle.plan_writer.proofs.write_plan.Reads as write-plan
 use Rattle.packs_aside.specs.PacksAside.{order_aside}
 
@@ -69,7 +69,7 @@ extending =
     }
 
 -- Writing the plan, lent bytes and the work area: its answer, and both at exit.
-abbrev pub writing : Call (Outcome write-plan.Post) (List ℕ × List ℤ) (Packed × List ℕ × List ℤ)
+abbrev pub writing : Call (Outcome write-plan.Post) (List ℕ × List ℤ) (Written × List ℕ × List ℤ)
 writing =
     record {
       order = λ p. p.args.0.now;

@@ -1,14 +1,12 @@
 -- For each answer on profiles and plans the struct that says it: the refusal's numbers and the values of the rules. In a refused
 -- answer all but those of the refusal are 0 (R26). Definitions only.
 use Rattle.std.specs.Prelude.{ℕ}
+use Rattle.packed.specs.Judge.{refusal_of}
 use Rattle.profiles.specs.Answer.{Finding, lookup_refusal, found_of, weight_found}
 use Rattle.better.specs.Answer.{Joined, join_refusal, points_written as points_joined}
-use Rattle.extending.specs.Calls.{extend_refusal, points_written}
-use Rattle.planner.specs.Calls.{PlanNumbers, plan_numbers}
-use Rattle.planner.specs.declared.Planned.{Planned}
-use Rattle.halves.specs.Calls.{halves_numbers}
-use Rattle.halves.specs.declared.HalvesPlanned.{HalvesPlanned}
-use Rattle.extending.specs.declared.Extended.{Extended}
+use Rattle.extending.specs.Calls.{Extended, points_written}
+use Rattle.planner.specs.Calls.{Planned, PlanNumbers, plan_numbers}
+use Rattle.halves.specs.Calls.{HalvesPlanned, halves_numbers}
 use Rattle.plan_answers.specs.declared.LookupAnswer.{LookupAnswer}
 use Rattle.plan_answers.specs.declared.BetterAnswer.{BetterAnswer}
 use Rattle.plan_answers.specs.declared.ExtendAnswer.{ExtendAnswer}
@@ -25,7 +23,7 @@ better_numbers j = record { refusal = join_refusal j; points = points_joined j }
 
 abbrev pub extend_numbers : Extended → ExtendAnswer
 extend_numbers e =
-    let r = extend_refusal e in
+    let r = refusal_of e in
     record { refusal = r.number; place = r.place; field = r.field; points = points_written e }
 
 -- ---- plans

@@ -6,9 +6,9 @@ ghost use Rattle.std.specs.Prelude.{◌≡◌};
 ghost use Rattle.plan_answers.specs.Numbers.{lookup_numbers, better_numbers, extend_numbers};
 ghost use Rattle.plan_answers.specs.Numbers.{plan_figures, beside, halves_figures};
 
-use extending::Extended;
-use halves::HalvesPlanned;
-use planner::Planned;
+use halves::HalvesPlan;
+use packed::Refusal;
+use planner::Figures;
 use refusals::Reason;
 
 // A lookup: found (1 or 0), and the weight.
@@ -106,34 +106,34 @@ pub fn better_answer(joined: Result<usize, Reason>) -> BetterAnswer
 }
 
 // The answer of extending.
-pub fn extend_answer(extended: Extended) -> ExtendAnswer
+pub fn extend_answer(extended: Result<usize, Refusal>) -> ExtendAnswer
     ensures { result ≡ extend_numbers extended }
 {
     match extended {
-        Extended::Refused(refused) => ExtendAnswer {
-            refusal: refused.number,
-            place: refused.place,
-            field: refused.field,
+        Err(refusal) => ExtendAnswer {
+            refusal: refusal.number(),
+            place: refusal.place(),
+            field: refusal.figure(),
             points: 0,
         },
-        Extended::Points(points) => ExtendAnswer {
+        Ok(points) => ExtendAnswer {
             refusal: 0,
             place: 0,
             field: 0,
-            points: points,
+            points,
         },
     }
 }
 
 // The answer of planning.
-pub fn plan_answer(planned: Planned) -> PlanAnswer
+pub fn plan_answer(planned: Result<Figures, Refusal>) -> PlanAnswer
     ensures { result ≡ plan_figures planned }
 {
     match planned {
-        Planned::Refused(refusal) => PlanAnswer {
-            refusal: refusal.number,
-            place: refusal.place,
-            field: refusal.field,
+        Err(refusal) => PlanAnswer {
+            refusal: refusal.number(),
+            place: refusal.place(),
+            field: refusal.figure(),
             mask: 0,
             kept: 0,
             kept_weight: 0,
@@ -141,7 +141,7 @@ pub fn plan_answer(planned: Planned) -> PlanAnswer
             finish: 0,
             points: 0,
         },
-        Planned::Made(figures) => PlanAnswer {
+        Ok(figures) => PlanAnswer {
             refusal: 0,
             place: 0,
             field: 0,
@@ -174,15 +174,11 @@ fn with_seconds(plan: PlanAnswer, seconds: u32) -> HalvesAnswer
 }
 
 // The answer of planning halves.
-pub fn halves_answer(planned: HalvesPlanned) -> HalvesAnswer
+pub fn halves_answer(planned: Result<HalvesPlan, Refusal>) -> HalvesAnswer
     ensures { result ≡ halves_figures planned }
 {
     match planned {
-        HalvesPlanned::Refused(refusal) => {
-            with_seconds(plan_answer(Planned::Refused(refusal)), 0)
-        }
-        HalvesPlanned::Made(figures, seconds) => {
-            with_seconds(plan_answer(Planned::Made(figures)), seconds)
-        }
+        Err(refusal) => with_seconds(plan_answer(Err(refusal)), 0),
+        Ok(plan) => with_seconds(plan_answer(Ok(plan.figures)), plan.seconds),
     }
 }

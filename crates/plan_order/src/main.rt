@@ -2,7 +2,7 @@
 // is in `report`; only reading and writing are the kit's.
 #![tactic(auto)]
 
-ghost use Rattle.std.specs.Prelude.{◌≡◌, ◌<◌, length, take};
+ghost use Rattle.std.specs.Prelude.{◌≡◌, ◌<◌, ◌≤◌, length};
 ghost use Rattle.planner.specs.Calls.{longest_order};
 ghost use Rattle.report.specs.Report.{report_of};
 
@@ -20,13 +20,14 @@ const READ: usize = 437;
 // The first bytes of standard input, into room for more than the longest order. A slow pipe is waited for.
 fn read(input: &mut [u8]) -> usize
     requires { longest_order < length input.old }
+    ensures { result ≤ length input.new }
 {
     io::read_full(STANDARD_INPUT, input)
 }
 
-// The text for what was read, the first `count` bytes of a buffer, and nothing else goes to standard output.
-fn write(input: &[u8], count: usize, text: &[u8])
-    requires { text.now ≡ report_of (take count input.now) }
+// The text for what was read, and nothing else goes to standard output.
+fn write(input: &[u8], text: &[u8])
+    requires { text.now ≡ report_of input.now }
 {
     io::write_all(STANDARD_OUTPUT, text);
 }
@@ -37,5 +38,5 @@ fn main() {
     let mut out = [0u8; ROOM];
     let count = read(&mut input);
     let end = report_read(&input, count, &mut out);
-    write(&input, count, &out[..end]);
+    write(&input[..count], &out[..end]);
 }

@@ -42,6 +42,12 @@ longest_order = header_bytes + record_bytes 1 * most_jobs
 abbrev pub Planned : Type 0
 Planned = Result Figures Refusal
 
+pattern abbrev pub Refused : Refusal → Planned
+Refused r = Err r
+
+pattern abbrev pub Made : Figures → Planned
+Made f = Ok f
+
 -- The answer by the verdict and the plan; with no feasible choice it is 11.
 abbrev pub planned_by : Verdict → Option Answer → Planned
 planned_by (refused r) plan = Err r

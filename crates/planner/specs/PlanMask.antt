@@ -24,7 +24,7 @@ use Rattle.points.proofs.WalkLaws.{plan-by-lists}
 use Rattle.codes.specs.declared.Prefix.{Prefix}
 use Rattle.filling.specs.Lists.{Lists}
 use Rattle.filling.specs.ListsLaws.{jobs-single}
-use Rattle.walking.specs.declared.End.{End}
+use Rattle.reading.specs.declared.Found.{Found}
 use Rattle.walking.specs.Trail.{Walks, walk_mask}
 use Rattle.starting.specs.Picks.{picks_of, WritesStarts, starts_written}
 use Rattle.starting.specs.PicksLaws.{picks-feasible, kept-of-mask}
@@ -75,7 +75,7 @@ module _ (bytes : List ℕ) (fine : OrderFine bytes) (e : Ended) (is : plan (t0_
       (plan-picks (t0_of bytes) (jobs_in bytes) e is (jobs-one-rate bytes) (omega (arith, jobs-count bytes, fine.header.few)))
 
   -- The walk from its end can be made,
-  pub plan-walks : (n : ℕ) (end : End) → n ≡ count_of bytes → end.weight ≡ e.end.weight → end.finish ≡ e.end.time
+  pub plan-walks : (n : ℕ) (end : Found) → n ≡ count_of bytes → end.weight ≡ e.end.weight → end.time ≡ e.end.time
       → (work : List ℤ) (notes : List Prefix) (used : ℕ) → Lists (start_point (t0_of bytes) ∷ []) (jobs_in bytes) n notes used work
       → used ≤ length work → n < length notes → Walks work bytes n notes end
   plan-walks n end count weighs ends work notes used lists room room_notes =

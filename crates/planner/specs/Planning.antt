@@ -15,7 +15,7 @@ use Rattle.area.specs.Area.{area}
 use Rattle.codes.specs.declared.Prefix.{Prefix}
 use Rattle.filling.specs.declared.Totals.{Totals}
 use Rattle.filling.specs.Lists.{noted}
-use Rattle.walking.specs.declared.End.{End}
+use Rattle.reading.specs.declared.Found.{Found}
 use Rattle.planner.specs.Calls.{Planned, planned_by, starts_by}
 
 -- The order is accepted, its header read, and there is room for a start of each job and for the lists.
@@ -33,7 +33,7 @@ pub record CanPlanOver (bytes : List ℕ) (header : Header) (starts work : List 
 
 -- There is a plan, with its mask and its end, the points and the weight of all jobs are known, and there is room for a start of
 -- each job.
-pub record CanMake (bytes : List ℕ) (header : Header) (m : ℕ) (totals : Totals) (end : End) (starts : List ℤ) : Type 0 where
+pub record CanMake (bytes : List ℕ) (header : Header) (m : ℕ) (totals : Totals) (end : Found) (starts : List ℤ) : Type 0 where
   pub order : OrderFine bytes
   pub read : HeaderRead bytes header
   pub places : header.count ≤ length starts
@@ -43,7 +43,7 @@ pub record CanMake (bytes : List ℕ) (header : Header) (m : ℕ) (totals : Tota
   pub is : plan (t0_of bytes) (jobs_in bytes) ≡ some best
   pub keeps : m ≡ mask best.choice
   pub weighs : end.weight ≡ best.end.weight
-  pub ends : end.finish ≡ best.end.time
+  pub ends : end.time ≡ best.end.time
 
 -- The answer, and the starts at exit, are those of the order's plan.
 pub record MadeIn (bytes : List ℕ) (starts : List ℤ) (r : Planned) (starts' : List ℤ) : Type 0 where

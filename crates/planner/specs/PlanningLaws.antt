@@ -1,6 +1,6 @@
 -- The laws of planning by lists: the last point of the last list is the plan's end, and from there come the mask, the starts
 -- and the figures.
-use Rattle.std.specs.Prelude.{ℕ, zero, suc, ◌+◌, ◌*◌, ◌-◌, ◌≤◌, ◌≡◌, refl, ℤ, length, take, ◌≤ℤ◌, Ok, Err}
+use Rattle.std.specs.Prelude.{ℕ, zero, suc, ◌+◌, ◌*◌, ◌-◌, ◌≤◌, ◌≡◌, refl, ℤ, length, take, ◌≤ℤ◌, Some, None, Ok, Err}
 use Rattle.std.proofs.Math.Path.{sym, ap}
 use Rattle.std.proofs.Common.{ap₂, ◌∙◌, subst, arith}
 use mathlib.Core.List.{List, [], ◌∷◌, Memᴰ as In}
@@ -24,14 +24,13 @@ use Rattle.codes.specs.declared.Prefix.{Prefix}
 use Rattle.codes.specs.Code.{list_at, points_at}
 use Rattle.codes.specs.Held.{Held}
 use Rattle.codes.specs.HeldLaws.{held-read}
-use Rattle.reading.specs.declared.Found.TheVariants.{Nothing, At}
+use Rattle.reading.specs.declared.Found.{Found}
 use Rattle.reading.specs.Reading.{Stands, found}
 use Rattle.reading.specs.ReadingLaws.{found_nothing, found_at, last-by-latest}
 use Rattle.filling.specs.declared.Totals.{Totals}
 use Rattle.filling.specs.Begin.{CanStart}
 use Rattle.filling.specs.Lists.{noted, Lists, points_to, CanFill, CanFillLists, Filled}
 use Rattle.filling.specs.ListsLaws.{jobs-all, jobs-single, lists-stand}
-use Rattle.walking.specs.declared.End.{End}
 use Rattle.walking.specs.Trail.{Walks, walk_mask}
 use Rattle.starting.specs.Picks.{picks_of, WritesStarts, starts_written}
 use Rattle.planner.specs.Planning.{CanPlan, CanPlanOver, CanMake, MadeIn}
@@ -57,7 +56,7 @@ module _ (bytes : List ℕ) (fine : OrderFine bytes) where
 
 -- ---- the plan from its mask and its end
 
-module _ {bytes : List ℕ} {header : Header} {m : ℕ} {totals : Totals} {end : End} {old : List ℤ} (f : CanMake bytes header m totals end old) where
+module _ {bytes : List ℕ} {header : Header} {m : ℕ} {totals : Totals} {end : Found} {old : List ℤ} (f : CanMake bytes header m totals end old) where
   abbrev answer : Answer
   answer = answer_of (t0_of bytes) (jobs_in bytes) f.best
 
@@ -102,7 +101,7 @@ module _ {bytes : List ℕ} {header : Header} {m : ℕ} {totals : Totals} {end :
         kept = kept;
         kept_weight = end.weight;
         lost_weight = totals.weight - end.weight;
-        finish = end.finish;
+        finish = end.time;
         points = totals.points;
       })) written
   plan-made kept written k s =
@@ -194,7 +193,7 @@ module _ {bytes : List ℕ} {header : Header} {old work : List ℤ} {notes : Lis
             ∙ last-by-latest (profile_after (t0_of bytes) (jobs_in bytes)) early ∙ sym (plan-end-last (t0_of bytes) (jobs_in bytes))
 
         -- With none there is no feasible choice,
-        pub nothing-made : Nothing ≡ found (lookup (points_at filled (noted notes' n)) latest_free)
+        pub nothing-made : None ≡ found (lookup (points_at filled (noted notes' n)) latest_free)
             → MadeIn bytes old (Err (plainly 11)) old
         unfolding order_of
         nothing-made e =
@@ -203,14 +202,14 @@ module _ {bytes : List ℕ} {header : Header} {old work : List ℤ} {notes : Lis
             record { answer = rw no-plan; written = rw no-plan }
 
         -- else the plan ends there.
-        module _ (end : End)
-            (is : At end.weight end.finish ≡ found (lookup (points_at filled (noted notes' n)) latest_free))
+        module _ (end : Found)
+            (is : Some end ≡ found (lookup (points_at filled (noted notes' n)) latest_free))
           where
             planned : (best : Ended) × (plan (t0_of bytes) (jobs_in bytes) ≡ some best)
-                × (best.end ≡ record { time = end.finish; weight = end.weight })
+                × (best.end ≡ record { time = end.time; weight = end.weight })
             planned =
                 (map-eq-some_iff (λ (x : Ended). x.end) (plan (t0_of bytes) (jobs_in bytes))).0
-                (sym end-found ∙ found_at _ end.weight end.finish (sym is))
+                (sym end-found ∙ found_at _ end (sym is))
 
             abbrev best : Ended
             best = planned.0
@@ -218,7 +217,7 @@ module _ {bytes : List ℕ} {header : Header} {old work : List ℤ} {notes : Lis
             weighs : end.weight ≡ best.end.weight
             weighs = ap (λ (p : Point). p.weight) (sym planned.2)
 
-            ends : end.finish ≡ best.end.time
+            ends : end.time ≡ best.end.time
             ends = ap (λ (p : Point). p.time) (sym planned.2)
 
             -- The walk back from there can be made,
@@ -230,7 +229,7 @@ module _ {bytes : List ℕ} {header : Header} {old work : List ℤ} {notes : Lis
                 room (omega (arith, f.room_notes))
 
             -- and by the mask that it gives the plan can be made.
-            pub can-make : (m : ℕ) → some m ≡ walk_mask (t0_of bytes) (jobs_in bytes) end.weight end.finish
+            pub can-make : (m : ℕ) → some m ≡ walk_mask (t0_of bytes) (jobs_in bytes) end.weight end.time
                 → CanMake bytes header m totals end old
             can-make m walked = record {
               order = planning.order;

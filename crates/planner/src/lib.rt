@@ -98,10 +98,7 @@ pub fn plan_order(bytes: &[u8], starts: &mut [i32], work: &mut [i32]) -> Result<
     ensures { PlanCall bytes.now starts.old work.old result starts.new work.new }
 {
     let header = header_at(bytes);
-    if starts.len() < header.count {
-        return Err(Reason::BufferTooShort.into());
-    }
-    if work.len() < AREA {
+    if starts.len() < header.count || work.len() < AREA {
         return Err(Reason::BufferTooShort.into());
     }
     let answer = plan_within(bytes, header, starts, &mut work[..AREA]);

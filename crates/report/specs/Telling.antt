@@ -4,7 +4,7 @@ use Rattle.std.proofs.Math.Path.{◌≡◌, refl, ap}
 use Rattle.std.proofs.Common.{sym, ◌∙◌, zero-add, arith, length-append, take_at}
 use mathlib.Core.List.{List, [], ◌++◌}
 use Rattle.std.proofs.Math.Option.{Option, none, some}
-use Rattle.std.specs.Prelude.{ℤ}
+use Rattle.std.specs.Prelude.{ℤ, Ok, Err}
 use Rattle.std.proofs.Math.ListN.{length, take, drop}
 use borrow.Author.Tests.{ltb-true, lt-ltb, le-ltb}
 use Rattle.seconds.specs.Limits.{most_jobs}
@@ -22,7 +22,6 @@ use Rattle.packed.proofs.Accepted.{order-fine, order-within}
 use Rattle.planner.specs.Calls.{plan_verdict, planned_by, starts_by, planned_of, starts_after}
 use Rattle.planner.specs.Answers.{plan-roomy}
 use Rattle.planner.specs.declared.Figures.{Figures}
-use Rattle.planner.specs.declared.Planned.TheVariants.{Refused, Made}
 use Rattle.text.specs.Buffer.{Wrote}
 use Rattle.report.specs.Report.{refusal_line, plan_line, plan_text, text_of, report_of, text_room, printed, Reported}
 use Rattle.report.specs.Writing.{listed, CanTell, HasRoom}
@@ -93,13 +92,13 @@ module _ (bytes : List ℕ) (starts work : List ℤ) (out : List ℕ) (room : Ha
   verdict-is = plan-roomy bytes starts work room.places room.space
 
   -- A refusal is told by one line, and its place is an early one.
-  pub refusal-told : (r : Refusal) → Refused r ≡ planned_of bytes starts work
+  pub refusal-told : (r : Refusal) → Err r ≡ planned_of bytes starts work
       → (report_of bytes ≡ refusal_line r) × (r.place ≤ most_jobs)
   unfolding report_of text_of plan_text
   refusal-told r is = go (judge (order_checks bytes)) (plan_answer (order_of bytes)) refl refl (rw verdict-is at is)
     where
       go : (v : Verdict) (o : Option Answer) → judge (order_checks bytes) ≡ v → plan_answer (order_of bytes) ≡ o
-          → Refused r ≡ planned_by v o → (report_of bytes ≡ refusal_line r) × (r.place ≤ most_jobs)
+          → Err r ≡ planned_by v o → (report_of bytes ≡ refusal_line r) × (r.place ≤ most_jobs)
       go (refused s) o e f h =
           let same : s ≡ r = cc in
           rw (e, ← same) (refl, place-early bytes e)
@@ -109,13 +108,13 @@ module _ (bytes : List ℕ) (starts work : List ℤ) (out : List ℕ) (room : Ha
       go fine (some a) e f h = let z : ◌≡◌ {A = ℕ} 0 1 = cc in absurd (omega arith)
 
   -- A plan can be told.
-  pub plan-tellable : (figures : Figures) (written : List ℤ) → Made figures ≡ planned_of bytes starts work
+  pub plan-tellable : (figures : Figures) (written : List ℤ) → Ok figures ≡ planned_of bytes starts work
       → written ≡ starts_after bytes starts work → CanTell bytes figures written out
   plan-tellable figures written is begin =
       go (judge (order_checks bytes)) (plan_answer (order_of bytes)) refl refl (rw verdict-is at is) (rw verdict-is at begin)
     where
       go : (v : Verdict) (o : Option Answer) → judge (order_checks bytes) ≡ v → plan_answer (order_of bytes) ≡ o
-          → Made figures ≡ planned_by v o → written ≡ starts_by v o starts → CanTell bytes figures written out
+          → Ok figures ≡ planned_by v o → written ≡ starts_by v o starts → CanTell bytes figures written out
       go (refused s) o e f h w = let z : ◌≡◌ {A = ℕ} 0 1 = cc in absurd (omega arith)
       go fine none e f h w = let z : ◌≡◌ {A = ℕ} 0 1 = cc in absurd (omega arith)
       go fine (some a) e f h w =

@@ -11,16 +11,16 @@ ghost use Rattle.report.specs.Writing.{front_words, kept_words, CanRefuse, CanLi
 use area::AREA;
 use fields::{header_at, job_in};
 use packed::Refusal;
-use planner::{Figures, Planned, plan};
+use planner::{Figures, plan};
 use starting::LEFT_OUT;
 use text::Writer;
 
 // The bytes between the figures of a line and at its end, and the one for a job that is left out.
-const SPACE: u8 = 32;
+const SPACE: u8 = b' ';
 
-const NEWLINE: u8 = 10;
+const NEWLINE: u8 = b'\n';
 
-const MINUS: u8 = 45;
+const MINUS: u8 = b'-';
 
 // The most jobs of an order.
 const MOST_JOBS: usize = 48;
@@ -42,9 +42,10 @@ pub fn put_refusal(out: &mut [u8], refusal: Refusal) -> usize
     requires { CanRefuse refusal out.old }
     ensures { Wrote out.old 0 (refusal_line refusal) out.new result }
 {
+    let field = refusal.figure();
     let mut text = Writer { out, at: 0 };
-    put_front(&mut text, refusal.number, refusal.place as u32);
-    text.figure(refusal.field, NEWLINE);
+    put_front(&mut text, refusal.number(), refusal.place() as u32);
+    text.figure(field, NEWLINE);
     text.at
 }
 
@@ -122,8 +123,8 @@ fn plan_and_tell(bytes: &[u8], starts: &mut [i32], work: &mut [i32], out: &mut [
     ensures { Wrote out.old 0 (report_of bytes.now) out.new result }
 {
     match plan(bytes, starts, work) {
-        Planned::Refused(refusal) => put_refusal(out, refusal),
-        Planned::Made(figures) => tell_plan(bytes, figures, starts, out),
+        Ok(figures) => tell_plan(bytes, figures, starts, out),
+        Err(refusal) => put_refusal(out, refusal),
     }
 }
 

@@ -11,20 +11,15 @@ use Rattle.packed.specs.Packed.{count_of, order_of}
 use Rattle.packed.specs.Refusals.{order_checks}
 use Rattle.packed_plan.specs.Plan.{kept_in}
 use Rattle.legal.specs.Legal.{weight_kept}
-use Rattle.pack.specs.declared.Packed.{Packed}
-use Rattle.planner.specs.declared.Planned.{Planned}
-use Rattle.planner.specs.Calls.{plan_verdict, planned_by, starts_by}
-use Rattle.halves.specs.declared.HalvesPlanned.{HalvesPlanned}
-use Rattle.halves.specs.Calls.{halves_verdict, lost_in, with_seconds}
-use Rattle.extending.specs.declared.Extended.{Extended}
-use Rattle.extending.specs.Calls.{profile_given, extend_verdict, extended_by, out_by}
+use Rattle.planner.specs.Calls.{Planned, plan_verdict, planned_by, starts_by}
+use Rattle.halves.specs.Calls.{HalvesPlanned, halves_verdict, lost_in, with_seconds}
+use Rattle.extending.specs.Calls.{Extended, profile_given, extend_verdict, extended_by, out_by}
 use Rattle.ties.specs.declared.Chosen.{Chosen}
 use Rattle.ties.specs.Winning.{TieRule, by_points}
 use Rattle.choosing.specs.Choosing.{choosing_verdict, chosen_by, part_of, place_of, kind_won}
 use Rattle.openings.specs.declared.Answer.{Answer as Told}
-use Rattle.plan_writer.specs.Calls.{write_verdict, written_by, out_by as bytes_by}
-use Rattle.checking.specs.declared.Checked.{Checked}
-use Rattle.checking.specs.Calls.{legal_in, checked_by}
+use Rattle.plan_writer.specs.Calls.{Written, write_verdict, written_by, out_by as bytes_by}
+use Rattle.checking.specs.Calls.{Checked, legal_in, checked_by}
 use Rattle.best_plan.specs.Calls.{best_verdict}
 use Rattle.best_plan.specs.Weights.{not_above}
 use Rattle.report.specs.Report.{refusal_line, plan_text, text_room}
@@ -98,7 +93,7 @@ choice_over w rule first second at other t work =
 -- ---- writing the plan, and whether a plan is best
 
 -- The answer, and the bytes at exit.
-abbrev pub write_over : Way → List ℕ → List ℕ → List ℤ → Packed × List ℕ
+abbrev pub write_over : Way → List ℕ → List ℕ → List ℤ → Written × List ℕ
 write_over w order out work =
     let v = write_verdict order out work in
     let a = plan_answer_over w (order_of order) in

@@ -5,7 +5,7 @@ use Rattle.packed.specs.Judge.{judge}
 use Rattle.packed.specs.Packed.{order_of}
 use Rattle.packed.specs.Refusals.{order_checks}
 use Rattle.planner.specs.Calls.{planned_by}
-use Rattle.planner.specs.declared.Planned.{Planned}
+use Rattle.planner.specs.Calls.{Planned}
 use Rattle.sheet.specs.Sheet.{Sheet, one_order, join, sheet_of}
 
 -- The answer for any bytes.

@@ -25,8 +25,7 @@ use Rattle.planner.specs.Longer.{front-enough}
 use Rattle.planner.specs.Answers.{plan-roomy}
 use Rattle.planner.specs.PlanningLaws.{total-few}
 use Rattle.planner.specs.declared.Figures.{Figures}
-use Rattle.planner.specs.declared.Planned.{Planned}
-use Rattle.planner.specs.declared.Planned.TheVariants.{Refused, Made}
+use Rattle.planner.specs.Calls.{Planned, Refused, Made}
 use Rattle.sheet.specs.Sheet.{Sheet, most_orders, orders, no_sheet, one_order, join, sheet_of, is_sheet}
 use Rattle.sheet.specs.NumbersLaws.{sum-cons}
 use Rattle.sheet.specs.Answered.{answered, with_order, week_of}
@@ -36,7 +35,7 @@ use Rattle.sheet.specs.FitsLaws.{Fitting, without, with-one, join-fits, sheet-sa
 -- The first bytes of an entry, if they are more than the longest order has, have the answer of the whole entry.
 pub entry-front : (size : ℕ) → longest_order < size → (entry : List ℕ) → answered (take size entry) ≡ answered entry
 unfolding answered
-entry-front = front-enough answered Refused (λ bytes r e. rw e)
+entry-front = front-enough answered (λ r. Refused r) (λ bytes r e. rw e)
 
 -- With room for every order planning gives it.
 pub answered-is : (bytes : List ℕ) (starts work : List ℤ) → most_jobs ≤ length starts → area ≤ length work

@@ -1,8 +1,7 @@
 -- Sheets as the rules write them, by computation: of no order, of one that is refused, of two that tie; joined, and what is no sheet.
 use Rattle.std.specs.Prelude.{ℕ, ◌≡◌, refl, true, false, List, [], ◌∷◌, ◌++◌, pos, replicate}
 use Rattle.packed.specs.Judge.{plainly}
-use Rattle.planner.specs.declared.Planned.{Planned}
-use Rattle.planner.specs.declared.Planned.TheVariants.{Refused, Made}
+use Rattle.planner.specs.Calls.{Planned, Refused, Made}
 use Rattle.sheet.specs.Sheet.{no_sheet, one_order, join, sheet_of, numbers_of, sheet_in, sheet_over, fits, is_sheet, join_refusal, joined_after}
 
 -- A plan that keeps so many jobs, so much weight and loses so much, with so many points.

@@ -20,6 +20,7 @@ fn figure_count(value: u32) -> usize
 {
     let mut rest = value;
     let mut count: usize = 1;
+    // It counts divisions, so no range fits.
     while rest > 9 {
         rest /= 10;
         count += 1;

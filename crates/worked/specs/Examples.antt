@@ -13,7 +13,8 @@ use Rattle.packed.specs.Packed.{job_count, fields_at, packed_header, packed_job,
 use Rattle.packed.specs.Refusals.{fields_within, first_bad, number_at, first_repeat, header_checks, job_checks, weight_checks}
 use Rattle.profiles.specs.Answer.{lookup_of, lookup_refusal, found_of, weight_found}
 use Rattle.better.specs.Answer.{joined_of, join_refusal, points_written as points_joined, out_after as joined_after}
-use Rattle.extending.specs.Calls.{extend_judged, extend_checks, extended_of, extend_refusal, points_written, out_after}
+use Rattle.packed.specs.Judge.{refusal_of as extend_refusal}
+use Rattle.extending.specs.Calls.{extend_judged, extend_checks, extended_of, points_written, out_after}
 use Rattle.planner.specs.Calls.{plan_checks, planned_of, plan_numbers, PlanNumbers, starts_after}
 use Rattle.heat.specs.Answer.{heating_of, refusal_of as heat_refusal, length_of}
 

@@ -14,9 +14,10 @@ use Rattle.packed.specs.Refusals.{fields_within, first_bad, number_at, first_rep
 use Rattle.packed_plan.specs.Plan.{plan_number, pack_plan, mask_in, count_in, plan_fields, starts_in, pad_in, kept_in, sent_checks}
 use Rattle.packed_plan.proofs.PlanLaws.{ones-raised}
 use Rattle.legal.specs.Legal.{is_legal, is_best}
-use Rattle.pack.specs.Answer.{refusal_of, bytes_written}
+use Rattle.packed.specs.Judge.{refusal_of}
+use Rattle.pack.specs.Answer.{bytes_written}
 use Rattle.checking.specs.Calls.{legal_checks, legal_of, checked_numbers}
-use Rattle.checking.specs.declared.Checked.{Checked}
+use Rattle.checking.specs.Calls.{Checked}
 use Rattle.best_plan.specs.Calls.{best_checks, best_of}
 use Rattle.plan_writer.specs.Calls.{write_checks, bytes_for, written_of, out_after}
 use Rattle.report.specs.AsPrinted.{morning_bytes}

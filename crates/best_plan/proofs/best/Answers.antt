@@ -1,23 +1,18 @@
 -- `best_plan::best` meets its contract: an order or a plan that its checks refuse is answered so, any other is weighed.
 -- Assumes nothing.
-use mathlib.Core.Path.{sym, ◌∙◌}
-use Rattle.judge.specs.Told.{told-fine}
-use Rattle.checking.specs.Calls.{legal_checks}
+use mathlib.Core.Path.{◌≡◌, sym, subst, ◌∙◌}
+use borrow.Author.Rules.{rules}
+use Rattle.std.proofs.Common.{Err}
+use Rattle.best_plan.specs.Calls.{BestCall}
 use Rattle.best_plan.specs.CallLaws.{best-stopped}
 use Rattle.best_plan.proofs.best.Goals as goal
-use Rattle.best_plan.proofs.best.Goals.{After-judge_sent}
 
 pub best_within-requires : goal.best_within-requires
-best_within-requires c =
-    let j : After-judge_sent = (goal.at.best_within-requires c).After-judge_sent in
-    let a = j.args in
-    told-fine (legal_checks a.order.now a.plan.now) (sym j.judge_sent.ensures ∙ c.in-Fine.is)
+best_within-requires c = sym c.judge_sent.ensures ∙ c.in_ok-judge_sent.was
 
-pub returns-in-Refused : goal.returns-in-Refused
-returns-in-Refused c =
-    let j : After-judge_sent = (goal.at.returns-in-Refused c).After-judge_sent in
-    let a = j.args in
-    best-stopped a.order.now a.plan.now a.work.now c.in-Refused.refusal (sym j.judge_sent.ensures ∙ c.in-Refused.is)
-
-pub returns-in-Fine : goal.returns-in-Fine
-returns-in-Fine c = c.best_within.ensures
+pub returns-in_err-judge_sent : goal.returns-in_err-judge_sent
+returns-in_err-judge_sent c =
+    let e : c.from_residual.result ≡ Err c.in_err-judge_sent.field-0.0 = search rules in
+    let a = c.args in
+    subst (λ r. BestCall a.order.now a.plan.now a.work.now r a.work.now) (sym e)
+    (best-stopped a.order.now a.plan.now a.work.now (sym c.judge_sent.ensures ∙ c.in_err-judge_sent.was))

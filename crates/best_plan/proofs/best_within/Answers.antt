@@ -18,7 +18,7 @@ start c = (goal.at.Else-work-lt-AREA c).Start
 pub returns-then-work-lt-AREA : goal.returns-then-work-lt-AREA
 returns-then-work-lt-AREA c =
     let s : Start = (goal.at.returns-then-work-lt-AREA c).Start in
-    rw c.plainly.ensures
+    rw c.into.ensures
     (no_room s.args.order.now s.args.plan.now s.args.work.now s.requires c.if-work-lt-AREA.true)
 
 -- The part lent is as long as the area.

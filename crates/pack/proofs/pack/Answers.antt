@@ -28,10 +28,13 @@ sized : (zs : List ℤ) (kind written : ℕ) → kind ≡ kind_for zs → writte
     → written ≡ 4 + record_bytes (kind_for zs) * (length zs / 7)
 sized zs kind written k w = w ∙ ap (λ k. 4 + record_bytes k * (length zs / 7)) k
 
-pub kind_for-kind-requires : goal.kind_for-kind-requires
-kind_for-kind-requires c =
-    whole-jobs c.args.t0 c.args.numbers.now []
-    (told c.args.t0 c.args.numbers.now c.ranges.t0 c.judge_numbers.ensures c.in_ok-judge_numbers.was)
+pub invariant_of-kind_for : goal.invariant_of-kind_for
+invariant_of-kind_for c =
+    record {
+      whole =
+          whole-jobs c.args.t0 c.args.numbers.now []
+          (told c.args.t0 c.args.numbers.now c.ranges.t0 c.judge_numbers.ensures c.in_ok-judge_numbers.was);
+    }
 
 pub packed_bytes-written-requires : goal.packed_bytes-written-requires
 packed_bytes-written-requires c =

@@ -1,18 +1,30 @@
 -- `plan_answers::plan_answer` meets its contract: each arm is a case of the answer.
 -- Assumes nothing.
 use mathlib.Core.Path.{sym, ap, ◌∙◌}
-use lib.IntN.{ℤ}
+use lib.IntN.{ℤ, pos}
 use mir.Syntax.{w32}
 use mir.Val.{SFits}
 use mir.Facts.{to_z-of_z}
 use borrow.Author.Rules.{rules}
+use Rattle.std.proofs.Common.{Ok}
 use Rattle.planner.specs.declared.Figures.{Figures}
-use Rattle.planner.specs.declared.Planned.TheVariants.{Made}
 use Rattle.plan_answers.specs.Numbers.{plan_figures}
 use Rattle.plan_answers.proofs.plan_answer.Goals as goal
 
-pub returns-in-Refused : goal.returns-in-Refused
-returns-in-Refused c = sym (ap plan_figures c.in-Refused.is)
+pub returns-in-Err : goal.returns-in-Err
+returns-in-Err c =
+    (λ i. record {
+      refusal = c.number.ensures i;
+      place = c.place.ensures i;
+      field = c.figure.ensures i;
+      mask = 0;
+      kept = 0;
+      kept_weight = 0;
+      lost_weight = 0;
+      finish = pos 0;
+      points = 0;
+    })
+    ∙ sym (ap plan_figures c.in-Err.is)
 
 -- The figures with another finish.
 abbrev ended : Figures → ℤ → Figures
@@ -26,8 +38,8 @@ ended f t =
       points = f.points;
     }
 
-pub returns-in-Made : goal.returns-in-Made
-returns-in-Made c =
-    let f : Figures = c.in-Made.figures in
+pub returns-in-Ok : goal.returns-in-Ok
+returns-in-Ok c =
+    let f : Figures = c.in-Ok.figures in
     let fits : SFits w32 f.finish = search rules in
-    ap (λ (t : ℤ). plan_figures (Made (ended f t))) (to_z-of_z fits) ∙ sym (ap plan_figures c.in-Made.is)
+    ap (λ (t : ℤ). plan_figures (Ok (ended f t))) (to_z-of_z fits) ∙ sym (ap plan_figures c.in-Ok.is)

@@ -34,6 +34,6 @@ overflow_cast-result-3 c = omega (arith, points-light c.requires)
 pub returns : goal.returns
 returns c =
     let s = (goal.at.returns c).Start in
-    let finish : SFits w32 c.args.end.finish = search rules in
+    let finish : SFits w32 c.args.end.time = search rules in
     rw (to_z-of_z finish)
     (plan-made c.requires c.kept_of.result _ c.kept_of.ensures (rw (t0-back s) at c.write_starts.ensures))

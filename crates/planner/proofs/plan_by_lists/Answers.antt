@@ -8,19 +8,19 @@ use mir.Syntax.{w32}
 use mir.Val.{SFits, to_z, of_z}
 use mir.Facts.{to_z-of_z}
 use borrow.Author.Rules.{rules}
+use Rattle.std.proofs.Common.{Some, None}
 use Rattle.seconds.specs.Limits.{rest, latest_free}
 use Rattle.seconds.specs.RangesLaws.{time-fits}
 use Rattle.order.specs.Job.{Point}
 use Rattle.profile.specs.Profile.{lookup, start_point}
 use Rattle.codes.specs.Code.{points_at}
 use Rattle.codes.specs.Held.{Held}
-use Rattle.reading.specs.declared.Found.TheVariants.{Nothing, At}
+use Rattle.reading.specs.declared.Found.{Found}
 use Rattle.reading.specs.Reading.{found}
 use Rattle.filling.specs.Lists.{noted}
-use Rattle.walking.specs.declared.End.{End}
 use Rattle.planner.specs.PlanningLaws.{can-start, can-fill, last-stands, nothing-made, can-walk, can-make}
 use Rattle.planner.proofs.plan_by_lists.Goals as goal
-use Rattle.planner.proofs.plan_by_lists.Goals.{After-fill_lists-totals, After-last_by, After-start_at, After-walk-mask, In-At, In-Nothing, Start}
+use Rattle.planner.proofs.plan_by_lists.Goals.{After-fill_lists-totals, After-last_by, After-start_at, After-walk-mask, In-Some, In-None, Start}
 
 -- ---- the first list is started
 
@@ -84,47 +84,42 @@ searched : (c : After-last_by)
 unfolding rest
 searched c = c.last_by.ensures
 
-module _ (c : In-At) where
+module _ (c : In-Some) where
   abbrev ended : After-last_by
-  ended = (goal.at.In-At c).After-last_by
+  ended = (goal.at.In-Some c).After-last_by
 
   abbrev lists : After-fill_lists-totals
   lists = (goal.at.After-last_by ended).After-fill_lists-totals
 
-  abbrev end : End
-  end = record { weight = c.in-At.weight; finish = c.in-At.finish }
+  abbrev end : Found
+  end = c.in-Some.end
 
-  finish-back : to_z w32 (of_z w32 end.finish) ≡ end.finish
-  finish-back = to_z-of_z {w = w32} {z = end.finish} (search rules)
-
-  is-end : At end.weight end.finish ≡ found (lookup (last lists) latest_free)
-  is-end = sym c.in-At.is ∙ searched ended
+  is-end : Some end ≡ found (lookup (last lists) latest_free)
+  is-end = sym c.in-Some.is ∙ searched ended
 
 -- ---- the plan is made from there
 
 pub walk-mask-requires : goal.walk-mask-requires
 walk-mask-requires c =
-    let e : In-At = (goal.at.walk-mask-requires c).In-At in
+    let e : In-Some = (goal.at.walk-mask-requires c).In-Some in
     let f = lists e in
     let d = from f in
-    rw (finish-back e)
-    (can-walk (entry d).requires (sized d) (started d) (kept f) f.fill_lists-totals.ensures (end e) (is-end e) (same-notes f))
+    can-walk (entry d).requires (sized d) (started d) (kept f) f.fill_lists-totals.ensures (end e) (is-end e) (same-notes f)
 
 pub make_plan-requires : goal.make_plan-requires
 make_plan-requires c =
     let walked : After-walk-mask = (goal.at.make_plan-requires c).After-walk-mask in
-    let e : In-At = (goal.at.After-walk-mask walked).In-At in
+    let e : In-Some = (goal.at.After-walk-mask walked).In-Some in
     let f = lists e in
     let d = from f in
-    rw (finish-back e)
-    (can-make (entry d).requires (sized d) (started d) (kept f) f.fill_lists-totals.ensures (end e) (is-end e) walked.walk-mask.result
-    (rw (finish-back e) at walked.walk-mask.ensures))
+    can-make (entry d).requires (sized d) (started d) (kept f) f.fill_lists-totals.ensures (end e) (is-end e) walked.walk-mask.result
+    walked.walk-mask.ensures
 
-pub returns-in-Nothing : goal.returns-in-Nothing
-returns-in-Nothing c =
-    let told : In-Nothing = (goal.at.returns-in-Nothing c).In-Nothing in
-    let ended : After-last_by = (goal.at.In-Nothing told).After-last_by in
+pub returns-in-None : goal.returns-in-None
+returns-in-None c =
+    let told : In-None = (goal.at.returns-in-None c).In-None in
+    let ended : After-last_by = (goal.at.In-None told).After-last_by in
     let f : After-fill_lists-totals = (goal.at.After-last_by ended).After-fill_lists-totals in
     let d = from f in
-    let none : Nothing ≡ found (lookup (last f) latest_free) = sym told.in-Nothing.is ∙ searched ended in
+    let none : None ≡ found (lookup (last f) latest_free) = sym told.in-None.is ∙ searched ended in
     rw c.into.ensures (nothing-made (entry d).requires (sized d) (started d) (kept f) f.fill_lists-totals.ensures none)

@@ -1,4 +1,4 @@
--- `planner::plan_order` meets its contract: the tests judge the room, `plan_within` plans in the part lent, and `clear` clears
+-- `planner::plan_order` meets its contract: the test judges the room, `plan_within` plans in the part lent, and `clear` clears
 -- behind it.
 -- Assumes nothing.
 use mathlib.Core.Path.{◌≡◌}
@@ -12,6 +12,8 @@ use Rattle.area.specs.Area.{area}
 use Rattle.planner.specs.CallLaws.{plan-no-room, plan-no-space, plan-done}
 use Rattle.planner.proofs.plan_order.Goals as goal
 use Rattle.planner.proofs.plan_order.Goals.{After-header_at-header, Else-work-lt-AREA}
+use Rattle.planner.proofs.plan_order.Goals.{then-starts-header-via-then-starts-header}
+use Rattle.planner.proofs.plan_order.Goals.{then-starts-header-via-else-starts-header+then-work-lt-AREA}
 
 pub header_at-header-requires : goal.header_at-header-requires
 header_at-header-requires c = ((order-fine c.args.bytes.now).0 c.requires).header.long
@@ -25,17 +27,16 @@ read c = header_read c.args.bytes.now c.header_at-header.result c.header_at-head
 pub returns-then-starts-header : goal.returns-then-starts-header
 returns-then-starts-header c =
     let a = c.args in
-    rw c.into.ensures
-    (plan-no-room a.bytes.now a.starts.now a.work.now c.requires
-    (omega (arith, c.if-starts-header.true, (read (goal.at.returns-then-starts-header c).After-header_at-header).count)))
-
-pub returns-then-work-lt-AREA : goal.returns-then-work-lt-AREA
-returns-then-work-lt-AREA c =
-    let a = c.args in
-    rw c.into-then-work-lt-AREA.ensures
-    (plan-no-space a.bytes.now a.starts.now a.work.now c.requires
-    (omega (arith, c.if-starts-header.false, (read (goal.at.returns-then-work-lt-AREA c).After-header_at-header).count))
-    c.if-work-lt-AREA.true)
+    let count = (read (goal.at.returns-then-starts-header c).After-header_at-header).count in
+    elim c.then-starts-header.branch [
+      | then-starts-header-via-then-starts-header w ↦
+          rw c.into.ensures
+          (plan-no-room a.bytes.now a.starts.now a.work.now c.requires (omega (arith, w.if-starts-header.true, count)))
+      | then-starts-header-via-else-starts-header+then-work-lt-AREA w ↦
+          rw c.into.ensures
+          (plan-no-space a.bytes.now a.starts.now a.work.now c.requires (omega (arith, w.if-starts-header.false, count))
+          w.if-work-lt-AREA.true)
+    ]
 
 -- The part lent is as long as the area.
 lent : (c : Else-work-lt-AREA) → length (take area c.args.work.now) ≡ area

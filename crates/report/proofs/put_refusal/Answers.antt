@@ -11,6 +11,6 @@ pub returns : goal.returns
 returns c =
     let all = writes-more c.put_front.ensures c.figure.ensures in
     let told : Wrote c.args.out.now 0 (refusal_line c.args.refusal) c.figure.new.self.out.now c.figure.new.self.at =
-    rw (refusal-line c.args.refusal) all.wrote in
+    rw (refusal-line c.args.refusal, ← c.number.ensures, ← c.place.ensures, ← c.figure-field.ensures) all.wrote in
     let same = all.same in
     search rules

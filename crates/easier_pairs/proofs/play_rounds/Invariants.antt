@@ -1,9 +1,0 @@
--- `easier_pairs::play_rounds` ends: each turn leaves fewer pairs.
--- Assumes nothing.
-use Rattle.easier_pairs.proofs.play_rounds.Given as goal
-
-abbrev pub invariant-loop-left : goal.invariant-loop-left
-invariant-loop-left l = Unit {0}
-
-abbrev pub decreases-loop-left : goal.decreases-loop-left
-decreases-loop-left l = l.left

@@ -1,9 +1,0 @@
--- `judged_plans::play_rounds` ends: each turn leaves fewer orders.
--- Assumes nothing.
-use Rattle.judged_plans.proofs.play_rounds.Given as goal
-
-abbrev pub invariant-loop-left : goal.invariant-loop-left
-invariant-loop-left l = Unit {0}
-
-abbrev pub decreases-loop-left : goal.decreases-loop-left
-decreases-loop-left l = l.left
