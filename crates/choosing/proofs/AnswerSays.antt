@@ -1,15 +1,15 @@
 -- What an answer of the question says in numbers (R17, R26), for every input: refused, what the first check that applies says
 -- but for its place, and no winner; else the winner by the point of each opening at the time, or 11.
-use Rattle.std.specs.Prelude.{ℕ, ◌≤◌, ◌<◌, ◌≡◌, refl, Bool, true, false, cond, ◌≢◌, ◌⊎◌, List, ltb, ℤ}
+use Rattle.std.specs.Prelude.{ℕ, ◌≤◌, ◌<◌, ◌≡◌, refl, Bool, true, false, cond, ◌≢◌, ◌⊎◌, List, ltb, ℤ, Ok}
 use Rattle.std.proofs.Common.{ap, inl, inr, arith}
 use Rattle.std.proofs.Math.Option.{Option, none, some}
 use Rattle.seconds.specs.Signed.{signed}
 use Rattle.order.specs.Job.{Point}
 use Rattle.packed.specs.declared.Refusal.{Refusal}
-use Rattle.packed.specs.Judge.{plainly, no_refusal, without_place, fine, refused}
+use Rattle.packed.specs.Judge.{plainly, no_refusal, without_place, fine, refused, refusal_of}
 use Rattle.ties.specs.Winning.{opening_point, TieRule, by_points}
-use Rattle.choosing.specs.Choosing.{choosing_verdict, chosen_of, refusal_of, winner_of}
-use Rattle.ties.specs.declared.Chosen.TheVariants.{First, Second}
+use Rattle.choosing.specs.Choosing.{choosing_verdict, chosen_of, winner_of}
+use Rattle.ties.specs.declared.Winner.TheVariants.{First, Second}
 
 -- By the points of the first and the second: the refusal, and the winner.
 pub data WonBy (rule : TieRule) : Option Point → Option Point → Refusal → ℕ → Type 0 where
@@ -30,7 +30,7 @@ won-by rule (some p) (some q) =
     go (ltb q.weight p.weight) refl (ltb p.weight q.weight) refl (rule p.time q.time) refl
   where
     go : (x : Bool) → ltb q.weight p.weight ≡ x → (y : Bool) → ltb p.weight q.weight ≡ y
-        → (z : Bool) → rule p.time q.time ≡ z → let c = cond x First (cond y Second (cond z First Second)) in
+        → (z : Bool) → rule p.time q.time ≡ z → let c = Ok (cond x First (cond y Second (cond z First Second))) in
         WonBy rule (some p) (some q) (refusal_of c) (winner_of c)
     go true d y e z f = first-heavier {p = p} {q = q} (omega signed)
     go false d true e z f = second-heavier {p = p} {q = q} (omega signed)

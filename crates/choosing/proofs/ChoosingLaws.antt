@@ -1,5 +1,5 @@
 -- The calls stage by stage, as the code goes through their checks: each refusal, and what is left when all are passed.
-use Rattle.std.specs.Prelude.{ℕ, ◌≤◌, ◌<◌, ◌≡◌, refl, List, ◌++◌, ℤ, length, drop}
+use Rattle.std.specs.Prelude.{ℕ, ◌≤◌, ◌<◌, ◌≡◌, refl, List, ◌++◌, ℤ, length, drop, Ok, Err}
 use Rattle.std.proofs.Common.{sym, ◌∙◌, arith, lt-ltb, le-ltb}
 use Rattle.std.specs.Borrow.{Bor}
 use Rattle.packed.specs.declared.Refusal.{Refusal}
@@ -9,44 +9,39 @@ use Rattle.packed.specs.Refusals.{room_checks, order_checks}
 use Rattle.packed.proofs.Accepted.{order-fine}
 use Rattle.area.specs.Area.{area, cleared}
 use Rattle.area.specs.Clearing.{cleared-same}
-use Rattle.judge.specs.Verdicts.{verdict_of}
-use Rattle.judge.specs.Told.{refusal-told, stays, told-next}
-use Rattle.judge.specs.declared.Verdict.TheVariants.{Refused as Stopped}
-use Rattle.ties.specs.Winning.{TieRule, winner_by}
+use Rattle.judge.specs.Told.{stays, told-next}
+use Rattle.ties.specs.Winning.{Chosen, TieRule, winner_by}
 use Rattle.choosing.specs.Choosing.{choosing_checks, choosing_verdict}
 use Rattle.choosing.specs.Choosing.{chosen_by, work_by, chosen_of, Asked, part_of, place_of, Handed, winner_of}
 use Rattle.choosing.specs.Comparing.{CanCompare}
-use Rattle.ties.specs.declared.Chosen.{Chosen}
-use Rattle.ties.specs.declared.Chosen.TheVariants.{Refused, First, Second}
 
 -- ---- the checks
 
 -- Past the checks the work area is cleared, whatever the answer.
 pub cleared-past : (won : Chosen) (work : List ℤ) → work_by fine won work ≡ cleared work
-cleared-past (Refused r) work = refl
-cleared-past First work = refl
-cleared-past Second work = refl
+cleared-past (Err r) work = refl
+cleared-past (Ok w) work = refl
 
 module _ (rule : TieRule) (first second : List ℕ) (t : ℤ) (work : List ℤ) where
   -- A refusal by these checks is given without its place, and leaves the work area as it was.
-  by-verdict : {r : Refusal} → choosing_verdict first second work ≡ refused r → Asked rule first second t work (Refused (without_place r)) work
+  by-verdict : {r : Refusal} → choosing_verdict first second work ≡ refused r → Asked rule first second t work (Err (without_place r)) work
   by-verdict e = record { answer = rw e; area = rw e }
 
   orders-refused : {r : Refusal} → judge (order_checks first ++ order_checks second) ≡ refused r
-      → Asked rule first second t work (Refused (without_place r)) work
+      → Asked rule first second t work (Err (without_place r)) work
   unfolding choosing_checks
   orders-refused e = by-verdict (stays (order_checks first ++ order_checks second) (room_checks area (length work)) e)
 
   -- The first order is refused,
-  pub first-refused : (r : Refusal) → verdict_of (judge (order_checks first)) ≡ Stopped r
-      → Asked rule first second t work (Refused (without_place r)) work
-  first-refused r e = orders-refused (stays (order_checks first) (order_checks second) (refusal-told _ r e))
+  pub first-refused : (r : Refusal) → judge (order_checks first) ≡ refused r
+      → Asked rule first second t work (Err (without_place r)) work
+  first-refused r e = orders-refused (stays (order_checks first) (order_checks second) e)
 
   -- or the second is,
-  pub second-refused : (r : Refusal) → judge (order_checks first) ≡ fine → verdict_of (judge (order_checks second)) ≡ Stopped r
-      → Asked rule first second t work (Refused (without_place r)) work
+  pub second-refused : (r : Refusal) → judge (order_checks first) ≡ fine → judge (order_checks second) ≡ refused r
+      → Asked rule first second t work (Err (without_place r)) work
   second-refused r passed e =
-      orders-refused (told-next (order_checks first) (order_checks second) passed ∙ refusal-told _ r e)
+      orders-refused (told-next (order_checks first) (order_checks second) passed ∙ e)
 
   module _ (both : CanCompare first second) where
     both-fine : judge (order_checks first ++ order_checks second) ≡ fine
@@ -57,7 +52,7 @@ module _ (rule : TieRule) (first second : List ℕ) (t : ℤ) (work : List ℤ) 
     room-told = told-next (order_checks first ++ order_checks second) (room_checks area (length work)) both-fine
 
     -- or the work area is too short.
-    pub no_room : length work < area → Asked rule first second t work (Refused (plainly 10)) work
+    pub no_room : length work < area → Asked rule first second t work (Err (plainly 10)) work
     no_room h = by-verdict {r = plainly 10} (room-told ∙ rw (lt-ltb (length work) area h))
 
     -- Past all of them the winner is told, and the work area cleared.

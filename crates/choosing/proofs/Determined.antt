@@ -3,8 +3,7 @@ use mathlib.Core.List.{List}
 use contract.Lifetimes.{Lfts}
 use lib.IntN.{ℤ}
 use Rattle.seconds.specs.Determined.{Determines, determined, two}
-use Rattle.ties.specs.Winning.{rule_of}
-use Rattle.ties.specs.declared.Chosen.{Chosen}
+use Rattle.ties.specs.Winning.{Chosen, rule_of}
 use Rattle.choosing.specs.Choosing.{chosen_of, work_after}
 use Rattle.choosing.proofs.ask.Reads as ask
 

@@ -1,6 +1,6 @@
 -- Both sides of the edges of choosing's refusals, and openings of unlike kinds, by both tie rules: each answer with the kind of the
 -- winner's records, and what the rules say of it. One statement holds of each list, by computation.
-use Rattle.std.specs.Prelude.{ℕ, ◌≤◌, ◌≡◌, refl, List, [], ◌∷◌, map, ℤ, pos, length}
+use Rattle.std.specs.Prelude.{ℕ, ◌≤◌, ◌≡◌, refl, List, [], ◌∷◌, map, ℤ, pos, length, Ok, Err}
 use Rattle.std.proofs.Common.{le-ltb}
 use Rattle.seconds.specs.Limits.{rest}
 use Rattle.seconds.specs.Twos.{bits_to, to_bits}
@@ -12,10 +12,9 @@ use Rattle.packed.specs.declared.Refusal.{Refusal}
 use Rattle.packed.specs.Judge.{in_field, plainly}
 use Rattle.packed.specs.Refusals.{fields_within, bad_field, first_bad, number_at, first_repeat, header_checks, job_checks, weight_checks}
 use Rattle.area.specs.Area.{area}
-use Rattle.ties.specs.Winning.{TieRule, sooner, to_first}
+use Rattle.ties.specs.Winning.{Chosen, TieRule, sooner, to_first}
 use Rattle.ties.proofs.AsWritten.{opening, for_pack, idle}
-use Rattle.ties.specs.declared.Chosen.{Chosen}
-use Rattle.ties.specs.declared.Chosen.TheVariants.{Refused, First, Second}
+use Rattle.ties.specs.declared.Winner.TheVariants.{First, Second}
 use Rattle.choosing.specs.Choosing.{choosing_checks, chosen_of, kind_won}
 
 -- Two that are out of range, in the length and in the weight.
@@ -50,7 +49,7 @@ abbrev edge : List ℕ → List ℕ → Chosen → ℕ → Edge
 edge a b won kind = record { first = a; second = b; chosen = won; kind = kind }
 
 abbrev refuses : List ℕ → List ℕ → Refusal → Edge
-refuses a b r = edge a b (Refused r) 0
+refuses a b r = edge a b (Err r) 0
 
 -- Without a work area.
 abbrev pub edges : List Edge
@@ -72,13 +71,13 @@ edges =
 abbrev pub unlike : List Edge
 unlike =
     -- the heavier wins, and tells its own kind
-    edge (without_pack 10) (with_pack 20) Second 1
-    ∷ edge (with_pack 20) (without_pack 10) First 1
-    ∷ edge (without_pack 20) (with_pack 10) First 0
-    ∷ edge (with_pack 10) (without_pack 20) Second 0
+    edge (without_pack 10) (with_pack 20) (Ok Second) 1
+    ∷ edge (with_pack 20) (without_pack 10) (Ok First) 1
+    ∷ edge (without_pack 20) (with_pack 10) (Ok First) 0
+    ∷ edge (with_pack 10) (without_pack 20) (Ok Second) 0
     -- a pack gives no opening the lead
-    ∷ edge (without_pack 10) (with_pack 10) First 0
-    ∷ edge (with_pack 10) (without_pack 10) First 1
+    ∷ edge (without_pack 10) (with_pack 10) (Ok First) 0
+    ∷ edge (with_pack 10) (without_pack 10) (Ok First) 1
     ∷ refuses (with_pack 10) needless_kind (plainly 19)
     ∷ []
 

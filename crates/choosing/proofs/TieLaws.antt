@@ -1,19 +1,18 @@
 -- What the tie rule does: where the weights differ all rules agree; the two rules differ exactly when the weights are equal and the
 -- second opening reaches it earlier; and the sooner rule is fair, exchanging the openings exchanges the winner unless both reach
 -- the same weight at once.
-use Rattle.std.specs.Prelude.{ℕ, ◌≡◌, refl, Bool, true, false, List, ◌↔◌, ◌≢◌, ltb, ℤ, ◌<ℤ◌}
+use Rattle.std.specs.Prelude.{ℕ, ◌≡◌, refl, Bool, true, false, List, ◌↔◌, ◌≢◌, ltb, ℤ, ◌<ℤ◌, Ok, Err}
 use Rattle.std.proofs.Common.{sym, ap, ◌∙◌, arith}
 use Rattle.std.proofs.Math.Option.{Option, none, some}
 use Rattle.std.specs.Int.Signed.{le_z}
 use Rattle.seconds.specs.Signed.{signed}
 use Rattle.order.specs.Job.{Point}
 use Rattle.packed.specs.Judge.{Verdict as Judged, fine, refused}
-use Rattle.ties.specs.Winning.{opening_point, TieRule, sooner, to_first, by_points, winner_by}
+use Rattle.ties.specs.Winning.{Chosen, opening_point, TieRule, sooner, to_first, by_points, winner_by}
 use Rattle.choosing.specs.Choosing.{choosing_verdict, chosen_by, Asked, winner_of}
 use Rattle.ties.proofs.WinningLaws.{first-wins, second-wins, even-first, even-second}
 use Rattle.choosing.proofs.WinnerLaws.{checks-passed}
-use Rattle.ties.specs.declared.Chosen.{Chosen}
-use Rattle.ties.specs.declared.Chosen.TheVariants.{Refused, First, Second}
+use Rattle.ties.specs.declared.Winner.TheVariants.{First, Second}
 
 -- Both openings have the same weight at the time.
 pub record Even (first second : List ℕ) (t : ℤ) : Type 0 where
@@ -35,9 +34,9 @@ pub record AtOnce (first second : List ℕ) (t : ℤ) : Type 0 where
 
 -- The other of two winners.
 abbrev pub exchanged : Chosen → Chosen
-exchanged (Refused r) = Refused r
-exchanged First = Second
-exchanged Second = First
+exchanged (Err r) = Err r
+exchanged (Ok First) = Ok Second
+exchanged (Ok Second) = Ok First
 
 -- ---- by weight
 
@@ -54,13 +53,13 @@ module _ (first second : List ℕ) (t : ℤ) where
       two : (p q : Point) → opening_point first t ≡ some p → opening_point second t ≡ some q
           → (x : Bool) → ltb q.weight p.weight ≡ x → (y : Bool) → ltb p.weight q.weight ≡ y → ByWeight first second t
       two p q d e true f y g =
-          let wins : (rule : TieRule) → First ≡ by_points rule (some p) (some q) = λ rule. first-wins rule p q (omega signed) in
-          let loses : (rule : TieRule) → Second ≡ by_points rule (some q) (some p) = λ rule. second-wins rule q p (omega signed) in
+          let wins : (rule : TieRule) → Ok First ≡ by_points rule (some p) (some q) = λ rule. first-wins rule p q (omega signed) in
+          let loses : (rule : TieRule) → Ok Second ≡ by_points rule (some q) (some p) = λ rule. second-wins rule q p (omega signed) in
           uneven (λ a b. rw (d, e) (sym (wins a) ∙ wins b))
           (λ rule. rw (d, e) (sym (loses rule) ∙ ap exchanged (wins rule)))
       two p q d e false f true g =
-          let wins : (rule : TieRule) → Second ≡ by_points rule (some p) (some q) = λ rule. second-wins rule p q (omega signed) in
-          let loses : (rule : TieRule) → First ≡ by_points rule (some q) (some p) = λ rule. first-wins rule q p (omega signed) in
+          let wins : (rule : TieRule) → Ok Second ≡ by_points rule (some p) (some q) = λ rule. second-wins rule p q (omega signed) in
+          let loses : (rule : TieRule) → Ok First ≡ by_points rule (some q) (some p) = λ rule. first-wins rule q p (omega signed) in
           uneven (λ a b. rw (d, e) (sym (wins a) ∙ wins b))
           (λ rule. rw (d, e) (sym (loses rule) ∙ ap exchanged (wins rule)))
       two p q d e false f false g =
@@ -84,12 +83,12 @@ module _ (first second : List ℕ) (t : ℤ) where
 
 -- The tie rule says who wins.
 module _ (rule : TieRule) {first second : List ℕ} {t : ℤ} (e : Even first second t) where
-  to_one : rule e.one.time e.other.time ≡ true → winner_by rule first second t ≡ First
+  to_one : rule e.one.time e.other.time ≡ true → winner_by rule first second t ≡ Ok First
   to_one h =
       rw (e.first-at, e.second_at)
       (sym (even-first rule e.one e.other (omega (arith, e.weight)) (omega (arith, e.weight)) h))
 
-  to-other : rule e.one.time e.other.time ≡ false → winner_by rule first second t ≡ Second
+  to-other : rule e.one.time e.other.time ≡ false → winner_by rule first second t ≡ Ok Second
   to-other h =
       rw (e.first-at, e.second_at)
       (sym (even-second rule e.one e.other (omega (arith, e.weight)) (omega (arith, e.weight)) h))
@@ -98,16 +97,16 @@ abbrev turned : {first second : List ℕ} {t : ℤ} → Even first second t → 
 turned e = record { one = e.other; other = e.one; first-at = e.second_at; second_at = e.first-at; weight = sym e.weight }
 
 -- First and second are two.
-two-winners : {X : Type 0} → First ≡ Second → X
+two-winners : {X : Type 0} → ◌≡◌ {A = Chosen} (Ok First) (Ok Second) → X
 two-winners e = absurd (omega (arith, ap winner_of e))
 
 module _ (first second : List ℕ) (t : ℤ) where
   -- At once: the first, under both rules.
-  pub at-once-first : AtOnce first second t → (winner_by sooner first second t ≡ First) × (winner_by to_first first second t ≡ First)
+  pub at-once-first : AtOnce first second t → (winner_by sooner first second t ≡ Ok First) × (winner_by to_first first second t ≡ Ok First)
   at-once-first h = (to_one sooner h.even (omega (signed, h.time)), to_one to_first h.even refl)
 
   -- The second sooner: it wins by the sooner rule, the first by the other.
-  pub second-sooner : SecondSooner first second t → (winner_by sooner first second t ≡ Second) × (winner_by to_first first second t ≡ First)
+  pub second-sooner : SecondSooner first second t → (winner_by sooner first second t ≡ Ok Second) × (winner_by to_first first second t ≡ Ok First)
   second-sooner h = (to-other sooner h.even (omega (signed, h.earlier)), to_one to_first h.even refl)
 
   -- The two rules differ exactly then.

@@ -1,6 +1,6 @@
 -- What it is to win, in the words of the rules: the winner is worth the greater of both, and 11 is given exactly when the other
 -- checks are passed and neither opening has a point by the time; and what a refusal names. By every tie rule.
-use Rattle.std.specs.Prelude.{ℕ, ◌*◌, ◌≤◌, ◌≡◌, Bool, true, false, cond, List, ◌++◌, ◌↔◌, ◌≢◌, ◌⊎◌, ltb, ℤ, length, drop, ◌≤ℤ◌}
+use Rattle.std.specs.Prelude.{ℕ, ◌*◌, ◌≤◌, ◌≡◌, Bool, true, false, cond, List, ◌++◌, ◌↔◌, ◌≢◌, ◌⊎◌, ltb, ℤ, length, drop, ◌≤ℤ◌, Ok, Err}
 use Rattle.std.proofs.Math.Path.{refl}
 use Rattle.std.proofs.Common.{sym, ap, ◌∙◌, ⊎_elim}
 use Rattle.std.proofs.Math.Logic.{inl, inr}
@@ -11,7 +11,7 @@ use Rattle.order.specs.Job.{Point}
 use Rattle.profile.specs.Profile.{greater, worth, order_profile}
 use Rattle.profile.proofs.Worth.{lookup-worth, order-rises, Reaches, reaches-from}
 use Rattle.packed.specs.declared.Refusal.{Refusal}
-use Rattle.packed.specs.Judge.{in_field, Verdict as Judged, fine, refused, judge, or_else}
+use Rattle.packed.specs.Judge.{in_field, Verdict as Judged, fine, refused, judge, or_else, refusal_of}
 use Rattle.packed.specs.JudgeLaws.{judge-append, stages-fine, never, given-before}
 use Rattle.packed.specs.Layout.{header_bytes, record_bytes}
 use Rattle.packed.specs.Places.{flat}
@@ -23,13 +23,12 @@ use Rattle.packed.proofs.RefusalPlaces.{BadField, no_field, six-order}
 use Rattle.packed.proofs.Accepted.{order-fine}
 use Rattle.area.specs.Area.{area, cleared}
 use Rattle.judge.specs.Told.{stays, told-next, Holds, holds-behind, named-check, named-order}
-use Rattle.ties.specs.Winning.{opening_point, TieRule, by_points, winner_by}
+use Rattle.ties.specs.Winning.{Chosen, opening_point, TieRule, by_points, winner_by}
 use Rattle.choosing.specs.Choosing.{choosing_checks, choosing_verdict}
-use Rattle.choosing.specs.Choosing.{chosen_by, chosen_of, Asked, refusal_of}
+use Rattle.choosing.specs.Choosing.{chosen_by, chosen_of, Asked}
 use Rattle.choosing.proofs.ChoosingLaws.{cleared-past}
 use Rattle.choosing.proofs.AnswerSays.{won-by, neither-won, plain}
-use Rattle.ties.specs.declared.Chosen.{Chosen}
-use Rattle.ties.specs.declared.Chosen.TheVariants.{Refused, First, Second}
+use Rattle.ties.specs.declared.Winner.TheVariants.{First, Second}
 
 -- ---- the winner
 
@@ -51,9 +50,9 @@ point-first bytes t = reaches-from (order-rises (order_of bytes)) t
 
 -- What the winner is worth, of what each is worth; nothing without a winner.
 abbrev pub won_worth : Chosen → Option ℕ → Option ℕ → Option ℕ
-won_worth (Refused r) a b = none
-won_worth First a b = a
-won_worth Second a b = b
+won_worth (Err r) a b = none
+won_worth (Ok First) a b = a
+won_worth (Ok Second) a b = b
 
 won-greater : (rule : TieRule) (a b : Option Point)
     → won_worth (by_points rule a b) (weight_of a) (weight_of b) ≡ greater (weight_of a) (weight_of b)
@@ -64,7 +63,7 @@ won-greater rule (some p) (some q) =
     go (ltb q.weight p.weight) refl (ltb p.weight q.weight) refl (rule p.time q.time)
   where
     go : (x : Bool) → ltb q.weight p.weight ≡ x → (y : Bool) → ltb p.weight q.weight ≡ y → (e : Bool)
-        → won_worth (cond x First (cond y Second (cond e First Second))) (some p.weight) (some q.weight)
+        → won_worth (Ok (cond x First (cond y Second (cond e First Second)))) (some p.weight) (some q.weight)
         ≡ greater (some p.weight) (some q.weight)
     go true c y d e = ap some (omega signed)
     go false c true d e = ap some (omega signed)

@@ -1,16 +1,14 @@
 -- Choosing between two openings by a tie rule: the checks, the answer, the part handed back and its kind, and the work area at exit,
 -- for every input. Definitions only.
-use Rattle.std.specs.Prelude.{ℕ, ◌+◌, ◌≡◌, List, [], ◌++◌, ℤ, length, drop}
+use Rattle.std.specs.Prelude.{ℕ, ◌+◌, ◌≡◌, List, [], ◌++◌, ℤ, length, drop, Ok, Err}
 use Rattle.std.specs.Borrow.{Bor}
 use Rattle.packed.specs.Layout.{header_bytes}
 use Rattle.packed.specs.Packed.{kind_of}
-use Rattle.packed.specs.declared.Refusal.{Refusal}
-use Rattle.packed.specs.Judge.{no_refusal, without_place, Check, Verdict, fine, refused, judge}
+use Rattle.packed.specs.Judge.{without_place, Check, Verdict, fine, refused, judge}
 use Rattle.packed.specs.Refusals.{room_checks, order_checks}
 use Rattle.area.specs.Area.{area, cleared}
-use Rattle.ties.specs.Winning.{TieRule, winner_by}
-use Rattle.ties.specs.declared.Chosen.{Chosen}
-use Rattle.ties.specs.declared.Chosen.TheVariants.{Refused, First, Second}
+use Rattle.ties.specs.Winning.{Chosen, TieRule, winner_by}
+use Rattle.ties.specs.declared.Winner.TheVariants.{First, Second}
 
 -- ---- the calls
 
@@ -24,15 +22,14 @@ choosing_verdict first second work = judge (choosing_checks first second work)
 
 -- The answer by the verdict and by which of the two wins: a refusal has no place, since it would not say of which opening.
 abbrev pub chosen_by : Verdict → Chosen → Chosen
-chosen_by (refused r) won = Refused (without_place r)
+chosen_by (refused r) won = Err (without_place r)
 chosen_by fine won = won
 
 -- The work area by both: a refusal by these checks leaves it as it was; past them the area is cleared, with 11 too.
 abbrev pub work_by : Verdict → Chosen → List ℤ → List ℤ
 work_by (refused r) won work = work
-work_by fine (Refused r) work = cleared work
-work_by fine First work = cleared work
-work_by fine Second work = cleared work
+work_by fine (Err r) work = cleared work
+work_by fine (Ok w) work = cleared work
 
 -- The answer of the question, and the work area after either call.
 abbrev pub chosen_of : TieRule → List ℕ → List ℕ → ℤ → List ℤ → Chosen
@@ -50,9 +47,9 @@ pub record Asked (rule : TieRule) (first second : List ℕ) (t : ℤ) (work : Li
 
 -- Its bytes: all but the header of the winner, none where refused.
 abbrev pub part_of : Chosen → List ℕ → List ℕ → List ℕ
-part_of (Refused r) first second = []
-part_of First first second = drop header_bytes first
-part_of Second first second = drop header_bytes second
+part_of (Err r) first second = []
+part_of (Ok First) first second = drop header_bytes first
+part_of (Ok Second) first second = drop header_bytes second
 
 -- The place behind a header; a place is a block of memory and how far into it.
 abbrev pub past_header : ℕ × ℕ → ℕ × ℕ
@@ -60,9 +57,9 @@ past_header place = (place.0, header_bytes + place.1)
 
 -- Where it begins: behind the header of the winner, where the first begins if refused.
 abbrev pub place_of : Chosen → ℕ × ℕ → ℕ × ℕ → ℕ × ℕ
-place_of (Refused r) first second = first
-place_of First first second = past_header first
-place_of Second first second = past_header second
+place_of (Err r) first second = first
+place_of (Ok First) first second = past_header first
+place_of (Ok Second) first second = past_header second
 
 -- The choice by a tie rule on any bytes, at any time, with any work area: which bytes it hands back, where they stand, and the
 -- work area.
@@ -73,20 +70,14 @@ pub record Handed (rule : TieRule) (first second : Bor (List ℕ)) (t : ℤ) (wo
 
 -- ---- the numbers for each case (R18)
 
--- The refusal; none if there is a winner.
-abbrev pub refusal_of : Chosen → Refusal
-refusal_of (Refused r) = r
-refusal_of First = no_refusal
-refusal_of Second = no_refusal
-
 -- The winner; 0 if refused.
 abbrev pub winner_of : Chosen → ℕ
-winner_of (Refused r) = 0
-winner_of First = 1
-winner_of Second = 2
+winner_of (Err r) = 0
+winner_of (Ok First) = 1
+winner_of (Ok Second) = 2
 
 -- The kind of the winner's records; 0 if refused.
 abbrev pub kind_won : Chosen → List ℕ → List ℕ → ℕ
-kind_won (Refused r) first second = 0
-kind_won First first second = kind_of first
-kind_won Second first second = kind_of second
+kind_won (Err r) first second = 0
+kind_won (Ok First) first second = kind_of first
+kind_won (Ok Second) first second = kind_of second

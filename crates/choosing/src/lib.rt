@@ -8,28 +8,41 @@ ghost use Rattle.choosing.specs.Choosing.{Asked};
 ghost use Rattle.choosing.specs.Comparing.{CanCompare, CanWeighBoth};
 
 use area::{AREA, clear};
-use judge::{Verdict, judge_order};
-use packed::{plainly, without_place};
-use ties::{Chosen, Tie, winner};
+use judge::judge_order;
+use packed::Refusal;
+use refusals::Reason;
+use ties::{Tie, Winner, decide};
 use weighing::weigh;
 
 // Which of two openings that have passed their checks wins: each is weighed in the same area.
-fn weigh_both(tie: Tie, first: &[u8], second: &[u8], t: i32, work: &mut [i32]) -> Chosen
+fn weigh_both(
+    tie: Tie,
+    first: &[u8],
+    second: &[u8],
+    t: i32,
+    work: &mut [i32],
+) -> Result<Winner, Refusal>
     requires { CanWeighBoth first.now second.now work.old }
     ensures { result ≡ winner_by (rule_of tie) first.now second.now t }
 {
     let one = weigh(first, t, work);
     let other = weigh(second, t, work);
-    winner(tie, one, other)
+    decide(tie, one, other)
 }
 
 // The same with the room judged, and the work area cleared behind.
-fn compare(tie: Tie, first: &[u8], second: &[u8], t: i32, work: &mut [i32]) -> Chosen
+fn compare(
+    tie: Tie,
+    first: &[u8],
+    second: &[u8],
+    t: i32,
+    work: &mut [i32],
+) -> Result<Winner, Refusal>
     requires { CanCompare first.now second.now }
     ensures { Asked (rule_of tie) first.now second.now t work.old result work.new }
 {
     if work.len() < AREA {
-        return Chosen::Refused(plainly(10));
+        return Err(Reason::BufferTooShort.into());
     }
     let won = weigh_both(tie, first, second, t, &mut work[..AREA]);
     clear(work);
@@ -37,14 +50,16 @@ fn compare(tie: Tie, first: &[u8], second: &[u8], t: i32, work: &mut [i32]) -> C
 }
 
 // The question by a tie: which of two openings wins at a time, or the refusal.
-pub fn ask(tie: Tie, first: &[u8], second: &[u8], t: i32, work: &mut [i32]) -> Chosen
+pub fn ask(
+    tie: Tie,
+    first: &[u8],
+    second: &[u8],
+    t: i32,
+    work: &mut [i32],
+) -> Result<Winner, Refusal>
     ensures { Asked (rule_of tie) first.now second.now t work.old result work.new }
 {
-    match judge_order(first, 0) {
-        Verdict::Refused(refusal) => Chosen::Refused(without_place(refusal)),
-        Verdict::Fine => match judge_order(second, 0) {
-            Verdict::Refused(refusal) => Chosen::Refused(without_place(refusal)),
-            Verdict::Fine => compare(tie, first, second, t, work),
-        },
-    }
+    judge_order(first, 0).map_err(Refusal::without_place)?;
+    judge_order(second, 0).map_err(Refusal::without_place)?;
+    compare(tie, first, second, t, work)
 }

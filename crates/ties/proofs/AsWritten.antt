@@ -1,6 +1,6 @@
 -- Both sides of the edges of winning as one list, by both tie rules: each answer, and what the rules say of it. One statement holds
 -- of the whole list, by computation.
-use Rattle.std.specs.Prelude.{ℕ, ◌+◌, ◌≡◌, refl, List, [], ◌∷◌, ◌++◌, map, ℤ, pos, negsuc}
+use Rattle.std.specs.Prelude.{ℕ, ◌+◌, ◌≡◌, refl, List, [], ◌∷◌, ◌++◌, map, ℤ, pos, negsuc, Ok, Err}
 use Rattle.seconds.specs.Limits.{rest}
 use Rattle.seconds.specs.Twos.{bits_to, to_bits}
 use Rattle.packed.specs.Layout.{decode, encode, number_of, bytes_of, record_bytes}
@@ -8,9 +8,8 @@ use Rattle.packed.specs.Places.{part, flat, each, first}
 use Rattle.packed.specs.Packed.{header_word, header_of, count_of, t0_of, kind_of, record_at, job_word, job_fields, numbers_of, job_count, fields_at}
 use Rattle.packed.specs.Packed.{first_packed, kind_for, packed_header, packed_job, pack_in, pack_order, job_of, jobs_of, order_of}
 use Rattle.packed.specs.Judge.{plainly}
-use Rattle.ties.specs.Winning.{sooner, to_first, winner_by}
-use Rattle.ties.specs.declared.Chosen.{Chosen}
-use Rattle.ties.specs.declared.Chosen.TheVariants.{Refused, First, Second}
+use Rattle.ties.specs.Winning.{Chosen, sooner, to_first, winner_by}
+use Rattle.ties.specs.declared.Winner.TheVariants.{First, Second}
 
 -- An opening with the bus free at 0 and one job, ready at 0, for a pack: its mark, weight, length and deadline.
 abbrev pub for_pack : ℕ → ℕ → ℕ → ℕ → ℕ → List ℕ
@@ -70,31 +69,31 @@ asks first second t one other = edge (winner_by sooner first second t) one ∷ e
 abbrev pub edges : List Edge
 edges =
     -- equal weight reached at once goes to the first, and to the sooner where it is not at once
-    asks slow slow (free 10) First First
-    ++ asks slow quick (free 10) Second First
-    ++ asks quick slow (free 10) First First
+    asks slow slow (free 10) (Ok First) (Ok First)
+    ++ asks slow quick (free 10) (Ok Second) (Ok First)
+    ++ asks quick slow (free 10) (Ok First) (Ok First)
     -- so do openings that keep nothing
-    ++ asks idle early (pos 7) Second First
-    ++ asks early idle (pos 7) First First
+    ++ asks idle early (pos 7) (Ok Second) (Ok First)
+    ++ asks early idle (pos 7) (Ok First) (Ok First)
     -- the heavier wins, from the second at which it has its weight
-    ++ asks slow quick (free 9) Second Second
-    ++ asks slow quick (free 5) Second Second
-    ++ asks slow quick (free 4) First First
+    ++ asks slow quick (free 9) (Ok Second) (Ok Second)
+    ++ asks slow quick (free 5) (Ok Second) (Ok Second)
+    ++ asks slow quick (free 4) (Ok First) (Ok First)
     -- the times are those of the points by then: the last point of the first is the sooner of both
-    ++ asks soon_done late_done (pos 24) Second Second
-    ++ asks soon_done late_done (pos 25) Second First
-    ++ asks soon_done late_done (pos 40) Second First
-    ++ asks soon_done late_done (pos 41) First First
-    ++ asks soon_done late_done (pos 84) First First
-    ++ asks soon_done late_done (pos 85) First First
-    ++ asks late_done soon_done (pos 85) Second First
+    ++ asks soon_done late_done (pos 24) (Ok Second) (Ok Second)
+    ++ asks soon_done late_done (pos 25) (Ok Second) (Ok First)
+    ++ asks soon_done late_done (pos 40) (Ok Second) (Ok First)
+    ++ asks soon_done late_done (pos 41) (Ok First) (Ok First)
+    ++ asks soon_done late_done (pos 84) (Ok First) (Ok First)
+    ++ asks soon_done late_done (pos 85) (Ok First) (Ok First)
+    ++ asks late_done soon_done (pos 85) (Ok Second) (Ok First)
     -- with no point an opening loses to one that has one, of weight 0
-    ++ asks hopeless idle (pos 7) Second Second
-    ++ asks idle hopeless (pos 7) First First
+    ++ asks hopeless idle (pos 7) (Ok Second) (Ok Second)
+    ++ asks idle hopeless (pos 7) (Ok First) (Ok First)
     -- 11: neither has a point yet, or ever
-    ++ asks hopeless idle (pos 6) (Refused (plainly 11)) (Refused (plainly 11))
-    ++ asks slow quick (negsuc 0) (Refused (plainly 11)) (Refused (plainly 11))
-    ++ asks hopeless hopeless (pos 100) (Refused (plainly 11)) (Refused (plainly 11))
+    ++ asks hopeless idle (pos 6) (Err (plainly 11)) (Err (plainly 11))
+    ++ asks slow quick (negsuc 0) (Err (plainly 11)) (Err (plainly 11))
+    ++ asks hopeless hopeless (pos 100) (Err (plainly 11)) (Err (plainly 11))
 
 -- Every edge is where R17 has it.
 pub edges-hold : map (λ (e : Edge). e.asked) edges ≡ map (λ (e : Edge). e.told) edges

@@ -2,11 +2,10 @@
 use contract.Lifetimes.{Lfts}
 use Rattle.seconds.specs.Determined.{Determines, determined}
 use Rattle.reading.specs.Reading.{point_in}
-use Rattle.ties.specs.Winning.{by_points, rule_of}
-use Rattle.ties.specs.declared.Chosen.{Chosen}
-use Rattle.ties.proofs.winner.Reads as winner
+use Rattle.ties.specs.Winning.{Chosen, by_points, rule_of}
+use Rattle.ties.proofs.decide.Reads as decide
 
-pub winner-determined : (κs : Lfts 0) → Determines {Z = Chosen} (winner.Post κs) (λ r x. r)
+pub winner-determined : (κs : Lfts 0) → Determines {Z = Chosen} (decide.Post κs) (λ r x. r)
 winner-determined κs =
-    determined (winner.Post κs) (λ r x. r) (λ a. by_points (rule_of a.0) (point_in a.1.0) (point_in a.1.1.0))
+    determined (decide.Post κs) (λ r x. r) (λ a. by_points (rule_of a.0) (point_in a.1.0) (point_in a.1.1.0))
     (λ a r x h. h)

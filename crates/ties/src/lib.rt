@@ -2,13 +2,13 @@
 // it sooner, or the first. Assumes nothing.
 #![tactic(auto)]
 
-ghost use Rattle.std.specs.Prelude.{◌≡◌};
+ghost use Rattle.std.specs.Prelude.{◌≡◌, Some, Ok};
 ghost use Rattle.reading.specs.Reading.{point_in};
-ghost use Rattle.reading.specs.declared.Found.TheVariants.{At};
 ghost use Rattle.ties.specs.Winning.{by_points, rule_of};
 
-use packed::{Refusal, plainly};
+use packed::Refusal;
 use reading::Found;
+use refusals::Reason;
 
 // Which of two openings of the same weight wins: the one that reaches it sooner, and the first if both do at once; or always
 // the first.
@@ -18,53 +18,50 @@ pub enum Tie {
     First,
 }
 
-// What the question answers: a refusal, without its place since it does not say of which opening it would be; or which of the
-// two openings wins.
-#[derive(Clone, Copy)]
-pub enum Chosen {
-    Refused(Refusal),
+impl Tie {
+    // Whether the first wins, by the times at which both reach the same weight.
+    fn to_first(self, one: i32, other: i32) -> bool
+        ensures { result ≡ rule_of self one other }
+    {
+        match self {
+            Tie::Sooner => one <= other,
+            Tie::First => true,
+        }
+    }
+}
+
+// Which of the two openings wins.
+#[derive(Clone, Copy, PartialEq, Eq)]
+pub enum Winner {
     First,
     Second,
 }
 
-// Whether the first wins, by the times at which both reach the same weight.
-fn to_first(tie: Tie, one: i32, other: i32) -> bool
-    ensures { result ≡ rule_of tie one other }
+// Which of two points wins: the heavier, and of the same weight by the tie.
+fn heavier(tie: Tie, one: Found, other: Found) -> Winner
+    ensures { Ok result ≡ by_points (rule_of tie) (point_in (Some one)) (point_in (Some other)) }
 {
-    match tie {
-        Tie::Sooner => one <= other,
-        Tie::First => true,
+    if other.weight < one.weight {
+        return Winner::First;
     }
+    if one.weight < other.weight {
+        return Winner::Second;
+    }
+    if tie.to_first(one.time, other.time) {
+        return Winner::First;
+    }
+    Winner::Second
 }
 
-// Which of two points wins, by the weight and time of each: the heavier, and of the same weight by the tie.
-fn heavier(tie: Tie, weight: usize, time: i32, rival: usize, since: i32) -> Chosen
-    ensures { result ≡ by_points (rule_of tie) (point_in (At weight time)) (point_in (At rival since)) }
-{
-    if rival < weight {
-        return Chosen::First;
-    }
-    if weight < rival {
-        return Chosen::Second;
-    }
-    if to_first(tie, time, since) {
-        return Chosen::First;
-    }
-    Chosen::Second
-}
-
-// Which of two openings wins, by the point that was found for each; one without a point loses to one that has one.
-pub fn winner(tie: Tie, first: Found, second: Found) -> Chosen
+// Which of two openings wins, by the point that was found for each; one without a point loses to one that has one. A refusal has
+// no place, since it would not say of which opening.
+pub fn decide(tie: Tie, first: Option<Found>, second: Option<Found>) -> Result<Winner, Refusal>
     ensures { result ≡ by_points (rule_of tie) (point_in first) (point_in second) }
 {
-    match first {
-        Found::Nothing => match second {
-            Found::Nothing => Chosen::Refused(plainly(11)),
-            Found::At(_, _) => Chosen::Second,
-        },
-        Found::At(weight, time) => match second {
-            Found::Nothing => Chosen::First,
-            Found::At(rival, since) => heavier(tie, weight, time, rival, since),
-        },
+    match (first, second) {
+        (Some(one), Some(other)) => Ok(heavier(tie, one, other)),
+        (Some(_), None) => Ok(Winner::First),
+        (None, Some(_)) => Ok(Winner::Second),
+        (None, None) => Err(Reason::NoFeasibleChoice.into()),
     }
 }

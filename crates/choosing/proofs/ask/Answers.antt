@@ -1,56 +1,40 @@
 -- `choosing::ask` meets its contract: the first order is judged, then the second, and where both pass they are compared.
 -- Assumes nothing.
-use mathlib.Core.Path.{◌≡◌, sym, ◌∙◌}
-use mir.Facts.{to_z-of_z}
-use Rattle.packed.specs.Judge.{fine, judge}
+use mathlib.Core.Path.{◌≡◌, sym, ◌∙◌, subst, ap, refl}
+use mathlib.Core.Bool.{Bool, false, cond}
+use native.Mathlib.Omega.{arith}
+use borrow.Author.Rules.{rules}
+use Rattle.std.proofs.Common.{ℕ, Ok, Err}
+use Rattle.std.specs.Result.{MatchResult, is_ok}
+use Rattle.packed.specs.declared.Refusal.{Refusal}
+use Rattle.packed.specs.Judge.{without_place, Verdict, fine, refused, judge}
 use Rattle.packed.specs.Refusals.{order_checks}
-use Rattle.judge.specs.Told.{told-fine}
 use Rattle.ties.specs.Winning.{rule_of}
+use Rattle.choosing.specs.Choosing.{Asked}
 use Rattle.choosing.proofs.ChoosingLaws.{first-refused, second-refused}
 use Rattle.choosing.proofs.ask.Goals as goal
-use Rattle.choosing.proofs.ask.Goals.{After-judge_order, After-judge_order-in-Fine, In-Fine, In-Refused, In-Refused-judge_order, Start}
 
--- Where the code starts.
-abbrev entry : In-Fine → Start
-entry c = (goal.at.In-Fine c).Start
+-- What is passed on is the refusal of a verdict, without its place.
+told : (v : Verdict) {f : Refusal} → false ≡ is_ok v → MatchResult v (λ x. Err f ≡ Ok x) (λ e. f ≡ without_place e)
+    → (r : Refusal) × ((v ≡ refused r) × (f ≡ without_place r))
+told fine e h = absurd (omega (arith, ap {B = ℕ} (λ (b : Bool). cond b 1 0) e))
+told (refused r) e h = (r, (refl, h))
 
--- The first order has passed.
-first-passed : (c : In-Fine)
-    → let start = entry c in
-    judge (order_checks start.args.first.now) ≡ fine
-first-passed c =
-    let j : After-judge_order = (goal.at.In-Fine c).After-judge_order in
-    let s : Start = (goal.at.After-judge_order j).Start in
-    told-fine (order_checks s.args.first.now) (sym j.judge_order.ensures ∙ c.in-Fine.is)
+pub returns-in_err-map_err : goal.returns-in_err-map_err
+returns-in_err-map_err c =
+    let a = c.args in
+    let e : c.from_residual.result ≡ Err c.in_err-map_err.field-0.0 = search rules in
+    let t = told c.judge_order.result {f = c.in_err-map_err.field-0.0} c.in_err-map_err.ensures.variant c.in_err-map_err.ensures.cases in
+    subst (λ r. Asked (rule_of a.tie) a.first.now a.second.now a.t a.work.now r a.work.now)
+    (sym (e ∙ ap (λ r. Err r) t.1.1))
+    (first-refused (rule_of a.tie) a.first.now a.second.now a.t a.work.now t.0 (sym c.judge_order.ensures ∙ t.1.0))
 
-pub compare-requires : goal.compare-requires
-compare-requires c =
-    let j : After-judge_order-in-Fine = (goal.at.compare-requires c).After-judge_order-in-Fine in
-    let s = entry (goal.at.After-judge_order-in-Fine j).In-Fine in
-    record {
-      one = first-passed (goal.at.After-judge_order-in-Fine j).In-Fine;
-      other = told-fine (order_checks s.args.second.now) (sym j.judge_order-in-Fine.ensures ∙ c.in-Fine-judge_order.is);
-    }
-
-pub returns-in-Refused : goal.returns-in-Refused
-returns-in-Refused c =
-    let n : In-Refused = (goal.at.returns-in-Refused c).In-Refused in
-    let j : After-judge_order = (goal.at.In-Refused n).After-judge_order in
-    let s : Start = (goal.at.After-judge_order j).Start in
-    rw c.without_place.ensures
-    (first-refused (rule_of s.args.tie) s.args.first.now s.args.second.now s.args.t s.args.work.now n.in-Refused.refusal
-    (sym j.judge_order.ensures ∙ n.in-Refused.is))
-
-pub returns-in-Refused-judge_order : goal.returns-in-Refused-judge_order
-returns-in-Refused-judge_order c =
-    let n : In-Refused-judge_order = (goal.at.returns-in-Refused-judge_order c).In-Refused-judge_order in
-    let j : After-judge_order-in-Fine = (goal.at.In-Refused-judge_order n).After-judge_order-in-Fine in
-    let s = entry (goal.at.After-judge_order-in-Fine j).In-Fine in
-    rw c.without_place-in-Refused-judge_order.ensures
-    (second-refused (rule_of s.args.tie) s.args.first.now s.args.second.now s.args.t s.args.work.now n.in-Refused-judge_order.refusal
-    (first-passed (goal.at.After-judge_order-in-Fine j).In-Fine) (sym j.judge_order-in-Fine.ensures ∙ n.in-Refused-judge_order.is))
-
-pub returns-in-Fine-judge_order : goal.returns-in-Fine-judge_order
-returns-in-Fine-judge_order c =
-    let s : Start = (goal.at.returns-in-Fine-judge_order c).Start in
-    rw (to_z-of_z s.ranges.t) at c.compare.ensures
+pub returns-in_err-map_err-2 : goal.returns-in_err-map_err-2
+returns-in_err-map_err-2 c =
+    let a = c.args in
+    let passed : judge (order_checks a.first.now) ≡ fine = search rules in
+    let e : c.from_residual-in_err-map_err-2.result ≡ Err c.in_err-map_err-2.field-0.0 = search rules in
+    let t = told c.judge_order-2.result {f = c.in_err-map_err-2.field-0.0} c.in_err-map_err-2.ensures.variant c.in_err-map_err-2.ensures.cases in
+    subst (λ r. Asked (rule_of a.tie) a.first.now a.second.now a.t a.work.now r a.work.now)
+    (sym (e ∙ ap (λ r. Err r) t.1.1))
+    (second-refused (rule_of a.tie) a.first.now a.second.now a.t a.work.now t.0 passed (sym c.judge_order-2.ensures ∙ t.1.0))
