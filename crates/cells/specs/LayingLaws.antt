@@ -5,6 +5,9 @@ use Rattle.std.specs.Int.{from_bool}
 use Rattle.codes.specs.Code.{at0}
 use Rattle.cells.specs.Laying.{is_point, before, rises_to, Laid}
 
+pub laid_none : (f : ℕ → ℤ) (from at : ℕ) (work : List ℤ) → Laid f from from at work work
+laid_none f from at work = record { size = refl; laid = λ x a b. absurd (omega arith); stays = λ k h. refl }
+
 pub laid_more : {f : ℕ → ℤ} {from x at : ℕ} {was work : List ℤ} → Laid f from x at was work → from ≤ x → at + x < length was
     → (z : ℤ) → z ≡ f x → Laid f from (x + 1) at was (set work (at + x) z)
 laid_more {f} {from} {x} {at} {was} {work} l low room z is = record {

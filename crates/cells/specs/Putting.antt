@@ -1,8 +1,11 @@
 -- Cells put one by one.
-use Rattle.std.specs.Prelude.{ℕ, ◌+◌, ◌≤◌, ◌<◌, ◌≡◌, List, ℤ, pos, length, set}
+use Rattle.std.specs.Prelude.{refl, ℕ, ◌+◌, ◌≤◌, ◌<◌, ◌≡◌, List, ℤ, pos, length, set}
 use Rattle.std.proofs.Common.{◌∙◌, ⊎_elim, eq-or-lt_of_le, arith, length-set, get_or-set_same, get_or-set_other}
 use Rattle.codes.specs.Code.{at0}
 use Rattle.cells.specs.Cells.{Put}
+
+pub put-none : (f : ℕ → ℤ) (from : ℕ) (was : List ℤ) → Put f from from was was
+put-none f from was = record { size = refl; put = λ x a b. absurd (omega arith); before = λ x h. refl; behind = λ x h. refl }
 
 pub put-more : {f : ℕ → ℤ} {from k : ℕ} {was row : List ℤ} → Put f from k was row → from ≤ k → k < length was → (z : ℤ) → z ≡ f k
     → Put f from (k + 1) was (set row k z)

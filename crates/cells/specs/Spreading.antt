@@ -1,5 +1,5 @@
 -- The cells of a list, point by point.
-use Rattle.std.specs.Prelude.{ℕ, zero, suc, ◌+◌, ◌-◌, ◌≤◌, ◌<◌, ◌≡◌, refl, Bool, true, false, cond, leb, ℤ, pos, ◌+ℤ◌, ◌-ℤ◌, ◌≤ℤ◌}
+use Rattle.std.specs.Prelude.{length, ℕ, zero, suc, ◌+◌, ◌-◌, ◌≤◌, ◌<◌, ◌≡◌, refl, Bool, true, false, cond, leb, ℤ, pos, ◌+ℤ◌, ◌-ℤ◌, ◌≤ℤ◌}
 use Rattle.std.proofs.Common.{sym, ap, ◌∙◌, subst, arith}
 use mathlib.Core.List.Memᴰ.{head}
 use mathlib.Core.List.Memᴰ.{tail}
@@ -68,6 +68,9 @@ pub record Spreading (work : List ℤ) (place count i x : ℕ) (row : List ℤ) 
   pub few : i ≤ count
   pub reached : x ≡ reach (list_at work place i)
   pub cells : Cells row (list_at work place i)
+
+pub spread_none : (work : List ℤ) (place count : ℕ) {row : List ℤ} → Cells row [] → Spreading work place count 0 0 row
+spread_none work place count c = record { few = omega arith; reached = refl; cells = c }
 
 module _ {work : List ℤ} {place count i x : ℕ} {row was : List ℤ} (g : CanSpread work (record { place = place; count = count }) was)
     (s : Spreading work place count i x row) (more : i < count) where
@@ -165,3 +168,11 @@ module _ {work : List ℤ} {place count i x : ℕ} {row was : List ℤ} (g : Can
           reached = f ∙ sym far ∙ sym (ap reach one);
           cells = rw one (cells-more rises front-within within s.cells top top-is (rw (s.reached, f) at put));
         }
+
+pub spread-all : {work : List ℤ} {place count i x : ℕ} {row : List ℤ} → Spreading work place count i x row → count ≤ i
+    → Cells row (list_at work place count)
+spread-all {work} {place} {count} {i} s h = let e : i ≡ count = omega (arith, s.few) in rw e at s.cells
+
+-- No cells.
+pub wiped : {row after : List ℤ} → length row ≡ wide → Put (λ x. past_all) 0 wide row after → Cells after []
+wiped e p = record { size = p.size ∙ e; cell = λ x h. p.put x (omega arith) h }

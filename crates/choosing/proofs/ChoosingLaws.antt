@@ -1,6 +1,6 @@
 -- The calls stage by stage, as the code goes through their checks: each refusal, and what is left when all are passed.
 use Rattle.std.specs.Prelude.{ℕ, ◌≤◌, ◌<◌, ◌≡◌, refl, List, ◌++◌, ℤ, length, drop, Ok, Err}
-use Rattle.std.proofs.Common.{sym, ◌∙◌, arith, lt-ltb, le-ltb}
+use Rattle.std.proofs.Common.{sym, subst, ◌∙◌, arith, lt-ltb, le-ltb}
 use Rattle.std.specs.Borrow.{Bor}
 use Rattle.packed.specs.declared.Refusal.{Refusal}
 use Rattle.packed.specs.Judge.{plainly, without_place, Verdict as Judged, fine, refused, judge}
@@ -11,6 +11,8 @@ use Rattle.area.specs.Area.{area, cleared}
 use Rattle.area.specs.Clearing.{cleared-same}
 use Rattle.judge.specs.Told.{stays, told-next}
 use Rattle.ties.specs.Winning.{Chosen, TieRule, winner_by}
+use Rattle.ties.specs.declared.Winner.{Winner}
+use Rattle.ties.specs.declared.Winner.TheVariants.{First, Second}
 use Rattle.choosing.specs.Choosing.{choosing_checks, choosing_verdict}
 use Rattle.choosing.specs.Choosing.{chosen_by, work_by, chosen_of, Asked, part_of, place_of, Handed, winner_of}
 use Rattle.choosing.specs.Comparing.{CanCompare}
@@ -73,22 +75,26 @@ won-fine : (v : Judged) (won : Chosen) → 0 < winner_of (chosen_by v won) → v
 won-fine fine won h = refl
 won-fine (refused r) won h = absurd (omega arith)
 
+winner-told : (w : Winner) → 0 < winner_of (Ok w)
+winner-told First = omega arith
+winner-told Second = omega arith
+
 module _ (rule : TieRule) (first second : Bor (List ℕ)) (t : ℤ) (work : List ℤ) {q : Chosen} {left : List ℤ}
     (asked : Asked rule first.now second.now t work q left)
   where
     -- Where there is a winner both openings are accepted,
-    pub both-accepted : {c : Chosen} → q ≡ c → 0 < winner_of c → CanCompare first.now second.now
+    pub both-accepted : {w : Winner} → q ≡ Ok w → CanCompare first.now second.now
     unfolding choosing_checks
-    both-accepted e h =
-        let passed = won-fine (choosing_verdict first.now second.now work) _ (rw (sym e ∙ asked.answer) at h) in
+    both-accepted {w} e =
+        let passed = won-fine (choosing_verdict first.now second.now work) _ (subst (λ c. 0 < winner_of c) (sym e ∙ asked.answer) (winner-told w)) in
         let orders = ((stages-fine (order_checks first.now ++ order_checks second.now) _).0 passed).0 in
         let each = (stages-fine (order_checks first.now) (order_checks second.now)).0 orders in
         record { one = each.0; other = each.1 }
 
     -- so they have a header.
-    pub headers-there : {c : Chosen} → q ≡ c → 0 < winner_of c → (4 ≤ length first.now) × (4 ≤ length second.now)
-    headers-there e h =
-        let both = both-accepted e h in
+    pub headers-there : {w : Winner} → q ≡ Ok w → (4 ≤ length first.now) × (4 ≤ length second.now)
+    headers-there e =
+        let both = both-accepted e in
         (((order-fine first.now).0 both.one).header.long, ((order-fine second.now).0 both.other).header.long)
 
     -- What is handed back by the answer of the question is what the choice hands back.

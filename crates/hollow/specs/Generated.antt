@@ -14,16 +14,16 @@ use Rattle.point_records.proofs.Determined as records
 use Rattle.better.specs.Answer.{Joined}
 use Rattle.better.specs.contracts.better_of as better-of
 use Rattle.better.proofs.better_of.Reads as better-of-reads
-use Rattle.unpack.specs.declared.Unpacked.{Unpacked}
+use Rattle.unpack.specs.Answer.{Answer as Unpacking}
 use Rattle.unpack.specs.contracts.unpack as unpack
 use Rattle.unpack.proofs.unpack.Reads as unpack-reads
-use Rattle.pack.specs.declared.Packed.{Packed}
+use Rattle.pack.specs.Answer.{Packed}
 use Rattle.pack.specs.contracts.pack as pack
 use Rattle.pack.proofs.pack.Reads as pack-reads
-use Rattle.framing.specs.declared.Framed.{Framed}
+use Rattle.framing.specs.Answer.{Framed}
 use Rattle.framing.specs.contracts.frame as frame
 use Rattle.framing.proofs.frame.Reads as frame-reads
-use Rattle.reader.specs.declared.Opened.{Opened}
+use Rattle.reader.specs.Reading.{Opened}
 use Rattle.reader.specs.declared.Moved.{Moved}
 use Rattle.reader.specs.contracts.open as opens
 use Rattle.reader.proofs.open.Reads as open-reads
@@ -33,8 +33,8 @@ use Rattle.reader_struct.specs.Standing.{seen}
 use Rattle.reader_struct.specs.declared.Begun.{Begun}
 use Rattle.reader_struct.specs.declared.Stepped.{Stepped}
 use Rattle.reader_struct.specs.declared.Reading.{Reading}
-use Rattle.reader_struct.specs.contracts.open as begin
-use Rattle.reader_struct.specs.contracts.step as reader-step
+use Rattle.reader_struct.specs.contracts.Reader.open as begin
+use Rattle.reader_struct.specs.contracts.Reader.step as reader-step
 use Rattle.reader_struct.specs.contracts.read_at as read_at
 use Rattle.reader_struct.proofs.read_at.Reads as read-at-reads
 use Rattle.reader_struct.proofs.Determined as readers
@@ -110,7 +110,7 @@ pub lookup-records-is : (κs : Lfts 1) (a : Args lookup-records.signature κs) (
     → records.Post κs a r x ≡ looking_up_records.allows (a.0.now, a.1.0) r tt
 lookup-records-is κs a r x = refl
 
-pub unpack-is : (κs : Lfts 2) (a : Args unpack.signature κs) (r : Unpacked) (x : AtExit unpack.ended κs)
+pub unpack-is : (κs : Lfts 2) (a : Args unpack.signature κs) (r : Unpacking) (x : AtExit unpack.ended κs)
     → unpack-reads.Post κs a r x ≡ unpacking.allows (a.0.now, a.1.0.now) r x.1.0.now
 unpack-is κs a r x = refl
 

@@ -1,6 +1,6 @@
 -- The contract of each public call as a relation of its inputs and outcomes. Definitions only; that these relations are the
 -- contracts of the code is shown in Generated.
-use Rattle.std.specs.Prelude.{ℕ, ◌≡◌, refl, Bool, true, false, List, ◌++◌, eqb, ltb, ℤ, length, drop, Result, Ok, Err, is_err, ⊤}
+use Rattle.std.specs.Prelude.{ℕ, ◌≡◌, refl, Bool, true, false, List, ◌++◌, eqb, ℤ, length, drop, Result, Ok, Err, is_err, ⊤}
 use Rattle.std.specs.Borrow.{Bor}
 use Rattle.refusals.specs.declared.Reason.{Reason}
 use Rattle.profiles.specs.Answer.{Finding, lookup_of}
@@ -9,18 +9,10 @@ use Rattle.point_records.specs.declared.Point.{Point}
 use Rattle.better.specs.Answer.{Joined, joined_of, out_after as joined_after}
 use Rattle.unpack.specs.Answer.{unpack_of, numbers_after}
 use Rattle.unpack.specs.declared.Unpacked.{Unpacked}
-use Rattle.unpack.specs.declared.Unpacked.TheVariants as unpacked
-use Rattle.pack.specs.Answer.{pack_of, bytes_after}
-use Rattle.pack.specs.declared.Packed.{Packed}
-use Rattle.pack.specs.declared.Packed.TheVariants as packed
-use Rattle.framing.specs.Answer.{framed_of, order_after}
-use Rattle.framing.specs.declared.Framed.{Framed}
-use Rattle.framing.specs.declared.Framed.TheVariants as framed
-use Rattle.reader.specs.Reading.{open_of, step_of}
-use Rattle.reader.specs.declared.Opened.{Opened}
-use Rattle.reader.specs.declared.Opened.TheVariants as opened
-use Rattle.reader.specs.declared.Read.{Read}
-use Rattle.reader.specs.declared.Read.TheVariants as read
+use Rattle.packed.specs.declared.Refusal.{Refusal}
+use Rattle.pack.specs.Answer.{Packed, pack_of, bytes_after}
+use Rattle.framing.specs.Answer.{Framed, framed_of, order_after}
+use Rattle.reader.specs.Reading.{Opened, open_of, Read, step_of}
 use Rattle.reader.specs.declared.Moved.{Moved}
 use Rattle.reader_struct.specs.Standing.{Seen, begun_over, stepped_of, read_at}
 use Rattle.reader_struct.specs.declared.Reader.{Reader}
@@ -60,38 +52,9 @@ abbrev extend_refused : Extended → Bool
 extend_refused (Err r) = true
 extend_refused (Ok n) = false
 
-abbrev join_refused : Joined → Bool
-join_refused (Err r) = true
-join_refused (Ok n) = false
-
-abbrev lookup_refused : Finding → Bool
-lookup_refused (Err r) = true
-lookup_refused (Ok found) = false
-
-abbrev unpack_refused : Unpacked → Bool
-unpack_refused (unpacked.Refused r) = true
-unpack_refused (unpacked.Jobs n t0) = false
-
-abbrev pack_refused : Packed → Bool
-pack_refused (packed.Refused r) = true
-pack_refused (packed.Bytes n) = false
-
-abbrev frame_refused : Framed → Bool
-frame_refused (framed.Refused r) = true
-frame_refused (framed.Made f) = false
-
-abbrev open_refused : Opened → Bool
-open_refused (opened.Refused n) = true
-open_refused (opened.Accepted count) = false
-
-abbrev step_refused : Read → Bool
-step_refused (read.Refused r) = true
-step_refused (read.Job job) = false
-step_refused read.End = false
-
-abbrev heat_refused : Result ℕ Reason → Bool
-heat_refused (Err r) = true
-heat_refused (Ok l) = false
+abbrev is_refused : {T E : Type 0} → Result T E → Bool
+is_refused (Err r) = true
+is_refused (Ok x) = false
 
 abbrev question_refused : Chosen → Bool
 question_refused (chosen.Refused r) = true
@@ -152,11 +115,11 @@ extending =
 -- Two profiles, and numbers to write to.
 abbrev pub joining_profiles : Contract (List ℤ × List ℤ × List ℤ) Joined (List ℤ)
 joining_profiles =
-    writing (λ x. joined_of x.0 x.1 x.2) (λ x. joined_after x.0 x.1 x.2) (λ x. x.2) join_refused
+    writing (λ x. joined_of x.0 x.1 x.2) (λ x. joined_after x.0 x.1 x.2) (λ x. x.2) is_refused
 
 -- A profile and a time; nothing is lent to write to.
 abbrev pub looking_up : Contract (List ℤ × ℤ) Finding (Unit {0})
-looking_up = answering (λ x. lookup_of x.0 x.1) lookup_refused
+looking_up = answering (λ x. lookup_of x.0 x.1) is_refused
 
 -- The same over point records.
 abbrev pub looking_up_records : Contract (List Point × ℤ) Finding (Unit {0})
@@ -165,22 +128,22 @@ looking_up_records = over (λ x. (flattened x.0, x.1)) looking_up
 -- ---- packed orders
 
 -- Bytes, and numbers to write to.
-abbrev pub unpacking : Contract (List ℕ × List ℤ) Unpacked (List ℤ)
+abbrev pub unpacking : Contract (List ℕ × List ℤ) (Result Unpacked Refusal) (List ℤ)
 unpacking =
-    writing (λ x. unpack_of x.0 (length x.1)) (λ x. numbers_after x.0 x.1) (λ x. x.1) unpack_refused
+    writing (λ x. unpack_of x.0 (length x.1)) (λ x. numbers_after x.0 x.1) (λ x. x.1) is_refused
 
 -- A bus-free time, numbers, and bytes to write to.
 abbrev pub packing : Contract (ℤ × List ℤ × List ℕ) Packed (List ℕ)
 packing =
-    writing (λ x. pack_of x.0 x.1 (length x.2)) (λ x. bytes_after x.0 x.1 x.2) (λ x. x.2) pack_refused
+    writing (λ x. pack_of x.0 x.1 (length x.2)) (λ x. bytes_after x.0 x.1 x.2) (λ x. x.2) is_refused
 
 -- The numbers of repeating jobs, and bytes to write the order of their frame to.
 abbrev pub framing : Contract (List ℤ × List ℕ) Framed (List ℕ)
-framing = writing (λ x. framed_of x.0 (length x.1)) (λ x. order_after x.0 x.1) (λ x. x.1) frame_refused
+framing = writing (λ x. framed_of x.0 (length x.1)) (λ x. order_after x.0 x.1) (λ x. x.1) is_refused
 
 -- Bytes to read from.
 abbrev pub opening_reader : Contract (List ℕ) Opened (Unit {0})
-opening_reader = answering open_of open_refused
+opening_reader = answering open_of is_refused
 
 -- Bytes and a place. The place stands for a buffer: it is handed in, and handed back moved on.
 abbrev pub stepping : Contract (List ℕ × ℕ) Read ℕ
@@ -192,7 +155,7 @@ stepping =
       met = λ x. refl;
       only = λ x r b h. (λ i. (h i).answer, λ i. (h i).place);
       lent = λ x. x.1;
-      refusal = step_refused;
+      refusal = is_refused;
     }
 
 -- Bytes where they stand, to open a reader over: the answer, and all that can be seen of the reader.
@@ -205,7 +168,7 @@ beginning =
       met = λ x. (refl, refl);
       only = λ x r b h. (λ i. (h.0 i, h.1 i), refl);
       lent = λ x. tt;
-      refusal = λ r. open_refused r.0;
+      refusal = λ r. is_refused r.0;
     }
 
 -- A reader. It stands for a buffer: it is handed in, and handed back moved on.
@@ -218,12 +181,12 @@ stepping_reader =
       met = λ x. refl;
       only = λ x r b h. (λ i. (h i).answer, λ i. (h i).reader);
       lent = λ x. x;
-      refusal = step_refused;
+      refusal = is_refused;
     }
 
 -- Bytes to open a reader over, and a place to step from.
 abbrev pub reading_at : Contract (List ℕ × ℕ) Reading (Unit {0})
-reading_at = answering (λ x. read_at x.0 x.1) (λ r. step_refused r.moved.answer)
+reading_at = answering (λ x. read_at x.0 x.1) (λ r. is_refused r.moved.answer)
 
 -- ---- packed plans
 
@@ -260,7 +223,7 @@ writing_plan =
       met = λ x. record { answer = refl; written = refl; area = refl };
       only = λ x r b h. (h.answer, λ i. (h.written i, h.area i));
       lent = λ x. (x.1, x.2);
-      refusal = pack_refused;
+      refusal = is_refused;
     }
 
 -- ---- the text
@@ -278,7 +241,7 @@ reporting =
 
 -- A byte.
 abbrev pub heating_up : Contract ℕ (Result ℕ Reason) (Unit {0})
-heating_up = answering heating_of heat_refused
+heating_up = answering heating_of is_refused
 
 -- ---- openings
 

@@ -11,13 +11,12 @@ use lib.Dec.{ltb}
 use lib.IntN.{ℤ}
 use lib.ListN.{length}
 use borrow.Table.Steps.{cases}
-use Rattle.packed.specs.Judge.{Check, fine, judge}
+use Rattle.packed.specs.Judge.{Check, fine, judge, refusal_of as answer_refusal}
 use Rattle.packed.specs.Packed.{count_of, numbers_of, order_of}
 use Rattle.packed.specs.Refusals.{job_checks, weight_checks, halves_checks, room_checks, order_checks}
 use Rattle.packed.proofs.Packless.{Packless, NineteenIs, nineteen-behind, nineteen-told, nineteen-either, nineteen-header, nineteen-order}
 use Rattle.plan.specs.Plan.{Answer, plan_answer}
-use Rattle.unpack.specs.Answer.{unpacked_by, refusal_of as unpack_refusal}
-use Rattle.pack.specs.Answer.{refusal_of as pack_refusal}
+use Rattle.unpack.specs.Answer.{unpacked_by}
 use Rattle.reader.specs.Reading.{opened_by, open_refusal, place_check, step_checks, stepped_by, read_refusal}
 use Rattle.profiles.specs.Numbers.{most_numbers}
 use Rattle.area.specs.Area.{area}
@@ -151,7 +150,7 @@ halved-not : (seconds : ℕ) (a : Option Answer) → (halves_numbers (with_secon
 halved-not seconds none e = absurd (omega arith)
 halved-not seconds (some a) e = absurd (omega arith)
 
-written-not : (a : Option Answer) → (pack_refusal (written_by fine a)).number ≢ 19
+written-not : (a : Option Answer) → (answer_refusal (written_by fine a)).number ≢ 19
 written-not none e = absurd (omega arith)
 written-not (some a) e = absurd (omega arith)
 
@@ -164,7 +163,7 @@ nineteen-given =
     record {
       unpacks = λ κs a r x h. rw h.0
           (nineteen-told (nineteen-behind (room_checks _ (length a.1.0.now)) tt (nineteen-order a.0.now))
-          (λ v. (unpack_refusal (unpacked_by a.0.now v)).number) (λ e. absurd (omega arith)) (λ s. refl));
+          (λ v. (answer_refusal (unpacked_by a.0.now v)).number) (λ e. absurd (omega arith)) (λ s. refl));
       opens = λ κs a r x h. rw h
           (nineteen-told (nineteen-header a.0.now) (λ v. open_refusal (opened_by (count_of a.0.now) v)) (λ e. absurd (omega arith))
           (λ s. refl));
@@ -184,7 +183,7 @@ nineteen-given =
           (halved-not (lost_seconds (order_of a.0.now)) (plan_answer (order_of a.0.now))) (λ s. refl));
       writes-plans = λ κs a r x h. rw h.0
           (nineteen-told (write-checks a.0.now a.1.0.now a.1.1.0.now)
-          (λ v. (pack_refusal (written_by v (plan_answer (order_of a.0.now)))).number)
+          (λ v. (answer_refusal (written_by v (plan_answer (order_of a.0.now)))).number)
           (written-not (plan_answer (order_of a.0.now))) (λ s. refl));
       judges-legal = λ κs a r x h. rw h
           (nineteen-told (legal-checks a.0.now a.1.0.now)

@@ -14,21 +14,21 @@ use lib.ListN.{length}
 use borrow.Author.Tests.{leb-false}
 use borrow.Table.Steps.{cases}
 use Rattle.packed.specs.declared.Refusal.{Refusal}
-use Rattle.packed.specs.Judge.{Check, Verdict, fine, refused, judge}
+use Rattle.packed.specs.Judge.{refusal_of as answer_refusal, Check, Verdict, fine, refused, judge}
 use Rattle.packed.specs.Packed.{count_of, order_of}
 use Rattle.packed.specs.JudgeLaws.{every_number, number-passes}
 use Rattle.packed.specs.Refusals.{header_checks, list_checks, job_checks, weight_checks, halves_checks, unpack_checks, pack_checks}
 use Rattle.plan.specs.Plan.{Answer, plan_answer}
 use Rattle.heat.specs.Heat.{heat_up}
-use Rattle.heat.specs.Answer.{refusal_of as heat_refusal, heating, heating_of}
-use Rattle.unpack.specs.Answer.{unpacked_by, unpack_of, refusal_of as unpack_refusal}
-use Rattle.pack.specs.Answer.{packed_by, pack_of, refusal_of as pack_refusal}
+use Rattle.heat.specs.Answer.{refusal_of as heat_refusal, heating}
+use Rattle.unpack.specs.Answer.{unpacked_by, unpack_of}
+use Rattle.pack.specs.Answer.{packed_by, pack_of}
 use Rattle.reader.specs.Reading.{opened_by, open_of, open_refusal, step_checks, stepped_by, step_of, read_refusal}
 use Rattle.order.specs.Job.{Point}
-use Rattle.profile.specs.Profile.{lookup}
+use Rattle.profile.specs.Profile.{lookup as last_by}
 use Rattle.profiles.specs.Numbers.{most_numbers, profile_in}
-use Rattle.profiles.specs.Answer.{finding_of, finding_in, lookup_of, lookup_refusal}
-use Rattle.better.specs.Answer.{better_in, joined_in, joined_of, join_refusal}
+use Rattle.profiles.specs.Answer.{finding_of, finding_in, lookup_refusal}
+use Rattle.better.specs.Answer.{better_in, joined_in, join_refusal}
 use Rattle.packed.specs.Judge.{refusal_of as extend_refusal}
 use Rattle.extending.specs.Calls.{extend_judged, extend_checks, extension, extended_by, extended_of}
 use Rattle.planner.specs.Calls.{plan_checks, planned_by, planned_of, plan_numbers}
@@ -108,20 +108,20 @@ found-low (some p) = tt
 
 lookup-low : (o : Option (List Point)) (t : ℤ) → T (low (lookup_refusal (finding_in o t)))
 lookup-low none t = tt
-lookup-low (some ps) t = found-low (lookup ps t)
+lookup-low (some ps) t = found-low (last_by ps t)
 
 better-low : (o : Option (List Point)) (room : ℕ) → T (low (join_refusal (joined_in o room)))
 better-low none room = tt
 better-low (some ps) room = cases (ltb room most_numbers) (λ e. rw e tt) (λ e. rw e tt)
 
-unpack-low : (bytes : List ℕ) (room : ℕ) → T (of_orders (unpack_refusal (unpack_of bytes room)).number)
+unpack-low : (bytes : List ℕ) (room : ℕ) → T (of_orders (answer_refusal (unpack_of bytes room)).number)
 unfolding header_checks job_checks weight_checks
 unpack-low bytes room =
-    by-verdict of_orders (unpack_checks bytes room) tt (λ v. (unpack_refusal (unpacked_by bytes v)).number) tt (λ r. refl)
+    by-verdict of_orders (unpack_checks bytes room) tt (λ v. (answer_refusal (unpacked_by bytes v)).number) tt (λ r. refl)
 
-pack-low : (t0 : ℤ) (zs : List ℤ) (room : ℕ) → T (low (pack_refusal (pack_of t0 zs room)).number)
+pack-low : (t0 : ℤ) (zs : List ℤ) (room : ℕ) → T (low (answer_refusal (pack_of t0 zs room)).number)
 unfolding list_checks job_checks weight_checks
-pack-low t0 zs room = by-verdict low (pack_checks t0 zs room) tt (λ v. (pack_refusal (packed_by t0 zs v)).number) tt (λ r. refl)
+pack-low t0 zs room = by-verdict low (pack_checks t0 zs room) tt (λ v. (answer_refusal (packed_by t0 zs v)).number) tt (λ r. refl)
 
 open-low : (bytes : List ℕ) → T (of_orders (open_refusal (open_of bytes)))
 unfolding header_checks
@@ -149,14 +149,14 @@ plan-low bytes starts work =
     by-verdict of_orders (plan_checks bytes starts work) tt (λ v. (plan_numbers (planned_by v (plan_answer (order_of bytes)))).refusal.number)
     (made-low (plan_answer (order_of bytes))) (λ r. refl)
 
-written_low : (a : Option Answer) → T (of_orders (pack_refusal (written_by fine a)).number)
+written_low : (a : Option Answer) → T (of_orders (answer_refusal (written_by fine a)).number)
 written_low none = tt
 written_low (some a) = tt
 
-write_low : (order out : List ℕ) (work : List ℤ) → T (of_orders (pack_refusal (written_of order out work)).number)
+write_low : (order out : List ℕ) (work : List ℤ) → T (of_orders (answer_refusal (written_of order out work)).number)
 unfolding write_checks header_checks job_checks weight_checks
 write_low order out work =
-    by-verdict of_orders (write_checks order out work) tt (λ v. (pack_refusal (written_by v (plan_answer (order_of order)))).number)
+    by-verdict of_orders (write_checks order out work) tt (λ v. (answer_refusal (written_by v (plan_answer (order_of order)))).number)
     (written_low (plan_answer (order_of order))) (λ r. refl)
 
 -- At most 11 is at most 12.

@@ -2,17 +2,13 @@
 // answer has its struct. Assumes nothing.
 #![tactic(auto)]
 
-ghost use Rattle.std.specs.Prelude.{◌≡◌, ◌-◌};
-ghost use Rattle.packed.specs.Layout.{header_bytes};
+ghost use Rattle.std.specs.Prelude.{◌≡◌, Ok};
+ghost use Rattle.choosing.specs.Choosing.{winner_of};
 ghost use Rattle.opening_answers.specs.Numbers.{question_numbers, choose_numbers};
 
-use openings::Answer;
-use ties::Chosen;
-
-// The numbers of the openings, as winners.
-const FIRST: u32 = 1;
-
-const SECOND: u32 = 2;
+use openings::Won;
+use packed::Refusal;
+use ties::Winner;
 
 // The bytes of a header.
 const HEADER: usize = 4;
@@ -39,71 +35,62 @@ pub struct ChooseAnswer {
     pub kind: u32,
 }
 
+// The number of the opening that wins.
+fn number_of(winner: Winner) -> u32
+    ensures { result ≡ winner_of (Ok winner) }
+{
+    match winner {
+        Winner::First => 1,
+        Winner::Second => 2,
+    }
+}
+
 // The answer of the question.
-pub fn question_answer(answer: Answer) -> QuestionAnswer
+pub fn question_answer(answer: Result<Won, Refusal>) -> QuestionAnswer
     ensures { result ≡ question_numbers answer }
 {
-    let kind = answer.kind;
-    let chosen = answer.chosen;
-    match chosen {
-        Chosen::Refused(said) => QuestionAnswer {
-            refusal: said.number,
-            field: said.field,
+    match answer {
+        Ok(won) => QuestionAnswer {
+            refusal: 0,
+            field: 0,
+            winner: number_of(won.winner),
+            kind: won.kind,
+        },
+        Err(refusal) => QuestionAnswer {
+            refusal: refusal.number(),
+            field: refusal.figure(),
             winner: 0,
-            kind: kind,
-        },
-        Chosen::First => QuestionAnswer {
-            refusal: 0,
-            field: 0,
-            winner: FIRST,
-            kind: kind,
-        },
-        Chosen::Second => QuestionAnswer {
-            refusal: 0,
-            field: 0,
-            winner: SECOND,
-            kind: kind,
+            kind: 0,
         },
     }
 }
 
-// How many bytes of an opening stand behind its header; a winner has one.
-fn records_length(bytes: usize) -> usize
-    ensures { result ≡ bytes - header_bytes }
-{
-    if bytes < HEADER { 0 } else { bytes - HEADER }
-}
-
-// The answer of the choice between openings of so many bytes.
-pub fn choose_answer(answer: Answer, first: usize, second: usize) -> ChooseAnswer
+// The answer of the choice between openings of so many bytes; a winner has a header.
+pub fn choose_answer(answer: Result<Won, Refusal>, first: usize, second: usize) -> ChooseAnswer
     ensures { result ≡ choose_numbers answer first second }
 {
-    let kind = answer.kind;
-    let chosen = answer.chosen;
-    match chosen {
-        Chosen::Refused(said) => ChooseAnswer {
-            refusal: said.number,
-            field: said.field,
+    match answer {
+        Ok(won) => {
+            let bytes = match won.winner {
+                Winner::First => first,
+                Winner::Second => second,
+            };
+            ChooseAnswer {
+                refusal: 0,
+                field: 0,
+                winner: number_of(won.winner),
+                offset: HEADER,
+                length: bytes.saturating_sub(HEADER),
+                kind: won.kind,
+            }
+        }
+        Err(refusal) => ChooseAnswer {
+            refusal: refusal.number(),
+            field: refusal.figure(),
             winner: 0,
             offset: 0,
             length: 0,
-            kind: kind,
-        },
-        Chosen::First => ChooseAnswer {
-            refusal: 0,
-            field: 0,
-            winner: FIRST,
-            offset: HEADER,
-            length: records_length(first),
-            kind: kind,
-        },
-        Chosen::Second => ChooseAnswer {
-            refusal: 0,
-            field: 0,
-            winner: SECOND,
-            offset: HEADER,
-            length: records_length(second),
-            kind: kind,
+            kind: 0,
         },
     }
 }

@@ -7,13 +7,11 @@ use contract.Lifetimes.{Lfts}
 use denote.Ref.{Bor}
 use lib.IntN.{ℤ}
 use Rattle.seconds.specs.Determined.{Determines, determined, two}
-use Rattle.ties.specs.Winning.{TieRule, sooner, to_first}
+use Rattle.ties.specs.Winning.{Chosen, TieRule, sooner, to_first}
 use Rattle.choosing.specs.Choosing.{chosen_of, work_after, part_of, place_of}
 use Rattle.choosing.proofs.ChoosingLaws.{question-choice}
-use Rattle.ties.specs.declared.Chosen.{Chosen}
-use Rattle.openings.specs.Answer.{answer_of}
+use Rattle.openings.specs.Answer.{Answer, chosen_in, answer_of}
 use Rattle.openings.specs.AnswerLaws.{questioned-is}
-use Rattle.openings.specs.declared.Answer.{Answer}
 use Rattle.openings.proofs.Inputs.{Given, work_in}
 use Rattle.openings.proofs.question.Reads as question
 use Rattle.openings.proofs.question_first.Reads as question-first
@@ -62,10 +60,10 @@ choose-first-determined κs =
 -- On the same inputs the part is the one that the question's answer names, and the work area is left the same.
 pub choose-as-asked : (κs : Lfts 3) (μs : Lfts 2) (a x y : Given) (q : Answer) (r : Bor (List ℕ))
     → question.Post κs a q x → choose.Post μs a r y
-    → (r.now ≡ (part_by q.chosen a).0) × (r.ref_ptr ≡ (part_by q.chosen a).1) × (work_in y ≡ work_in x)
+    → (r.now ≡ (part_by (chosen_in q) a).0) × (r.ref_ptr ≡ (part_by (chosen_in q) a).1) × (work_in y ≡ work_in x)
 choose-as-asked κs μs a x y q r h k = question-choice (questioned-is.0 h).0 k
 
 pub choose-first-as-asked : (κs : Lfts 3) (μs : Lfts 2) (a x y : Given) (q : Answer) (r : Bor (List ℕ))
     → question-first.Post κs a q x → choose-first.Post μs a r y
-    → (r.now ≡ (part_by q.chosen a).0) × (r.ref_ptr ≡ (part_by q.chosen a).1) × (work_in y ≡ work_in x)
+    → (r.now ≡ (part_by (chosen_in q) a).0) × (r.ref_ptr ≡ (part_by (chosen_in q) a).1) × (work_in y ≡ work_in x)
 choose-first-as-asked κs μs a x y q r h k = question-choice (questioned-is.0 h).0 k

@@ -2,29 +2,29 @@
 -- point by the time, with the work area cleared; 6 exactly when a job is out of range, with its field; no place; when the answers by
 -- the two rules differ; that the sooner rule is fair; and how many bytes a record of the choice's part has, by the kind told.
 use Prim.Native.Nat.{ℕ, ◌*◌}
-use mathlib.Core.Path.{◌≡◌, refl, sym, ap, ◌∙◌}
+use mathlib.Core.Path.{◌≡◌, sym, ap, ◌∙◌}
 use mathlib.Core.List.{List}
+use Rattle.std.specs.Prelude.{Ok}
 use mathlib.Core.Logic.{◌↔◌, ◌≢◌, ◌⊎◌}
 use contract.Lifetimes.{Lfts}
 use denote.Ref.{Bor}
-use lib.Dec.{lit<}
 use lib.IntN.{ℤ}
 use lib.ListN.{length, drop}
 use Rattle.packed.specs.Layout.{header_bytes, record_bytes}
 use Rattle.packed.specs.Packed.{count_of, kind_of}
-use Rattle.packed.specs.Judge.{in_field, fine, judge}
+use Rattle.packed.specs.Judge.{in_field, fine, judge, refusal_of}
 use Rattle.packed.specs.Refusals.{order_checks}
 use Rattle.area.specs.Area.{cleared}
-use Rattle.ties.specs.Winning.{TieRule, sooner, to_first}
-use Rattle.choosing.specs.Choosing.{choosing_verdict, Asked, part_of, Handed, refusal_of, kind_won}
+use Rattle.ties.specs.Winning.{Chosen, TieRule, sooner, to_first}
+use Rattle.choosing.specs.Choosing.{choosing_verdict, Asked, part_of, Handed, kind_won}
 use Rattle.choosing.proofs.ChoosingLaws.{both-accepted, question-choice}
 use Rattle.choosing.proofs.WinnerLaws.{NeitherInTime, asked-eleven, eleven-clears, BadIn, asked-six, asked-names, records-length}
 use Rattle.choosing.proofs.TieLaws.{SecondSooner, AtOnce, exchanged, asked-differ, asked-fair}
-use Rattle.ties.specs.declared.Chosen.{Chosen}
-use Rattle.ties.specs.declared.Chosen.TheVariants.{First, Second}
-use Rattle.openings.specs.Answer.{Questioned}
+use Rattle.choosing.specs.Comparing.{CanCompare}
+use Rattle.ties.specs.declared.Winner.{Winner}
+use Rattle.ties.specs.declared.Winner.TheVariants.{First, Second}
+use Rattle.openings.specs.Answer.{Answer, chosen_in, kind_told, Questioned}
 use Rattle.openings.specs.AnswerLaws.{questioned-is}
-use Rattle.openings.specs.declared.Answer.{Answer}
 use Rattle.openings.proofs.Inputs.{Given, work_in, turned}
 use Rattle.openings.proofs.question.Reads as question
 use Rattle.openings.proofs.question_first.Reads as question-first
@@ -50,31 +50,31 @@ says rule a r x h =
     }
 
 module _ (κs : Lfts 3) (a : Given) (r : Answer) (x : Given) where
-  pub question-says : question.Post κs a r x → Says a r.chosen x
-  question-says h = says sooner a r.chosen x (questioned-is.0 h).0
+  pub question-says : question.Post κs a r x → Says a (chosen_in r) x
+  question-says h = says sooner a (chosen_in r) x (questioned-is.0 h).0
 
-  pub question-first-says : question-first.Post κs a r x → Says a r.chosen x
-  question-first-says h = says to_first a r.chosen x (questioned-is.0 h).0
+  pub question-first-says : question-first.Post κs a r x → Says a (chosen_in r) x
+  question-first-says h = says to_first a (chosen_in r) x (questioned-is.0 h).0
 
 -- On the same inputs the two differ exactly when they pass the checks and the second reaches the same weight earlier.
 pub questions-differ : (κs μs : Lfts 3) (a x y : Given) (r s : Answer) → question.Post κs a r x → question-first.Post μs a s y
-    → r.chosen ≢ s.chosen ↔ ((choosing_verdict a.0.now a.1.0.now (work_in a) ≡ fine) × SecondSooner a.0.now a.1.0.now a.1.1.0)
+    → chosen_in r ≢ chosen_in s ↔ ((choosing_verdict a.0.now a.1.0.now (work_in a) ≡ fine) × SecondSooner a.0.now a.1.0.now a.1.1.0)
 questions-differ κs μs a x y r s h k = asked-differ (questioned-is.0 h).0 (questioned-is.0 k).0
 
 -- Past the checks the answer with the openings exchanged is the other winner, but where both reach the same weight at once.
 pub question-fair : (κs μs : Lfts 3) (a x y : Given) (r s : Answer) → question.Post κs a r x → question.Post μs (turned a) s y
     → choosing_verdict a.0.now a.1.0.now (work_in a) ≡ fine
-    → s.chosen ≡ exchanged r.chosen ↔ ¬ AtOnce a.0.now a.1.0.now a.1.1.0
+    → chosen_in s ≡ exchanged (chosen_in r) ↔ ¬ AtOnce a.0.now a.1.0.now a.1.1.0
 question-fair κs μs a x y r s h k passed = asked-fair passed (questioned-is.0 h).0 (questioned-is.0 k).0
 
 -- ---- the kind
 
 -- The kind told is that of the winner, and says how many bytes of the part each of its jobs has.
 pub record KindTold (r : Answer) (winner part : List ℕ) : Type 0 where
-  pub kind : r.kind ≡ kind_of winner
-  pub records : length part ≡ record_bytes r.kind * count_of winner
+  pub kind : kind_told r ≡ kind_of winner
+  pub records : length part ≡ record_bytes (kind_told r) * count_of winner
 
-kind-told : {r : Answer} {winner part : List ℕ} → r.kind ≡ kind_of winner → part ≡ drop header_bytes winner
+kind-told : {r : Answer} {winner part : List ℕ} → kind_told r ≡ kind_of winner → part ≡ drop header_bytes winner
     → judge (order_checks winner) ≡ fine → KindTold r winner part
 kind-told {r} {winner} kind bytes passed =
     let size = ap (λ (k : ℕ). record_bytes k * count_of winner) (sym kind) in
@@ -82,7 +82,7 @@ kind-told {r} {winner} kind bytes passed =
 
 -- On the same inputs the question tells it of the part that the choice hands back.
 abbrev Tells : Given → Answer → Bor (List ℕ) → Type 0
-Tells a q r = (q.chosen ≡ First → KindTold q a.0.now r.now) × (q.chosen ≡ Second → KindTold q a.1.0.now r.now)
+Tells a q r = (chosen_in q ≡ Ok First → KindTold q a.0.now r.now) × (chosen_in q ≡ Ok Second → KindTold q a.1.0.now r.now)
 
 tells : (rule : TieRule) (a : Given) (q : Answer) (r : Bor (List ℕ)) {left end : List ℤ}
     → Questioned rule a.0.now a.1.0.now a.1.1.0 (work_in a) q left
@@ -92,9 +92,10 @@ tells rule a q r h k =
     let bytes = (question-choice told.0 k).0 in
     let kind_by : Chosen → ℕ = λ won. kind_won won a.0.now a.1.0.now in
     let part_by : Chosen → List ℕ = λ won. part_of won a.0.now a.1.0.now in
-    let both = both-accepted rule a.0 a.1.0 a.1.1.0 (work_in a) told.0 refl in (
-      λ e. kind-told (told.1 ∙ ap kind_by e) (bytes ∙ ap part_by e) (both (rw e (lit< tt))).one,
-      λ e. kind-told (told.1 ∙ ap kind_by e) (bytes ∙ ap part_by e) (both (rw e (lit< tt))).other,
+    let both : (w : Winner) → chosen_in q ≡ Ok w → CanCompare a.0.now a.1.0.now =
+    λ w e. both-accepted rule a.0 a.1.0 a.1.1.0 (work_in a) told.0 e in (
+      λ e. kind-told (told.1 ∙ ap kind_by e) (bytes ∙ ap part_by e) (both First e).one,
+      λ e. kind-told (told.1 ∙ ap kind_by e) (bytes ∙ ap part_by e) (both Second e).other,
     )
 
 module _ (κs : Lfts 3) (μs : Lfts 2) (a x y : Given) (q : Answer) (r : Bor (List ℕ)) where

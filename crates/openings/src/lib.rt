@@ -3,46 +3,43 @@
 // Assumes nothing.
 #![tactic(auto)]
 
-ghost use Rattle.std.specs.Prelude.{◌≡◌, ◌<◌};
+ghost use Rattle.std.specs.Prelude.{◌≡◌, Ok};
 ghost use Rattle.ties.specs.Winning.{rule_of, sooner, to_first};
-ghost use Rattle.choosing.specs.Choosing.{Handed, winner_of, kind_won};
+ghost use Rattle.choosing.specs.Choosing.{Handed, kind_won};
 ghost use Rattle.choosing.specs.Comparing.{CanCompare};
 ghost use Rattle.openings.specs.Answer.{Questioned};
 
 use choosing::ask;
 use fields::kind_in;
-use ties::{Chosen, Tie};
+use packed::Refusal;
+use ties::{Tie, Winner};
 
-// What the question answers: which opening wins, or the refusal; and the kind of the winner's records, 0 if refused. The kind says
-// how many bytes each record has that the choice hands back.
-#[derive(Clone, Copy)]
-pub struct Answer {
-    pub chosen: Chosen,
+// What the question answers if it is not refused: which opening wins, and the kind of the winner's records, which says how many
+// bytes each record has that the choice hands back.
+#[derive(Clone, Copy, PartialEq, Eq)]
+pub struct Won {
+    pub winner: Winner,
     pub kind: u32,
 }
 
-// The kind of the winner's records. A winner is told only of openings that are accepted, so it has a header.
-fn kind_won(chosen: Chosen, first: &[u8], second: &[u8]) -> u32
-    requires { 0 < winner_of chosen → CanCompare first.now second.now }
-    ensures { result ≡ kind_won chosen first.now second.now }
+// The kind of the winner's records. Only of openings that are accepted one wins, so they have headers.
+fn kind_won(winner: Winner, first: &[u8], second: &[u8]) -> u32
+    requires { CanCompare first.now second.now }
+    ensures { result ≡ kind_won (Ok winner) first.now second.now }
 {
-    match chosen {
-        Chosen::Refused(_) => 0,
-        Chosen::First => kind_in(first) as u32,
-        Chosen::Second => kind_in(second) as u32,
+    match winner {
+        Winner::First => kind_in(first) as u32,
+        Winner::Second => kind_in(second) as u32,
     }
 }
 
 // The question by a tie.
-fn tell(tie: Tie, first: &[u8], second: &[u8], t: i32, work: &mut [i32]) -> Answer
+fn tell(tie: Tie, first: &[u8], second: &[u8], t: i32, work: &mut [i32]) -> Result<Won, Refusal>
     ensures { Questioned (rule_of tie) first.now second.now t work.old result work.new }
 {
-    let chosen = ask(tie, first, second, t, work);
-    let kind = kind_won(chosen, first, second);
-    Answer {
-        chosen: chosen,
-        kind: kind,
-    }
+    let winner = ask(tie, first, second, t, work)?;
+    let kind = kind_won(winner, first, second);
+    Ok(Won { winner, kind })
 }
 
 // The choice by a tie: the records of the opening that wins, without its header, where they stand; the empty part
@@ -51,21 +48,21 @@ fn hand<'a>(tie: Tie, first: &'a [u8], second: &'a [u8], t: i32, work: &mut [i32
     ensures { Handed (rule_of tie) first.entry second.entry t work.old result work.new }
 {
     match ask(tie, first, second, t, work) {
-        Chosen::Refused(_) => &first[..0],
-        Chosen::First => &first[4..],
-        Chosen::Second => &second[4..],
+        Ok(Winner::First) => &first[4..],
+        Ok(Winner::Second) => &second[4..],
+        Err(_) => &first[..0],
     }
 }
 
 // The question: of equal weights, the opening that reaches it sooner.
-pub fn question(first: &[u8], second: &[u8], t: i32, work: &mut [i32]) -> Answer
+pub fn question(first: &[u8], second: &[u8], t: i32, work: &mut [i32]) -> Result<Won, Refusal>
     ensures { Questioned sooner first.now second.now t work.old result work.new }
 {
     tell(Tie::Sooner, first, second, t, work)
 }
 
 // The question by the night desk's rule: of equal weights, the first opening.
-pub fn question_first(first: &[u8], second: &[u8], t: i32, work: &mut [i32]) -> Answer
+pub fn question_first(first: &[u8], second: &[u8], t: i32, work: &mut [i32]) -> Result<Won, Refusal>
     ensures { Questioned to_first first.now second.now t work.old result work.new }
 {
     tell(Tie::First, first, second, t, work)

@@ -36,17 +36,14 @@ pub fn valid(numbers: &[i32]) -> bool
     }
     let mut time = BEFORE_ALL;
     let mut weight = BELOW_ALL;
-    // Two numbers a turn, by a count: `(0..n).step_by(2)` tests twice in each turn whether the end is reached.
-    let mut i = 0;
-    while i < n {
-        let t = numbers[i];
-        let w = numbers[i + 1];
+    for point in 0..n / 2 {
+        let t = numbers[2 * point];
+        let w = numbers[2 * point + 1];
         if t <= time || w <= weight {
             return false;
         }
         time = t;
         weight = w;
-        i += 2;
     }
     time <= LATEST && weight <= MOST_WEIGHT
 }
@@ -55,15 +52,13 @@ pub fn valid(numbers: &[i32]) -> bool
 fn count_by(numbers: &[i32], t: i32) -> usize
     ensures { result ≡ count_by t numbers.now }
 {
-    // By a count for the same reason; and it is the answer.
-    let mut i = 0;
-    while i + 1 < numbers.len() {
-        if t < numbers[i] {
-            return i;
+    let points = numbers.len() / 2;
+    for point in 0..points {
+        if t < numbers[2 * point] {
+            return 2 * point;
         }
-        i += 2;
     }
-    i
+    2 * points
 }
 
 // The weight of the last point at or before t, if there is one.

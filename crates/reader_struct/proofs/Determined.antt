@@ -15,8 +15,8 @@ use Rattle.reader_struct.specs.Standing.{seen, begun_over, stepped_of}
 use Rattle.reader_struct.specs.declared.Begun.{Begun}
 use Rattle.reader_struct.specs.declared.Stepped.{Stepped}
 use Rattle.reader_struct.specs.declared.Reading.{Reading}
-use Rattle.reader_struct.specs.contracts.open as opens
-use Rattle.reader_struct.specs.contracts.step as step
+use Rattle.reader_struct.specs.contracts.Reader.open as opens
+use Rattle.reader_struct.specs.contracts.Reader.step as step
 use Rattle.reader_struct.specs.contracts.read_at as read_at
 use Rattle.reader_struct.proofs.read_at.Reads as read-at-reads
 

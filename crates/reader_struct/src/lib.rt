@@ -1,5 +1,5 @@
-// A reader that stands over the caller's bytes: a struct of the packed bytes and a place. Each function takes
-// the struct apart and leaves the work to a function over the slice and the place. Assumes nothing.
+// A reader that stands over the caller's bytes: a struct of the packed bytes and a place. It leaves the
+// work to the reader's calls over the slice and the place. Assumes nothing.
 #![tactic(auto)]
 
 ghost use Rattle.std.specs.Prelude.{◌≡◌};
@@ -38,32 +38,34 @@ pub struct Reading {
     pub moved: Moved,
 }
 
-// A reader at place 0, over bytes that pass checks 1 to 5; over an empty part of others.
-pub fn open<'a>(bytes: &'a [u8]) -> Begun<'a>
-    ensures { (result.answer ≡ open_of bytes.now) × (seen result.reader ≡ begun_over bytes.entry) }
-{
-    let answer = reader::open(bytes);
-    let bytes = match answer {
-        Ok(_) => bytes,
-        Err(_) => &bytes[..0],
-    };
-    Begun {
-        reader: Reader { bytes, place: 0 },
-        answer,
+impl<'a> Reader<'a> {
+    // A reader at place 0, over bytes that pass checks 1 to 5; over an empty part of others.
+    pub fn open(bytes: &'a [u8]) -> Begun<'a>
+        ensures { (result.answer ≡ open_of bytes.now) × (seen result.reader ≡ begun_over bytes.entry) }
+    {
+        let answer = reader::open(bytes);
+        let bytes = match answer {
+            Ok(_) => bytes,
+            Err(_) => &bytes[..0],
+        };
+        Begun {
+            reader: Reader { bytes, place: 0 },
+            answer,
+        }
     }
-}
 
-// One step: a job moves the reader on; the end and a refusal leave it where it stands.
-pub fn step<'a>(reader: Reader<'a>) -> Stepped<'a>
-    ensures { result ≡ stepped_of reader.entry }
-{
-    let moved = reader::step(reader.bytes, reader.place);
-    Stepped {
-        reader: Reader {
-            place: moved.place,
-            ..reader
-        },
-        answer: moved.answer,
+    // One step: a job moves the reader on; the end and a refusal leave it where it stands.
+    pub fn step(self) -> Stepped<'a>
+        ensures { result ≡ stepped_of self.entry }
+    {
+        let moved = reader::step(self.bytes, self.place);
+        Stepped {
+            reader: Reader {
+                place: moved.place,
+                ..self
+            },
+            answer: moved.answer,
+        }
     }
 }
 
@@ -71,11 +73,12 @@ pub fn step<'a>(reader: Reader<'a>) -> Stepped<'a>
 pub fn read_at(bytes: &[u8], place: usize) -> Reading
     ensures { result ≡ read_at bytes.now place }
 {
-    let begun = open(bytes);
-    let stepped = step(Reader {
+    let begun = Reader::open(bytes);
+    let reader = Reader {
         place,
         ..begun.reader
-    });
+    };
+    let stepped = reader.step();
     Reading {
         opened: begun.answer,
         moved: Moved {

@@ -16,11 +16,11 @@ use starting::LEFT_OUT;
 use text::Writer;
 
 // The bytes between the figures of a line and at its end, and the one for a job that is left out.
-const SPACE: u8 = 32;
+const SPACE: u8 = b' ';
 
-const NEWLINE: u8 = 10;
+const NEWLINE: u8 = b'\n';
 
-const MINUS: u8 = 45;
+const MINUS: u8 = b'-';
 
 // The most jobs of an order.
 const MOST_JOBS: usize = 48;
@@ -42,9 +42,10 @@ pub fn put_refusal(out: &mut [u8], refusal: Refusal) -> usize
     requires { CanRefuse refusal out.old }
     ensures { Wrote out.old 0 (refusal_line refusal) out.new result }
 {
+    let field = refusal.figure();
     let mut text = Writer { out, at: 0 };
     put_front(&mut text, refusal.number(), refusal.place() as u32);
-    text.figure(refusal.figure(), NEWLINE);
+    text.figure(field, NEWLINE);
     text.at
 }
 

@@ -25,14 +25,15 @@ use Rattle.codes.specs.Code.{at0, points_at, end_of, lightness, limit_of, past_a
 use Rattle.pushing.specs.declared.Rate.{Rate}
 use Rattle.pushing.specs.Pushes.{top, job_rate, delta_of}
 use Rattle.stepping.specs.declared.Terms.{Terms}
-use Rattle.stepping.specs.Stepping.{job_of, stepped, last_start, Buffer, Startable, CanStep, Stepped}
+use Rattle.stepping.specs.Stepping.{job_of, stepped, last_start, Buffer, Startable, CanStep, Stepped, CanSeek}
 use Rattle.cells.specs.Cells.{cell_of, reach, wide, Cells, Put, CanSpread as CellsSpread, CanPushCells, PushedCells}
 use Rattle.cells.specs.Laying.{rises_to, lowered, Laid, CanLower}
 use Rattle.cells.specs.LayingLaws.{rises-same}
 use Rattle.cells.specs.CellLaws.{Within, min-first, same-cell, same-reach, append-cell, cell-range, cell-past, in_reach, reach_few, reach-append}
 use Rattle.gathering.specs.Points.{points_to, CanGather, Gathered}
 use Rattle.gathering.specs.CellPoints.{points-are, points-counted, can-gather}
-use Rattle.sweeping.specs.Sweep.{Carried, Listed, Holds, as-list, as-cells, Steppable, Roomy, left, Wiped, start_cells, CanCount, Counted}
+use Rattle.cells.specs.Spreading.{wiped}
+use Rattle.sweeping.specs.Sweep.{Carried, Listed, Holds, as-list, as-cells, Steppable, Roomy, left, Wiped, start_cells, CanCount, Counted, CanSweep}
 use Rattle.sweeping.specs.Sweep.{Swept, Readable}
 use Rattle.codes.specs.CodeLaws.{since-is}
 use Rattle.codes.specs.Held.{Held, held_none, After}
@@ -218,6 +219,10 @@ module _ {job : Terms} {rate : Rate} {list : Prefix} {work : List ℤ} (g : CanC
         let e = g.ends in
         omega (signed, sub_is job.deadline (pos rate.takes))
 
+    -- The last of them can be looked for,
+    pub can-seek : CanSeek job rate list work
+    can-seek = record { told = record { ends = g.ends; most = g.fits.most }; last = last-free; room = g.room }
+
     module _ {e : ℕ} (a : Startable job rate list work e) where
       start_is : (ps : List Point) → start_cells job rate ps ≡ reach (up_to_time (last_start job rate) ps)
       start_is ps = let t : lt_z (last_start job rate) job.ready ≡ false = omega signed in rw t
@@ -236,6 +241,21 @@ module _ {job : Terms} {rate : Rate} {list : Prefix} {work : List ℤ} (g : CanC
           (omega (arith, a.low, a.high, list_length work list.place list.count)) in
           let z = f.2 in
           omega signed
+
+pub unready-counted : (job : Terms) (rate : Rate) (list : Prefix) (work : List ℤ) → lt_z (last_start job rate) job.ready ≡ true
+    → Counted job rate list work 0
+unready-counted job rate list work t ps r s = rw t
+
+-- A profile that is carried can be counted in.
+pub can-count : {job : Terms} {rate : Rate} {list : Prefix} {work pushed row : List ℤ} → CanSweep job rate list work pushed row
+    → CanCount job rate list work
+can-count g = record {
+  starts = g.can.starts;
+  ends = g.can.ends;
+  fits = g.can.fits;
+  held = g.carried.says.held;
+  room = g.carried.room;
+}
 
 -- A rising list has no more points than cells.
 rising-few : {ps : List Point} → Rising ps → length ps ≤ reach ps
@@ -422,6 +442,14 @@ module _ (job : Terms) (rate : Rate) (list : Prefix) {many points : ℕ} {work r
             next-carried w l laid told =
                 carried c.rises c.within can (pushed-within c.rises c.within can goes.0) pushed'' c.cells w
                 (omega (arith, far-reach, left-reach, pushes)) all-cells l (omega (arith, far-reach)) laid far-room told
+
+-- ---- a row wiped, or as it was
+
+pub wiped-row : {row row' : List ℤ} → length row ≡ wide → Put (λ x. past_all) 0 wide row row' → Wiped true row row'
+wiped-row e p = record { size = p.size; cells = λ ps c. wiped e p }
+
+pub left-row : (row : List ℤ) → Wiped false row row
+left-row row = record { size = refl; cells = λ ps c. c }
 
 -- ---- a list that stands
 

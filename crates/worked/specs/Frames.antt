@@ -10,7 +10,8 @@ use Rattle.packed.specs.Packed.{job_count, fields_at, packed_header, packed_job,
 use Rattle.packed.specs.Refusals.{weight_checks}
 use Rattle.frames.specs.Frames.{may_repeat, jobs_given, given_at, first_unfit, frame_of, repeats_of, sequence_of, frame_numbers}
 use Rattle.frames.specs.Frames.{given_checks, made_checks}
-use Rattle.framing.specs.Answer.{framed_of, order_after, refusal_of, bytes_written, frame_told}
+use Rattle.packed.specs.Judge.{refusal_of}
+use Rattle.framing.specs.Answer.{framed_of, order_after, bytes_written, frame_told}
 
 -- A repeating job by its weight, critical where that is 0, its phase, length, deadline and period.
 abbrev mark : ℕ → ℤ

@@ -8,10 +8,10 @@ pub returns-then-figures-lt-FIGURES : goal.returns-then-figures-lt-FIGURES
 returns-then-figures-lt-FIGURES c =
     let a = c.args in
     elim c.then-figures-lt-FIGURES.branch [
-      then-figures-lt-FIGURES-via-then-figures-lt-FIGURES w ↦
-        figures-short a.figures.now a.bytes.now a.work.now w.if-figures-lt-FIGURES.true
-    | then-figures-lt-FIGURES-via-else-figures-lt-FIGURES+then-work-lt-AREA w ↦
-        work-short a.figures.now a.bytes.now a.work.now w.if-work-lt-AREA.true
+      | then-figures-lt-FIGURES-via-then-figures-lt-FIGURES w ↦
+          figures-short a.figures.now a.bytes.now a.work.now w.if-figures-lt-FIGURES.true
+      | then-figures-lt-FIGURES-via-else-figures-lt-FIGURES+then-work-lt-AREA w ↦
+          work-short a.figures.now a.bytes.now a.work.now w.if-work-lt-AREA.true
     ]
 
 pub returns-then-not-takes_one : goal.returns-then-not-takes_one

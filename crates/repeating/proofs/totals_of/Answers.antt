@@ -4,19 +4,13 @@ use mathlib.Core.Path.{◌∙◌}
 use Prim.Native.Nat.{◌<◌}
 use native.Mathlib.Omega.{arith}
 use Rattle.frames.specs.Frames.{jobs_given}
-use Rattle.repeating.specs.RepeatingLaws.{jobs-are, JobRead, job_read, count-starts, times-few, count-on, count-ends}
+use Rattle.repeating.specs.RepeatingLaws.{jobs-are, JobRead, job_read, times-few, count-on, count-ends}
 use Rattle.repeating.proofs.totals_of.Goals as goal
 use Rattle.repeating.proofs.totals_of.Goals.{After-read-job, In-loop-place}
-
-pub loop-place-init : goal.loop-place-init
-loop-place-init c = count-starts c.args.numbers.now
 
 -- The place is below the jobs that are given.
 below : (c : In-loop-place) → c.loop-place.place < jobs_given c.args.numbers.now
 below c = omega (arith, c.loop-place-test.true, jobs-are c.args.numbers.now)
-
-pub read-job-requires : goal.read-job-requires
-read-job-requires c = omega (arith, c.loop-place-test.true, c.requires.given.whole)
 
 -- The job that was read is the job at the place.
 read : (c : After-read-job) → JobRead c.args.numbers.now c.loop-place.place c.read-job.result
@@ -32,16 +26,6 @@ nonzero_div-times c =
     let r = read (goal.at.nonzero_div-times c).After-read-job in
     omega (arith, c.count_of.ensures, r.period.is, r.runs)
 
-pub overflow_add-count : goal.overflow_add-count
-overflow_add-count c =
-    omega (
-      arith,
-      times-few c.requires c.count_of.result,
-      c.loop-place.invariant.few,
-      below (goal.at.overflow_add-count c).In-loop-place,
-      c.requires.given.few,
-    )
-
 pub count_of-requires-in-loop-place : goal.count_of-requires-in-loop-place
 count_of-requires-in-loop-place c = (read (goal.at.count_of-requires-in-loop-place c).After-read-job).weight.low
 
@@ -52,16 +36,6 @@ weighed-weight-requires c =
       few = times-few c.requires c.count_of.result;
       light = omega (arith, c.count_of-in-loop-place.ensures, r.weight.is, r.light);
     }
-
-pub overflow_add-weight : goal.overflow_add-weight
-overflow_add-weight c =
-    omega (
-      arith,
-      c.weighed-weight.ensures.light,
-      c.loop-place.invariant.light,
-      below (goal.at.overflow_add-weight c).In-loop-place,
-      c.requires.given.few,
-    )
 
 pub loop-place-preserved : goal.loop-place-preserved
 loop-place-preserved c =

@@ -2,7 +2,7 @@
 -- 23 bytes. Assumes nothing.
 use borrow.Author.Rules.{rules}
 use mir.Facts.{to_z-of_z}
-use Prim.Native.Nat.{◌≤◌, ◌<◌}
+use Prim.Native.Nat.{◌<◌}
 use native.Mathlib.Omega.{arith}
 use lib.IntN.{pos}
 use lib.ListN.{length, get_or}
@@ -10,7 +10,6 @@ use mir.Syntax.{w32}
 use Rattle.packed.specs.Packed.{count_of, job_in}
 use Rattle.text.specs.Writing.{Writes}
 use Rattle.text.specs.WritingLaws.{writes-none, writes-more, writes-wider}
-use Rattle.fields.specs.Facts.{record-in}
 use Rattle.report.specs.Report.{job_line}
 use Rattle.report.specs.WritingLaws.{number-casts, number_is, listed-none, listed_more}
 use Rattle.report.proofs.put_jobs.Goals as goal

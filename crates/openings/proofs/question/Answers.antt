@@ -1,9 +1,0 @@
--- `openings::question` meets its contract: it is `tell` at its tie. Assumes nothing.
-use mir.Facts.{to_z-of_z}
-use Rattle.openings.proofs.question.Goals as goal
-use Rattle.openings.proofs.question.Goals.{Start}
-
-pub returns : goal.returns
-returns c =
-    let s : Start = (goal.at.returns c).Start in
-    rw (to_z-of_z s.ranges.t) at c.tell.ensures
