@@ -3,7 +3,7 @@
 // leaves no sheet.
 #![tactic(auto)]
 
-ghost use Rattle.std.specs.Prelude.{◌≡◌, ◌≤◌, length, take};
+ghost use Rattle.std.specs.Prelude.{◌≡◌, ◌≤◌, length, take, IfOk};
 ghost use Rattle.streams.specs.Stream.{front_room};
 ghost use Rattle.feeding.specs.Feeding.{CanFeed, Fed};
 ghost use Rattle.week_report.specs.Telling.{CanRead, Reached, Says};
@@ -19,12 +19,11 @@ const STANDARD_OUTPUT: i32 = 1;
 
 const STANDARD_ERROR: i32 = 2;
 
-// What a read leaves: what has come of the next entry, how many bytes came, and whether the read failed.
+// What a read leaves: what has come of the next entry, and how many bytes came.
 #[derive(Clone, Copy)]
 struct Read {
     part: Part,
     count: usize,
-    failed: bool,
 }
 
 // Room for an entry's first bytes.
@@ -42,39 +41,40 @@ fn read_some<R: std::io::Read>(
     front: &mut [u8],
     piece: &mut [u8],
     work: &mut [i32],
-) -> Read
+) -> std::io::Result<Read>
     requires { CanFeed begun figures.old front.old work.old }
-    ensures fed { Fed begun figures.old front.old (take result.count piece.new) work.old result.part figures.new front.new work.new }
-    ensures counted { result.count ≤ length piece.new }
+    ensures fed { IfOk result (λ read. Fed begun figures.old front.old (take read.count piece.new) work.old read.part figures.new front.new work.new) }
+    ensures counted { IfOk result (λ read. read.count ≤ length piece.new) }
 {
-    let (n, failed) = match input.read(piece) {
-        Ok(n) => (n, false),
-        Err(_) => (0, true),
-    };
+    let n = input.read(piece)?;
     let part = feed_piece(begun, figures, front, &piece[..n], work);
-    Read { part, count: n, failed }
+    Ok(Read { part, count: n })
 }
 
-// Reads until nothing comes, a read fails, or there are too many entries.
+// Reads until nothing comes or there are too many entries; the part of an entry that has come then.
 fn read_all<R: std::io::Read>(
     input: &mut R,
     figures: &mut [u32],
     front: &mut [u8],
     piece: &mut [u8],
     work: &mut [i32],
-) -> Read
+) -> std::io::Result<Part>
     requires { CanRead figures.old front.old work.old }
-    ensures { Reached result.part figures.new front.new }
+    ensures { IfOk result (λ part. Reached part figures.new front.new) }
 {
-    let mut part = Part { known: 0, size: 0, got: 0 };
+    let mut part = Part {
+        known: 0,
+        size: 0,
+        got: 0,
+    };
     loop {
         if is_over(figures) {
-            return Read { part, count: 0, failed: false };
+            return Ok(part);
         }
-        let read = read_some(input, part, figures, front, piece, work);
+        let read = read_some(input, part, figures, front, piece, work)?;
         part = read.part;
         if read.count == 0 {
-            return read;
+            return Ok(part);
         }
     }
 }
@@ -110,10 +110,8 @@ fn main(rt: HostRuntime) {
     let mut piece = io::large_buffer();
     let mut work = [0i32; AREA];
     let mut out = [0u8; ROOM];
-    let read = read_all(&mut input, &mut figures, &mut front, &mut piece, &mut work);
-    if read.failed {
-        say_failed();
-        return;
+    match read_all(&mut input, &mut figures, &mut front, &mut piece, &mut work) {
+        Ok(part) => tell(part, &figures, &front, &mut out),
+        Err(_) => say_failed(),
     }
-    tell(read.part, &figures, &front, &mut out);
 }
