@@ -1,7 +1,7 @@
 // The question and the choice between two openings, by either tie rule, compared with the planner by trial:
 // the answer, and that nothing is left in the work area.
 use crate::counts::Run;
-use crate::orders::{Order, packed};
+use crate::orders::packed;
 use by_hand::Reached;
 use careful::more;
 use comparing::{MARK, leaves, records_kind, says};
@@ -9,6 +9,7 @@ use openings::Won;
 use packed::Refusal;
 use refusals::Reason;
 use ties::{Tie, Winner};
+use trial_orders::Order;
 
 // An opening: its bytes, and what it reaches by the time that is asked.
 #[derive(Clone, Copy)]

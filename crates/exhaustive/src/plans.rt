@@ -1,7 +1,7 @@
 // Planning an order, as any and as one of halves, compared with the planner by trial: the answer, all that
 // was written, and that no more was.
 use crate::counts::Run;
-use crate::orders::{Order, packed};
+use crate::orders::packed;
 use by_hand::Best;
 use careful::{count_of, is_count, more};
 use comparing::{MARK, leaves, says};
@@ -9,6 +9,7 @@ use halves::HalvesPlan;
 use packed::Refusal;
 use planner::Figures;
 use refusals::Reason;
+use trial_orders::Order;
 
 // The figures of the best choice, which planning must answer.
 #[derive(Clone, Copy)]
