@@ -2,9 +2,8 @@
 ghost use Rattle.std.specs.Prelude.{◌≤◌, IfOk};
 
 use crate::counts::Run;
-use crate::orders::packed;
 use careful::{front, is_count, more, plus};
-use comparing::{MARK, answers, leaves};
+use comparing::{MARK, answers, leaves, pack_order};
 use refusals::Reason;
 use trial_orders::Order;
 
@@ -48,7 +47,7 @@ pub fn check_extend(run: &mut Run, profile: &[i32], order: Order<'_>) {
     let mut expected = [MARK; 604];
     let wanted = expect_extended(profile, order.numbers, &mut expected);
     let mut space = [0; 94];
-    let bytes = packed(order, &mut space);
+    let bytes = pack_order(order.t0, order.numbers, &mut space);
     run.expect(extend_agrees(profile, bytes, wanted, &expected));
     check_profile(run, &expected, wanted.unwrap_or(0));
 }

@@ -5,7 +5,6 @@
 mod choices;
 mod counts;
 mod extended;
-mod orders;
 mod plans;
 
 use careful::{lend, plus};
