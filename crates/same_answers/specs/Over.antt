@@ -14,10 +14,9 @@ use Rattle.legal.specs.Legal.{weight_kept}
 use Rattle.planner.specs.Calls.{Planned, plan_verdict, planned_by, starts_by}
 use Rattle.halves.specs.Calls.{HalvesPlanned, halves_verdict, lost_in, with_seconds}
 use Rattle.extending.specs.Calls.{Extended, profile_given, extend_verdict, extended_by, out_by}
-use Rattle.ties.specs.declared.Chosen.{Chosen}
-use Rattle.ties.specs.Winning.{TieRule, by_points}
-use Rattle.choosing.specs.Choosing.{choosing_verdict, chosen_by, part_of, place_of, kind_won}
-use Rattle.openings.specs.declared.Answer.{Answer as Told}
+use Rattle.ties.specs.Winning.{Chosen, TieRule, by_points}
+use Rattle.choosing.specs.Choosing.{choosing_verdict, chosen_by, part_of, place_of}
+use Rattle.openings.specs.Answer.{Answer as Told, with_kind}
 use Rattle.plan_writer.specs.Calls.{Written, write_verdict, written_by, out_by as bytes_by}
 use Rattle.checking.specs.Calls.{Checked, legal_in, checked_by}
 use Rattle.best_plan.specs.Calls.{best_verdict}
@@ -78,9 +77,6 @@ chosen_over w rule first second t work =
     chosen_by (choosing_verdict first second work) (by_points rule (point_over w first t) (point_over w second t))
 
 -- The same with the kind of the winner's records.
-abbrev pub with_kind : List ℕ → List ℕ → Chosen → Told
-with_kind first second won = record { chosen = won; kind = kind_won won first second }
-
 abbrev pub question_over : Way → TieRule → List ℕ → List ℕ → ℤ → List ℤ → Told
 question_over w rule first second t work = with_kind first second (chosen_over w rule first second t work)
 

@@ -28,10 +28,9 @@ use Rattle.halves.specs.Calls.{plan_halves_checks, halves_verdict, lost_in, with
 use Rattle.extending.specs.Calls.{profile_given, extend_judged, extend_checks, extend_verdict, extended_by, out_by, extended_of, out_after}
 use Rattle.extending.proofs.CallLaws.{given-read}
 use Rattle.extending.proofs.ExtendingLaws.{Accepted, accepted, accepted-order}
-use Rattle.ties.specs.declared.Chosen.{Chosen}
-use Rattle.ties.specs.Winning.{TieRule, by_points}
+use Rattle.ties.specs.Winning.{Chosen, TieRule, by_points}
 use Rattle.choosing.specs.Choosing.{choosing_checks, choosing_verdict, chosen_by, part_of, place_of, chosen_of}
-use Rattle.openings.specs.Answer.{answer_of}
+use Rattle.openings.specs.Answer.{with_kind, answer_of}
 use Rattle.plan_writer.specs.Calls.{plan_room, write_checks, write_verdict, written_by, out_by as bytes_by, written_of, out_after as bytes_after}
 use Rattle.checking.specs.Calls.{legal_checks, legal_in, checked_by}
 use Rattle.checking.specs.CallLaws.{order-passed}
@@ -39,7 +38,7 @@ use Rattle.best_plan.specs.Calls.{best_checks, best_verdict, best_in, best_of}
 use Rattle.best_plan.specs.Weights.{not_above}
 use Rattle.best_plan.specs.Most.{most-told}
 use Rattle.same_answers.specs.Over.{answer_with, plan_answer_over, plan_over, lost_over, halves_over, extend_over, point_over}
-use Rattle.same_answers.specs.Over.{chosen_over, with_kind, question_over, choice_over}
+use Rattle.same_answers.specs.Over.{chosen_over, question_over, choice_over}
 use Rattle.report.specs.Report.{text_of, report_of, text_room, printed}
 use Rattle.same_answers.specs.Over.{write_over, best_by, best_over, text_by, report_over}
 
