@@ -1,7 +1,7 @@
 -- 19 is given by the exported calls exactly when 1 to 5 do not apply to a packed order, its kind is 1 and no pack differs from 0, in every
 -- outcome that their contracts allow. No other call gives it (`NumbersGiven`).
 use Prim.Native.Nat.{ℕ}
-use mathlib.Core.Path.{◌≡◌, refl}
+use mathlib.Core.Path.{◌≡◌, refl, ap}
 use mathlib.Core.Logic.{◌↔◌, ◌≢◌, ◌⊎◌}
 use mathlib.Core.List.{List, [], ◌∷◌, ◌++◌, append_assoc}
 use mathlib.Core.Option.{Option, none, some}
