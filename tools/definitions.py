@@ -15,7 +15,7 @@ PARTS = [
         seconds Limits, seconds Ranges, order Job, order Choice, order Halves, profile Profile, plan Plan,
         legal Legal'''),
     ('The calls: bytes, refusals, answers', '''
-        seconds Twos, heat Heat, heat Answer,
+        refusals Numbers, seconds Twos, heat Heat, heat Answer,
         packed Layout, packed Places, packed Packed, packed Judge, packed Refusals,
         unpack Answer, pack Answer, multiples Multiples, frames Frames, framing Answer, fields Fields, reader Reading, reader_struct Standing,
         profiles Numbers, profiles Answer, point_records Records, better Answer,
@@ -38,12 +38,13 @@ def only_definitions(text):
 
 
 def named_by_contracts(root):
-    """The files of specs that a contract of any function names."""
+    """The files that a contract of any function names."""
     for path in glob.glob(os.path.join(root, 'crates/*/src/*.rt')):
         with open(path, encoding='utf-8') as f:
             for found in filter(None, map(IMPORT.match, f)):
                 if found.group(2) != 'declared':
-                    yield 'crates/%s/specs/%s.antt' % found.groups()
+                    paths = ['crates/%s/%s/%s.antt' % (found.group(1), kind, found.group(2)) for kind in ('specs', 'proofs')]
+                    yield next((path for path in paths if os.path.exists(os.path.join(root, path))), paths[0])
 
 
 def read(root, crate, module, known, faults):

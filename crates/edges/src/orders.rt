@@ -1,23 +1,23 @@
 // Packed orders and heat-up: unpacking, packing, the order of a frame, and the length for a sampler's byte.
 use crate::{BYTE_MARK, MARK};
-use careful::{lend, lend_bytes};
+use careful::lend;
 use case_lines::{
     call_of, count_setting, part, put, put_buffer, put_bytes, put_count, put_refusal, put_refused,
     read_numbers, setting,
 };
-use framing::Framed;
-use heat::Heating;
-use pack::Packed;
+use framing::FrameOrder;
+use packed::Refusal;
+use refusals::Reason;
 use unpack::Unpacked;
 
 // What unpacking answered.
-fn put_unpacked(answer: Unpacked) {
+fn put_unpacked(answer: Result<Unpacked, Refusal>) {
     match answer {
-        Unpacked::Refused(refusal) => put_refusal(refusal),
-        Unpacked::Jobs(jobs, t0) => {
+        Ok(Unpacked { jobs, t0 }) => {
             put_count(jobs as u64);
             put(t0);
         }
+        Err(refusal) => put_refusal(refusal),
     }
 }
 
@@ -29,11 +29,11 @@ fn unpack(line: &[u8], bytes: &[u8]) {
     put_buffer(numbers);
 }
 
-// What packing answered.
-pub fn put_packed(answer: Packed) {
+// What a call answered that writes into a room: how many it wrote.
+pub fn put_written(answer: Result<usize, Refusal>) {
     match answer {
-        Packed::Refused(refusal) => put_refusal(refusal),
-        Packed::Bytes(written) => put_count(written as u64),
+        Ok(written) => put_count(written as u64),
+        Err(refusal) => put_refusal(refusal),
     }
 }
 
@@ -42,19 +42,19 @@ fn pack(line: &[u8]) {
     let mut numbers = [0; 350];
     let numbers = read_numbers(part(line, 1), &mut numbers);
     let mut space = [BYTE_MARK; 450];
-    let bytes = lend_bytes(&mut space, count_setting(line, b'm'));
-    put_packed(pack::pack(setting(line, b'f'), numbers, bytes));
+    let bytes = lend(&mut space, count_setting(line, b'm'));
+    put_written(pack::pack(setting(line, b'f'), numbers, bytes));
     put_bytes(bytes);
 }
 
 // What making a frame's order answered.
-fn put_framed(answer: Framed) {
+fn put_framed(answer: Result<FrameOrder, Refusal>) {
     match answer {
-        Framed::Refused(refusal) => put_refusal(refusal),
-        Framed::Made(made) => {
-            put_count(made.bytes as u64);
-            put_count(made.frame as u64);
+        Ok(FrameOrder { bytes, frame }) => {
+            put_count(bytes as u64);
+            put_count(frame as u64);
         }
+        Err(refusal) => put_refusal(refusal),
     }
 }
 
@@ -63,16 +63,16 @@ fn frame(line: &[u8]) {
     let mut numbers = [0; 300];
     let numbers = read_numbers(part(line, 1), &mut numbers);
     let mut space = [BYTE_MARK; 400];
-    let bytes = lend_bytes(&mut space, count_setting(line, b'm'));
+    let bytes = lend(&mut space, count_setting(line, b'm'));
     put_framed(framing::frame(numbers, bytes));
     put_bytes(bytes);
 }
 
 // What the heat-up table answered.
-fn put_heating(answer: Heating) {
+fn put_heating(answer: Result<u32, Reason>) {
     match answer {
-        Heating::Seconds(seconds) => put_count(seconds as u64),
-        Heating::TooCold => put_refused(12),
+        Ok(seconds) => put_count(seconds as u64),
+        Err(reason) => put_refused(reason.number()),
     }
 }
 

@@ -1,26 +1,22 @@
 // Packed plans: whether one is legal and whether it is best for an order, and the order's own plan written.
-use crate::orders::put_packed;
+use crate::orders::put_written;
 use crate::{BYTE_MARK, WORK_MARK, with_work};
-use careful::{lend, lend_bytes};
+use careful::lend;
 use case_lines::{call_of, count_setting, put_buffer, put_bytes, put_refusal, put_word};
-use checking::Checked;
-
-// A verdict.
-fn put_verdict(yes: bool) {
-    put_word(if yes { b" yes" } else { b" no" });
-}
+use packed::Refusal;
 
 // What checking answered.
-fn put_checked(answer: Checked) {
+fn put_verdict(answer: Result<bool, Refusal>) {
     match answer {
-        Checked::Refused(refusal) => put_refusal(refusal),
-        Checked::Answered(yes) => put_verdict(yes),
+        Ok(true) => put_word(b" yes"),
+        Ok(false) => put_word(b" no"),
+        Err(refusal) => put_refusal(refusal),
     }
 }
 
 // `legal`: an order and a plan.
 fn legal(order: &[u8], plan: &[u8]) {
-    put_checked(checking::legal(order, plan));
+    put_verdict(checking::legal(order, plan));
 }
 
 // `legal_cut`: the same for each front of a plan, from none of its bytes to all.
@@ -32,16 +28,16 @@ fn legal_cut(order: &[u8], plan: &[u8]) {
 
 // `best`: an order and a plan, with a work area lent.
 fn best(line: &[u8], order: &[u8], plan: &[u8]) {
-    with_work(line, |work| put_checked(best_plan::best(order, plan, work)));
+    with_work(line, |work| put_verdict(best_plan::best(order, plan, work)));
 }
 
 // `write_plan`: an order, with room for bytes and a work area lent.
 fn write_plan(line: &[u8], order: &[u8]) {
     let mut out = [BYTE_MARK; 130];
     let mut space = [WORK_MARK; 15_000];
-    let plan = lend_bytes(&mut out, count_setting(line, b'm'));
+    let plan = lend(&mut out, count_setting(line, b'm'));
     let work = lend(&mut space, count_setting(line, b'k'));
-    put_packed(plan_writer::write_plan(order, plan, work));
+    put_written(plan_writer::write_plan(order, plan, work));
     put_bytes(plan);
     put_buffer(work);
 }

@@ -1,8 +1,9 @@
 // Plans: of an order, of an order of halves, and the text that the program prints for an order.
 use crate::with_room;
 use case_lines::{call_of, put, put_count, put_refusal, put_word};
-use halves::HalvesPlanned;
-use planner::{Figures, Planned};
+use halves::HalvesPlan;
+use packed::Refusal;
+use planner::Figures;
 
 // A plan's numbers.
 fn put_figures(figures: Figures) {
@@ -16,21 +17,21 @@ fn put_figures(figures: Figures) {
 }
 
 // What planning answered.
-fn put_planned(answer: Planned) {
+fn put_planned(answer: Result<Figures, Refusal>) {
     match answer {
-        Planned::Refused(refusal) => put_refusal(refusal),
-        Planned::Made(figures) => put_figures(figures),
+        Ok(figures) => put_figures(figures),
+        Err(refusal) => put_refusal(refusal),
     }
 }
 
 // What planning halves answered.
-fn put_halves(answer: HalvesPlanned) {
+fn put_halves(answer: Result<HalvesPlan, Refusal>) {
     match answer {
-        HalvesPlanned::Refused(refusal) => put_refusal(refusal),
-        HalvesPlanned::Made(figures, seconds) => {
+        Ok(HalvesPlan { figures, seconds }) => {
             put_figures(figures);
             put_count(seconds as u64);
         }
+        Err(refusal) => put_refusal(refusal),
     }
 }
 

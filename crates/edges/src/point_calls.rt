@@ -1,41 +1,31 @@
 // Profiles: extending one by an order, the better of two, and looking one up, as numbers and as records.
+use crate::orders::put_written;
 use crate::{MARK, with_room};
-use better::Joined;
 use careful::lend;
 use case_lines::{
-    call_of, count_setting, make_profile, part, place_setting, put_buffer, put_count, put_refusal,
-    put_refused, put_word, read_numbers, setting,
+    call_of, count_setting, make_profile, part, place_setting, put_buffer, put_count, put_refused,
+    put_word, read_numbers, setting,
 };
-use extending::Extended;
 use point_records::Point;
-use profiles::Finding;
+use refusals::Reason;
 
 // What stands behind the records that a case tells, in time and weight: no point has it.
 const NO_POINT: i32 = 100_016;
-
-// What extending answered.
-fn put_extended(answer: Extended) {
-    match answer {
-        Extended::Refused(refusal) => put_refusal(refusal),
-        Extended::Points(points) => put_count(points as u64),
-    }
-}
 
 // `extend`: an order and a profile, with room for points and a work area lent.
 fn extend(line: &[u8], order: &[u8]) {
     let mut numbers = [0; 604];
     let profile = make_profile(part(line, 2), &mut numbers);
     with_room(line, |points, work| {
-        put_extended(extending::extend(profile, order, points, work))
+        put_written(extending::extend(profile, order, points, work))
     });
 }
 
 // What better-of answered.
-fn put_joined(answer: Joined) {
+fn put_joined(answer: Result<usize, Reason>) {
     match answer {
-        Joined::NotValid => put_refused(8),
-        Joined::NoRoom => put_refused(10),
-        Joined::Points(points) => put_count(points as u64),
+        Ok(points) => put_count(points as u64),
+        Err(reason) => put_refused(reason.number()),
     }
 }
 
@@ -52,11 +42,11 @@ fn better(line: &[u8]) {
 }
 
 // What a lookup answered.
-fn put_finding(answer: Finding) {
+fn put_found(answer: Result<Option<u32>, Reason>) {
     match answer {
-        Finding::NotValid => put_refused(8),
-        Finding::Found(weight) => put_count(weight as u64),
-        Finding::NotFound => put_word(b" none"),
+        Ok(Some(weight)) => put_count(weight as u64),
+        Ok(None) => put_word(b" none"),
+        Err(reason) => put_refused(reason.number()),
     }
 }
 
@@ -64,7 +54,7 @@ fn put_finding(answer: Finding) {
 fn lookup(line: &[u8]) {
     let mut numbers = [0; 604];
     let profile = make_profile(part(line, 1), &mut numbers);
-    put_finding(profiles::lookup(profile, setting(line, b't')));
+    put_found(profiles::lookup(profile, setting(line, b't')));
 }
 
 // Eight records, from alternating numbers.
@@ -82,7 +72,7 @@ fn records(line: &[u8]) {
     let mut numbers = [NO_POINT; 16];
     read_numbers(part(line, 1), &mut numbers);
     let count = place_setting(line, b'f');
-    put_finding(point_records::lookup_among(eight(&numbers), count, setting(line, b't')));
+    put_found(point_records::lookup_among(eight(&numbers), count, setting(line, b't')));
 }
 
 // Runs a case that is for one of these calls; false for any other.

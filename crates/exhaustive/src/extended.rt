@@ -4,8 +4,7 @@ ghost use Rattle.std.specs.Prelude.{◌≤◌, IfOk, IfSome};
 use crate::counts::Run;
 use crate::orders::{Order, packed};
 use careful::{front, is_count, more, plus};
-use comparing::{MARK, leaves, says};
-use extending::Extended;
+use comparing::{MARK, answers, leaves};
 use refusals::Reason;
 
 // What extending must answer: how many points it writes, or why it is refused.
@@ -21,14 +20,6 @@ fn expect_extended(profile: &[i32], numbers: &[i32], out: &mut [i32]) -> Result<
     Ok(by_hand::extend(profile, numbers, out))
 }
 
-// Whether extending answers what it must.
-fn is_extended(answer: Extended, wanted: Result<usize, Reason>) -> bool {
-    match answer {
-        Extended::Refused(told) => wanted.is_err_and(|reason| says(told, reason.number(), 0)),
-        Extended::Points(many) => wanted == Ok(many),
-    }
-}
-
 // Whether extending by an order's bytes answers what it must, and writes the points expected.
 fn extend_agrees(
     profile: &[i32],
@@ -40,7 +31,7 @@ fn extend_agrees(
     let mut work = [MARK; 14_750];
     let answer = extending::extend(profile, bytes, &mut out, &mut work);
     let held = if wanted.is_err() { MARK } else { 0 };
-    is_extended(answer, wanted) && out.as_slice() == expected && leaves(&work, held)
+    answers(answer, wanted) && out.as_slice() == expected && leaves(&work, held)
 }
 
 // A profile that must be written, of so many points: counted and looked up.

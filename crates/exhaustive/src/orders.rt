@@ -19,6 +19,5 @@ pub fn order_of(drawn: trial_orders::Order, numbers: &[i32]) -> Order<'_> {
 
 // An order packed.
 pub fn packed<'a>(order: Order<'_>, space: &'a mut [u8; 94]) -> &'a [u8] {
-    let size = pack_order(order.t0, order.numbers, space);
-    front(space, size)
+    pack_order(order.t0, order.numbers, space)
 }

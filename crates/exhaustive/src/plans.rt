@@ -5,8 +5,9 @@ use crate::orders::{Order, packed};
 use by_hand::Best;
 use careful::{count_of, is_count, more};
 use comparing::{MARK, leaves, says};
-use halves::HalvesPlanned;
-use planner::{Figures, Planned};
+use halves::HalvesPlan;
+use packed::Refusal;
+use planner::Figures;
 use refusals::Reason;
 
 // The figures of the best choice, which planning must answer.
@@ -46,12 +47,11 @@ fn figures_agree(figures: Figures, wanted: Wanted) -> bool {
 }
 
 // Whether planning answers the figures wanted, or that there is no choice.
-fn is_planned(answer: Planned, wanted: Option<Wanted>) -> bool {
-    match answer {
-        Planned::Refused(refusal) => {
-            wanted.is_none() && says(refusal, Reason::NoFeasibleChoice.number(), 0)
-        }
-        Planned::Made(figures) => wanted.is_some_and(|wanted| figures_agree(figures, wanted)),
+fn is_planned(answer: Result<Figures, Refusal>, wanted: Option<Wanted>) -> bool {
+    match (answer, wanted) {
+        (Ok(figures), Some(wanted)) => figures_agree(figures, wanted),
+        (Err(refusal), None) => says(refusal, Reason::NoFeasibleChoice, 0),
+        _ => false,
     }
 }
 
@@ -65,14 +65,13 @@ fn plan_agrees(order: &[u8], wanted: Option<Wanted>, expected: &[i32; 12]) -> bo
 
 // Whether planning as one of halves answers the figures wanted and the optional seconds lost, or that there is
 // no choice.
-fn is_halved(answer: HalvesPlanned, wanted: Option<Wanted>) -> bool {
-    match answer {
-        HalvesPlanned::Refused(refusal) => {
-            wanted.is_none() && says(refusal, Reason::NoFeasibleChoice.number(), 0)
-        }
-        HalvesPlanned::Made(figures, seconds) => wanted.is_some_and(|wanted| {
+fn is_halved(answer: Result<HalvesPlan, Refusal>, wanted: Option<Wanted>) -> bool {
+    match (answer, wanted) {
+        (Ok(HalvesPlan { figures, seconds }), Some(wanted)) => {
             is_count(seconds as u64, wanted.seconds) && figures_agree(figures, wanted)
-        }),
+        }
+        (Err(refusal), None) => says(refusal, Reason::NoFeasibleChoice, 0),
+        _ => false,
     }
 }
 
@@ -88,11 +87,10 @@ fn halves_agree(order: &[u8], wanted: Option<Wanted>, expected: &[i32; 12]) -> b
 fn refuses(order: &[u8], offending: usize) -> bool {
     let mut starts = [MARK; 12];
     let mut work = [MARK; 14_750];
-    let told = match halves::plan_halves(order, &mut starts, &mut work) {
-        HalvesPlanned::Refused(refusal) => says(refusal, Reason::NotOfHalves.number(), offending),
-        HalvesPlanned::Made(_, _) => false,
-    };
-    told && starts == [MARK; 12] && leaves(&work, MARK)
+    let told = halves::plan_halves(order, &mut starts, &mut work);
+    told.is_err_and(|refusal| says(refusal, Reason::NotOfHalves, offending))
+        && starts == [MARK; 12]
+        && leaves(&work, MARK)
 }
 
 // The starts that a plan must write: none where there is no choice.

@@ -60,6 +60,10 @@ pub record Settles (figures room : List ℕ) (size got : ℕ) (work : List ℤ) 
 abbrev pub Kept : List ℕ → ℕ → List ℕ → ℕ → ℕ → List ℕ → Type 0
 Kept room got piece at n room' = room' ≡ kept_in room got (take n (drop at piece))
 
+-- Bytes are kept behind those that have come, while there is room.
+abbrev pub KeptBehind : List ℕ → ℕ → List ℕ → List ℕ → Type 0
+KeptBehind room got bytes room' = room' ≡ kept_in room got bytes
+
 -- One turn takes at least a byte of the piece at a place.
 pub record CanTurn (p : Part) (figures room piece : List ℕ) (at : ℕ) (work : List ℤ) : Type 0 where
   pub space : area ≤ length work

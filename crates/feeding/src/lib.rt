@@ -6,9 +6,8 @@ ghost use Rattle.std.specs.Prelude.{◌≡◌, ◌≤◌, length};
 ghost use Rattle.sheet.specs.Sheet.{figure_count, sheet_in};
 ghost use Rattle.streams.specs.Stream.{front_room, feed_count, over, state_in, part_fits, is_state};
 ghost use Rattle.feeding.specs.Feeding.{part_in, put_part, CanSettle, Settles, CanTurn, Turned, CanFeed, Fed};
-ghost use Rattle.feeding.specs.Feeding.{CanPut, CanTake, Taken};
+ghost use Rattle.feeding.specs.Feeding.{CanPut, CanTake, Taken, KeptBehind};
 ghost use Rattle.feeding.specs.Calls.{FeedCall};
-ghost use Rattle.streams.proofs.Kept.{kept_in};
 
 use adding::add_into;
 use area::{AREA, clear};
@@ -74,7 +73,7 @@ fn settle(figures: &mut [u32], front: &[u8], size: usize, got: usize, work: &mut
 // Bytes of an entry behind those that have come, while there is room.
 fn keep(front: &mut [u8], got: usize, bytes: &[u8])
     requires { front_room ≤ length front.old }
-    ensures { front.new ≡ kept_in front.old got bytes.now }
+    ensures { KeptBehind front.old got bytes.now front.new }
 {
     if got < FRONT {
         let n = bytes.len().min(FRONT - got);

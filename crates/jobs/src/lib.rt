@@ -7,7 +7,7 @@ ghost use Rattle.packed.specs.Packed.{numbers_of, job_count, fields_at};
 ghost use Rattle.fields.specs.Fields.{fields_of};
 ghost use Rattle.jobs.specs.Held.{RecordsStand, AllGiven};
 
-use fields::{Header, Job};
+use fields::Job;
 
 // The jobs that an order has, at most 48.
 pub trait Jobs {

@@ -1,6 +1,6 @@
 -- The loop that gathers all jobs: the search for a job out of range, with the numbers and the weights of those before it.
 -- Over the numbers of all jobs, however a job is read.
-use Rattle.std.specs.Prelude.{ℕ, ◌+◌, ◌*◌, ◌-◌, ◌/◌, ◌^◌, ◌≤◌, ◌<◌, ◌≡◌, refl, true, false, not, Result, Ok, Err, List, T, ltb, ℤ, pos, nat_abs, length, take, drop, set}
+use Rattle.std.specs.Prelude.{ℕ, ◌+◌, ◌*◌, ◌^◌, ◌≤◌, ◌<◌, ◌≡◌, true, false, not, Result, Ok, Err, List, T, ltb, ℤ, pos, nat_abs, length, set}
 use Rattle.std.proofs.Common.{sym, ◌∙◌, arith, zero-add, length-set, get_or-set_same, get_or-set_other, to_z-of_z, lt-ltb, ltb-true, ltb-false}
 use Rattle.std.proofs.Math.Path.{ap}
 use Rattle.std.proofs.Math.ListN.{get_or}
@@ -14,16 +14,13 @@ use Rattle.order.specs.Job.{weight_of}
 use Rattle.packed.specs.Places.{each, first}
 use Rattle.packed.specs.PlacesLaws.{each-end, first_on, first-here, first-end}
 use Rattle.packed.specs.declared.Refusal.{Refusal}
-use Rattle.packed.specs.Judge.{in_field, fine, refused, judge}
-use Rattle.packed.specs.Packed.{job_fields, header_of, count_of, numbers_of, job_count, fields_at, the_weight, job_at, jobs_of}
-use Rattle.packed.proofs.PackedLaws.{numbers-count, fields-of-numbers, whole-count}
-use Rattle.packed.specs.Refusals.{header_checks, job_checks, fields_within, bad_field, bad_at, first_bad, number_at}
-use Rattle.packed.proofs.RefusalLaws.{header-fine}
+use Rattle.packed.specs.Judge.{in_field, refused, judge}
+use Rattle.packed.specs.Packed.{job_count, fields_at, the_weight, job_at, jobs_of}
+use Rattle.packed.specs.Refusals.{job_checks, fields_within, bad_field, bad_at, first_bad, number_at}
 use Rattle.packed.proofs.Steps.{jobs-judge, bad-from-0, weights-on}
-use Rattle.fields.specs.Fields.{fields_of, header_fields}
-use Rattle.fields.specs.Facts.{job-facts, record-in, read-from, header_read}
+use Rattle.fields.specs.Fields.{fields_of}
+use Rattle.fields.specs.Facts.{job-facts}
 use Rattle.fields.specs.declared.Job.{Job}
-use Rattle.fields.specs.declared.Header.{Header}
 use Rattle.judge.specs.Verdicts.{taken_in, noted_in, AllIn}
 
 -- ---- a number of a job, from 0 to a greatest, as the code casts it

@@ -1,12 +1,11 @@
 -- The checks as the code makes them: of a header that was read, of the searches that were made, and stage by stage; and what
 -- place and field a refusal by stages has.
-use Rattle.std.specs.Prelude.{ℕ, ◌+◌, ◌*◌, ◌/◌, ◌≤◌, ◌<◌, refl, Bool, false, not, cond, List, [], ◌∷◌, ◌++◌, ltb, eqb, ℤ, pos, length, take}
+use Rattle.std.specs.Prelude.{ℕ, ◌+◌, ◌*◌, ◌≤◌, ◌<◌, refl, Bool, false, not, cond, List, [], ◌∷◌, ◌++◌, ltb, eqb, ℤ, pos, length, take}
 use Rattle.std.proofs.Math.Path.{◌≡◌}
-use Rattle.std.proofs.Common.{sym, ap, ◌∙◌, arith, length-take-le, get_or-take, lt-ltb, le-ltb, ltb-true, ltb-false}
-use borrow.Table.Steps.{cases}
+use Rattle.std.proofs.Common.{sym, ap, ◌∙◌, arith, length-take-le, get_or-take, lt-ltb, le-ltb}
 use Rattle.seconds.specs.Ranges.{is_time}
 use Rattle.packed.specs.declared.Refusal.{Refusal}
-use Rattle.packed.specs.Judge.{in_field, plainly, Check, Verdict, fine, refused, judge, or_else, check}
+use Rattle.packed.specs.Judge.{plainly, Check, Verdict, fine, refused, judge, or_else, check}
 use Rattle.packed.specs.JudgeLaws.{judge-append, judge-tells}
 use Rattle.order.specs.Job.{weight_of}
 use Rattle.packed.specs.Layout.{record_bytes}

@@ -1,11 +1,11 @@
 -- What the judging calls ask of their callers, and what is gathered of the jobs on the way.
 -- Definitions only.
-use Rattle.std.specs.Prelude.{ℕ, ◌+◌, ◌*◌, ◌≤◌, ◌<◌, ◌≡◌, cond, ◌&&◌, List, [], ◌∷◌, ltb, eqb, ℤ, pos, nat_abs, length, get_or, take, set, Result, Ok, Err}
+use Rattle.std.specs.Prelude.{ℕ, ◌+◌, ◌<◌, ◌≡◌, cond, ◌&&◌, List, [], ◌∷◌, ltb, eqb, ℤ, pos, nat_abs, length, get_or, set, Result, Ok, Err}
 use Rattle.seconds.specs.Limits.{most_weight}
 use Rattle.order.specs.Job.{weight_of}
 use Rattle.packed.specs.declared.Refusal.{Refusal}
 use Rattle.packed.specs.Judge.{in_field, plainly, Verdict, fine, refused, judge, check, check_at}
-use Rattle.packed.specs.Packed.{kind_of, count_of, numbers_of, kind_for, job_count, jobs_of}
+use Rattle.packed.specs.Packed.{kind_of, numbers_of, kind_for, job_count, jobs_of}
 use Rattle.packed.specs.Refusals.{fields_within, bad_field, number_at, first_bad, job_checks}
 use Rattle.fields.specs.Fields.{fields_of}
 use Rattle.fields.specs.declared.Job.{Job}

@@ -2,8 +2,8 @@
 // off or added. Each draw takes the seed behind the last; what no change needs is drawn too, so that the plans
 // of one change do not hang on those of another.
 use crate::Trial;
-use by_hand::{Best, DEADLINE, LEFT_OUT, LENGTH, READY, field, flip_bit, pack_plan, write_starts};
-use careful::{at, count_of, first_other, number_of, plus, put};
+use by_hand::{Best, LEFT_OUT, flip_bit, pack_plan, write_starts};
+use careful::{Job, at, count_of, first_other, job_at, number_of, plus, put};
 use trial_orders::{drawn, drawn_byte, next};
 
 // What is changed of a plan: a start a second sooner or later, or put to an edge of its window; it and all behind it
@@ -79,10 +79,9 @@ fn draw_choice(seed: &mut u64, best: Option<Best>) -> u32 {
 // none is kept.
 fn draw_kept(seed: &mut u64, jobs: u64, starts: &[i32]) -> usize {
     let place = first_other(starts, LEFT_OUT, draw(seed, jobs) as usize);
-    if place < starts.len() {
-        return place;
-    }
-    first_other(starts, LEFT_OUT, 0)
+    place
+        .or(first_other(starts, LEFT_OUT, 0))
+        .unwrap_or(starts.len())
 }
 
 // A job's start moved by so many seconds; a job left out stays out.
@@ -101,18 +100,19 @@ fn put_off(starts: &mut [i32], from: usize, by: i32) {
 }
 
 // A job's last start by its deadline: so much later than that of the longest job as it is shorter.
-fn last_start(numbers: &[i32], place: usize) -> i32 {
-    let length = count_of(field(numbers, place, LENGTH));
-    let first = plus(field(numbers, place, DEADLINE), -10_000);
+fn last_start(job: Job) -> i32 {
+    let length = count_of(job.length);
+    let first = plus(job.deadline, -10_000);
     plus(first, number_of(10_000u64.saturating_sub(length)))
 }
 
 // A start at t0, at the job's ready time or at its last start, or a second before or after.
 fn draw_edge(seed: &mut u64, trial: Trial, place: usize) -> i32 {
+    let job = job_at(trial.numbers, place);
     let edge = match draw(seed, 3) {
         0 => trial.t0,
-        1 => field(trial.numbers, place, READY),
-        _ => last_start(trial.numbers, place),
+        1 => job.ready,
+        _ => last_start(job),
     };
     plus(plus(edge, number_of(draw(seed, 3))), -1)
 }
@@ -128,7 +128,7 @@ fn change_starts(seed: &mut u64, change: Change, trial: Trial, starts: &mut [i32
         Change::Edge => put(starts, kept, draw_edge(seed, trial, kept)),
         Change::PutOff => put_off(starts, kept, number_of(seconds)),
         Change::LeaveOut => put(starts, kept, LEFT_OUT),
-        Change::Add => put(starts, added, field(trial.numbers, added, READY)),
+        Change::Add => put(starts, added, job_at(trial.numbers, added).ready),
         _ => {}
     }
 }

@@ -1,34 +1,14 @@
 // The calls on plans compared with the judge by trial: their answers, all that they wrote, and that they
 // wrote no more.
 use crate::Trial;
-use crate::counts::{Run, is_legal, verdict};
+use crate::counts::Run;
 use by_hand::{Judged, LEFT_OUT};
-use careful::{all_are, front_bytes};
-use checking::Checked;
-use comparing::{MARK, count, leaves, says};
-use pack::Packed;
+use careful::{all_are, front};
+use comparing::{MARK, answers, count, leaves};
 use refusals::Reason;
 
 // What lent bytes hold before a call, so that every byte written shows.
 const MARK_BYTE: u8 = 0xA5;
-
-// Whether an answer is the verdict or the refusal expected.
-fn answers(answer: Checked, expected: Result<bool, Reason>) -> bool {
-    match (answer, expected) {
-        (Checked::Refused(told), Err(reason)) => says(told, reason.number(), 0),
-        (Checked::Answered(yes), Ok(holds)) => yes == holds,
-        _ => false,
-    }
-}
-
-// Whether writing a plan is refused, or answers so many bytes, as expected.
-fn written(answer: Packed, expected: Result<usize, Reason>) -> bool {
-    match (answer, expected) {
-        (Packed::Refused(told), Err(reason)) => says(told, reason.number(), 0),
-        (Packed::Bytes(many), Ok(size)) => many == size,
-        _ => false,
-    }
-}
 
 // Whether asking for best gives the answer expected; a refused plan leaves the work area as it was.
 fn best_agrees(order: &[u8], plan: &[u8], expected: Result<bool, Reason>) -> bool {
@@ -38,38 +18,41 @@ fn best_agrees(order: &[u8], plan: &[u8], expected: Result<bool, Reason>) -> boo
     answers(answer, expected) && leaves(&work, held)
 }
 
-// A plan for an order, held by the calls to what it was judged to be by trial.
-pub fn check_plan(run: &mut Run, trial: Trial, plan: &[u8], judged: Judged) {
-    let legal = is_legal(judged);
-    let best = legal && trial.best.is_some_and(|best| best.weight <= judged.weight);
-    let as_legal = answers(checking::legal(trial.order, plan), verdict(judged, legal));
-    let as_best = best_agrees(trial.order, plan, verdict(judged, best));
-    run.expect(as_legal);
-    run.expect(as_best);
-    run.count_plan(judged, best);
+// Whether a plan that was judged is best: legal, and of no less weight than the best choice.
+fn is_best(trial: Trial, judged: Judged) -> bool {
+    let heaviest = trial.best.is_some_and(|best| best.weight <= judged.weight);
+    judged.broken.is_none() && heaviest
 }
 
-// The plan that must be written, if there is a choice. Returns how many bytes it has.
-fn expect_plan(trial: Trial, plan: &mut [u8]) -> Option<usize> {
-    let best = trial.best?;
+// A plan for an order, held by the calls to what it was judged to be by trial.
+pub fn check_plan(run: &mut Run, trial: Trial, plan: &[u8], judged: Result<Judged, Reason>) {
+    let legal = judged.map(|judged| judged.broken.is_none());
+    let best = judged.map(|judged| is_best(trial, judged));
+    run.expect(answers(checking::legal(trial.order, plan), legal));
+    run.expect(best_agrees(trial.order, plan, best));
+    run.count_plan(judged, best == Ok(true));
+}
+
+// The plan that must be written, or why there is none. Returns how many bytes it has.
+fn expect_plan(trial: Trial, plan: &mut [u8]) -> Result<usize, Reason> {
+    let best = trial.best.ok_or(Reason::NoFeasibleChoice)?;
     let mut starts = [LEFT_OUT; 48];
     by_hand::write_starts(trial.numbers, trial.t0, best.choice, &mut starts);
-    Some(by_hand::pack_plan(&starts, plan))
+    Ok(by_hand::pack_plan(&starts, plan))
 }
 
-// Our own plan of an order written. Returns whether it has so many bytes, or is refused where there is
-// no choice.
-fn write_agrees(order: &[u8], size: Option<usize>, out: &mut [u8]) -> bool {
+// Our own plan of an order written. Returns whether it has so many bytes, or is refused for this reason.
+fn write_agrees(order: &[u8], size: Result<usize, Reason>, out: &mut [u8]) -> bool {
     let mut work = [MARK; 14_750];
     let answer = plan_writer::write_plan(order, out, &mut work);
-    written(answer, size.ok_or(Reason::NoFeasibleChoice)) && leaves(&work, 0)
+    answers(answer, size) && leaves(&work, 0)
 }
 
 // Whether writing a plan refuses a short room, and leaves it as it was.
 fn refuses_short(order: &[u8], work: &mut [i32]) -> bool {
     let mut out = [MARK_BYTE; 113];
     let answer = plan_writer::write_plan(order, &mut out, work);
-    written(answer, Err(Reason::BufferTooShort)) && out == [MARK_BYTE; 113]
+    answers(answer, Err(Reason::BufferTooShort)) && out == [MARK_BYTE; 113]
 }
 
 // Whether both calls with a room refuse a short one, and leave it as it was. A plan that keeps nothing is
@@ -85,8 +68,8 @@ fn refuse_short(order: &[u8]) -> bool {
 // What was written for an order, judged as any plan; it must be legal and best.
 fn check_ours(run: &mut Run, trial: Trial, plan: &[u8]) {
     let judged = by_hand::judge_plan(trial.numbers, trial.t0, plan);
-    let best = trial.best.is_some_and(|best| best.weight == judged.weight);
-    run.expect(is_legal(judged) && best);
+    let weight = trial.best.map(|best| best.weight);
+    run.expect(judged.is_ok_and(|judged| judged.broken.is_none() && weight == Some(judged.weight)));
     check_plan(run, trial, plan, judged);
     count(&mut run.ours, true);
 }
@@ -98,7 +81,7 @@ pub fn check_written(run: &mut Run, trial: Trial) {
     let size = expect_plan(trial, &mut expected);
     let agrees = write_agrees(trial.order, size, &mut out);
     run.expect(agrees && out == expected && refuse_short(trial.order));
-    if let Some(size) = size {
-        check_ours(run, trial, front_bytes(&out, size));
+    if let Ok(size) = size {
+        check_ours(run, trial, front(&out, size));
     }
 }

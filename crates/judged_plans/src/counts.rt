@@ -1,5 +1,5 @@
 // A run so far: the seed, what was judged, what it was, and how often an answer differed.
-use by_hand::{BEFORE_FREE, BEFORE_READY, BEFORE_RESTED, Judged, PAST_DEADLINE};
+use by_hand::{Judged, Rule};
 use comparing::{count, write_count};
 use refusals::Reason;
 
@@ -27,20 +27,6 @@ pub struct Run {
     pub mismatches: u64,
 }
 
-// The verdict on a plan that was judged: a rule for the plans that are accepted, or why it is refused.
-pub fn verdict(judged: Judged, holds: bool) -> Result<bool, Reason> {
-    match judged.refusal {
-        0 => Ok(holds),
-        14 => Err(Reason::PlanWrongLength),
-        _ => Err(Reason::PlanStrayBits),
-    }
-}
-
-// Whether a plan that was judged is legal.
-pub fn is_legal(judged: Judged) -> bool {
-    verdict(judged, judged.broken == 0) == Ok(true)
-}
-
 impl Run {
     // A run that begins with a seed.
     pub fn new(seed: u64) -> Run {
@@ -55,30 +41,35 @@ impl Run {
         count(&mut self.mismatches, !agrees);
     }
 
-    // Counts a plan by what it was judged to be, and whether it is best.
-    pub fn count_plan(&mut self, judged: Judged, best: bool) {
-        let legal = is_legal(judged);
-        count(&mut self.plans, true);
-        match verdict(judged, legal) {
-            Err(Reason::PlanWrongLength) => count(&mut self.wrong_length, true),
-            Err(_) => count(&mut self.wrong_bits, true),
-            Ok(_) => count(&mut self.accepted, true),
-        }
+    // Counts a plan that is accepted by what it was judged to be, and whether it is best.
+    fn count_accepted(&mut self, judged: Judged, best: bool) {
+        let legal = judged.broken.is_none();
+        count(&mut self.accepted, true);
         count(&mut self.legal, legal);
         count(&mut self.best, best);
         count(&mut self.idle_best, best && judged.idle);
         count(&mut self.idle_not_best, legal && !best && judged.idle);
     }
 
+    // Counts a plan by what it was judged to be, and whether it is best.
+    pub fn count_plan(&mut self, judged: Result<Judged, Reason>, best: bool) {
+        count(&mut self.plans, true);
+        match judged {
+            Ok(judged) => self.count_accepted(judged, best),
+            Err(Reason::PlanWrongLength) => count(&mut self.wrong_length, true),
+            Err(_) => count(&mut self.wrong_bits, true),
+        }
+    }
+
     // Counts a plan of ours with one start a second off, by the rule that it breaks.
-    pub fn count_second(&mut self, broken: usize) {
+    pub fn count_second(&mut self, broken: Option<Rule>) {
         match broken {
-            0 => count(&mut self.off_legal, true),
-            BEFORE_FREE => count(&mut self.off_free, true),
-            BEFORE_READY => count(&mut self.off_ready, true),
-            BEFORE_RESTED => count(&mut self.off_rested, true),
-            PAST_DEADLINE => count(&mut self.off_deadline, true),
-            _ => {}
+            None => count(&mut self.off_legal, true),
+            Some(Rule::BeforeFree) => count(&mut self.off_free, true),
+            Some(Rule::BeforeReady) => count(&mut self.off_ready, true),
+            Some(Rule::BeforeRested) => count(&mut self.off_rested, true),
+            Some(Rule::PastDeadline) => count(&mut self.off_deadline, true),
+            Some(Rule::CriticalOut) => {}
         }
     }
 

@@ -7,7 +7,7 @@ mod checks;
 mod counts;
 
 use by_hand::Best;
-use careful::{front, front_bytes};
+use careful::front;
 use changes::{Change, OF_DRAWN, OF_OURS, draw_plan};
 use checks::{check_plan, check_written};
 use comparing::{count, pack_order};
@@ -32,21 +32,15 @@ pub struct Trial<'a> {
     pub best: Option<Best>,
 }
 
-// The best choice of an order by trial, if there is one.
-fn best_choice(numbers: &[i32], t0: i32) -> Option<Best> {
-    let best = by_hand::best_choice(numbers, t0);
-    best.found.then_some(best)
-}
-
 // A plan for an order drawn, changed and judged: that of the best choice, if it is given.
 fn try_plan(run: &mut Run, change: Change, trial: Trial, best: Option<Best>) {
     let mut space = [0; 116];
     let size = draw_plan(&mut run.seed, change, trial, best, &mut space);
-    let plan = front_bytes(&space, size);
+    let plan = front(&space, size);
     let judged = by_hand::judge_plan(trial.numbers, trial.t0, plan);
     let by_second = matches!(change, Change::Sooner | Change::Later);
     if by_second && best.is_some() && size > EMPTY {
-        run.count_second(judged.broken);
+        run.count_second(judged.ok().and_then(|judged| judged.broken));
     }
     check_plan(run, trial, plan, judged);
 }
@@ -64,14 +58,11 @@ fn try_plans(run: &mut Run, trial: Trial) {
 // Plans for an order judged: what is written for it, and drawn ones.
 fn judge_plans(run: &mut Run, numbers: &[i32], t0: i32) {
     let mut space = [0; 94];
-    let size = pack_order(t0, numbers, &mut space);
-    let order = front_bytes(&space, size);
-    let best = best_choice(numbers, t0);
     let trial = Trial {
-        order,
+        order: pack_order(t0, numbers, &mut space),
         numbers,
         t0,
-        best,
+        best: by_hand::best_choice(numbers, t0),
     };
     check_written(run, trial);
     try_plans(run, trial);

@@ -1,18 +1,15 @@
 -- The search for the first pack, one step at a time: what is found is what is found from here on.
-use Rattle.std.specs.Prelude.{ℕ, ◌+◌, ◌*◌, ◌≤◌, ◌<◌, ◌≡◌, true, false, not, ◌≢◌, Some, None, List, ℤ, pos, get_or, drop}
-use Rattle.std.proofs.Common.{sym, ◌∙◌, arith, get_or-take, get_or-drop, SFits, of_z}
+use Rattle.std.specs.Prelude.{ℕ, ◌+◌, ◌<◌, ◌≡◌, true, false, not, ◌≢◌, Some, None, List, ℤ, pos}
+use Rattle.std.proofs.Common.{sym, ◌∙◌, arith, SFits, of_z}
 use Rattle.std.proofs.Math.Path.{ap}
 use Rattle.std.specs.Int.{w32}
 use borrow.Author.Tests.{lt-ltb, le-ltb}
 use Rattle.seconds.specs.Signed.{signed, same_bits}
 use Rattle.seconds.specs.Ranges.{same}
 use Rattle.seconds.specs.RangesLaws.{same-yes, same-no}
-use Rattle.packed.specs.Places.{part, first, found_below}
+use Rattle.packed.specs.Places.{first, found_below}
 use Rattle.packed.specs.PlacesLaws.{first_on, first-here, first-end, found-there, found-none, found-is, none-is}
-use Rattle.packed.specs.Packed.{numbers_of, job_count, fields_at, job_fields, has_pack, the_pack, first_packed, kind_for}
-use Rattle.packed.proofs.PackedLaws.{numbers-count, fields-of-numbers, whole-count}
-use Rattle.fields.specs.Fields.{fields_of}
-use Rattle.fields.specs.declared.Job.{Job}
+use Rattle.packed.specs.Packed.{job_count, fields_at, has_pack, the_pack, first_packed, kind_for}
 
 -- A pack compared with 0 by its bits.
 some-pack : (z : ℤ) → of_z w32 z ≢ 0 → not (same z (pos 0)) ≡ true

@@ -1,6 +1,5 @@
 -- A refusal's parts as what it says, and back.
 use Rattle.std.specs.Prelude.{◌≡◌}
-use Rattle.std.proofs.Common.{ap}
 use Rattle.refusals.specs.Numbers.{number_of, reason_of, figure_or_none, field_of}
 use Rattle.refusals.specs.NumbersLaws.{told-back, field-told-back}
 use Rattle.packed.specs.Said.{Said}

@@ -1,5 +1,5 @@
 -- The numbers of the reasons to refuse (R24) and the figures of a job's fields (R36), both ways. Definitions only.
-use Rattle.std.specs.Prelude.{ℕ, zero, suc, List, [], ◌∷◌, Option, Some, None, Result, Ok, Err, get_or}
+use Rattle.std.specs.Prelude.{ℕ, [], ◌∷◌, Option, Some, None, Result, Ok, Err, get_or}
 use Rattle.refusals.specs.declared.Reason.{Reason}
 use Rattle.refusals.specs.declared.Reason.TheVariants.{OrderTooShort, UnknownKind, TooManyJobs, WrongLength, BusFreeOutOfRange}
 use Rattle.refusals.specs.declared.Reason.TheVariants.{JobOutOfRange, NumberRepeated, ProfileNotValid, TooMuchWeight}

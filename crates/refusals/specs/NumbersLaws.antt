@@ -1,5 +1,5 @@
 -- Each reason and each field is told back by its number, and each number by its name.
-use Rattle.std.specs.Prelude.{ℕ, zero, suc, ◌+◌, ◌≤◌, ◌≡◌, refl, Option, Some, None}
+use Rattle.std.specs.Prelude.{ℕ, zero, suc, ◌≤◌, ◌≡◌, refl, Option, Some, None}
 use Rattle.std.proofs.Common.{arith}
 use Rattle.refusals.specs.declared.Reason.{Reason}
 use Rattle.refusals.specs.declared.Reason.TheVariants.{OrderTooShort, UnknownKind, TooManyJobs, WrongLength, BusFreeOutOfRange}

@@ -2,7 +2,7 @@
 // lines. Any numbers have an answer. Assumes nothing.
 #![tactic(auto)]
 
-ghost use Rattle.std.specs.Prelude.{◌≡◌, ◌≤◌, length, take, drop, sum};
+ghost use Rattle.std.specs.Prelude.{◌≡◌, ◌≤◌, length, sum};
 ghost use Rattle.sheet.specs.Sheet.{numbers_of, no_sheet, weights_fit, top_fits, is_sheet, sheet_in, sheet_over, join as join_of};
 ghost use Rattle.sheet.specs.Sheet.{figure_count, joins, JoinCall};
 ghost use Rattle.sheet.specs.Joining.{CanJoin, partly};

@@ -5,7 +5,7 @@
 mod calls;
 mod told;
 
-use careful::{front_bytes, lend, lend_bytes};
+use careful::lend;
 use case_lines::{
     call_of, count_setting, is_case, part, put_buffer, put_name, put_word, read_sizes,
 };
@@ -34,7 +34,7 @@ fn run_case(line: &[u8]) {
     let mut out = [BYTE_MARK; 450];
     let mut space = [WORK_MARK; 15_000];
     let figures = read_sizes(part(line, 1), &mut numbers);
-    let bytes = lend_bytes(&mut out, count_setting(line, b'm'));
+    let bytes = lend(&mut out, count_setting(line, b'm'));
     let work = lend(&mut space, count_setting(line, b'k'));
     run(line, figures, bytes, work);
     put_figures(figures);

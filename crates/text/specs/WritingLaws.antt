@@ -1,5 +1,5 @@
 -- Laws of writing through a writer: two writings one after the other are one.
-use Rattle.std.specs.Prelude.{ℕ, ◌+◌, ◌≤◌, ◌≡◌, refl, List, [], ◌++◌, length, ℤ}
+use Rattle.std.specs.Prelude.{ℕ, ◌+◌, ◌≤◌, refl, List, [], ◌++◌, length, ℤ}
 use Rattle.std.proofs.Common.{◌∙◌, arith, SFits, to_z, of_z, to_z-of_z}
 use Rattle.std.specs.Int.{w32}
 use Rattle.text.specs.Decimal.{figure}

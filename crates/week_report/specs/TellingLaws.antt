@@ -72,7 +72,7 @@ reached-says r =
 -- ---- the code's cases
 
 pub can-refuse : (r : Refusal) (out : List ℕ) → r ≡ plainly 18 → sheet_room ≤ length out → CanRefuse r out
-can-refuse r out e room = rw e (record { early = omega arith; room = record { fits = omega arith } })
+can-refuse r out e room = rw e (record { early = omega arith; room = omega arith })
 
 module _ (figures out : List ℕ) (known : ℕ) (can : CanTell figures out) where
   -- Too many entries are told by the line of 18,

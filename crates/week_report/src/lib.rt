@@ -7,7 +7,7 @@ ghost use Rattle.week_report.specs.WeekText.{held_text};
 ghost use Rattle.week_report.specs.Telling.{CanTell};
 
 use feeding::is_over;
-use packed::plainly;
+use refusals::Reason;
 use report::put_refusal;
 use sheet_text::tell;
 
@@ -18,7 +18,7 @@ pub fn tell_held(known: u32, figures: &[u32], out: &mut [u8]) -> usize
     ensures { Wrote out.old 0 (held_text (sheet_in figures.now) known) out.new result }
 {
     if is_over(figures) {
-        return put_refusal(out, plainly(18));
+        return put_refusal(out, Reason::NoSheet.into());
     }
     tell(figures, known > 0, out).unwrap()
 }

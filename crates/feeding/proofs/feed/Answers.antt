@@ -1,6 +1,5 @@
 -- `feeding::feed` meets its contract, by its checks. Assumes nothing.
 use mathlib.Core.Path.{sym, ◌∙◌}
-use native.Mathlib.Omega.{arith}
 use Rattle.feeding.specs.TakingLaws.{numbers-short, front-short, area-short, no-state, piece-taken}
 use Rattle.feeding.proofs.feed.Goals as goal
 use Rattle.feeding.proofs.feed.Goals.{then-feed-lt-FEED-via-then-feed-lt-FEED, then-feed-lt-FEED-via-else-feed-lt-FEED+then-front-lt-FRONT, then-feed-lt-FEED-via-else-feed-lt-FEED+else-front-lt-FRONT+then-work-lt-AREA}

@@ -1,6 +1,6 @@
 -- `judge::judge_order` meets its contract: the header's verdict, or that of the jobs where it is fine.
 -- Assumes nothing.
-use mathlib.Core.Path.{◌≡◌, sym, subst, ap, ◌∙◌}
+use mathlib.Core.Path.{◌≡◌, sym, subst, ◌∙◌}
 use borrow.Author.Rules.{rules}
 use Rattle.std.proofs.Common.{Ok, Err}
 use Rattle.packed.specs.Packed.{numbers_of}

@@ -1,19 +1,16 @@
 -- `judge::take_in` meets its contract: a job within its limits has a number and a weight that can be cast.
 -- Assumes nothing.
-use Prim.Native.Nat.{ℕ}
 use mathlib.Core.Path.{◌≡◌, refl, sym, ap, ◌∙◌}
 use mathlib.Core.Bool.{true, false}
 use native.Mathlib.Omega.{arith}
 use mir.Syntax.{w8, w32}
-use borrow.Author.Rules.{rules}
 use Rattle.std.proofs.Common.{Option, Some, None, Err}
 use Rattle.refusals.specs.declared.Field.{Field}
 use Rattle.refusals.specs.NumbersLaws.{figure-low}
 use Rattle.refusals.specs.Numbers.{figure_of, figure_or_none}
-use Rattle.packed.specs.Judge.{in_field}
 use Rattle.packed.specs.Refusals.{fields_within, bad_field}
 use Rattle.fields.specs.Fields.{fields_of}
-use Rattle.fields.specs.Facts.{JobFacts, job-facts}
+use Rattle.fields.specs.Facts.{job-facts}
 use Rattle.limits.specs.Tests.{no-bad-field, some-bad-field}
 use Rattle.fields.specs.declared.Job.{Job}
 use Rattle.judge.specs.Gathering.{kept, casts}

@@ -5,12 +5,12 @@ use Rattle.week_report.specs.TellingLaws.{can-refuse, many-told-by, few-sheet, s
 use Rattle.week_report.proofs.tell_held.Goals as goal
 
 pub put_refusal-requires : goal.put_refusal-requires
-put_refusal-requires c = can-refuse c.plainly.result c.args.out.now c.plainly.ensures c.requires.room
+put_refusal-requires c = can-refuse c.into.result c.args.out.now c.into.ensures c.requires.room
 
 pub returns-then-is_over : goal.returns-then-is_over
 returns-then-is_over c =
     let a = c.args in
-    many-told-by a.figures.now a.out.now a.known c.requires c.plainly.result c.plainly.ensures (sym c.is_over.ensures ∙ c.if-is_over.true)
+    many-told-by a.figures.now a.out.now a.known c.requires c.into.result c.into.ensures (sym c.is_over.ensures ∙ c.if-is_over.true)
     c.put_refusal.ensures
 
 pub unwrap-requires : goal.unwrap-requires

@@ -5,7 +5,6 @@ use mathlib.Core.Path.{sym, ◌∙◌}
 use native.Mathlib.Omega.{arith}
 use Rattle.packed.specs.Packed.{count_of}
 use Rattle.packed.proofs.PackedLaws.{numbers-count, fields-of-numbers}
-use Rattle.jobs.specs.Held.{RecordsStand}
 use Rattle.jobs.proofs.RecordsJobs.job.Goals as goal
 
 pub job_by_kind-requires : goal.job_by_kind-requires
