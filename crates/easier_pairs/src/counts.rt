@@ -1,13 +1,14 @@
 // A run so far: the seed, what was met, what was eased to what effect, and how often an easier order came out
 // worse.
 use comparing::{count, write_count};
+use trial_orders::Seed;
 
 // How a run stands: pairs of orders, how much is eased, and whether the kind of records is another; plans
 // feasible, and what they keep; profiles and tails, and what they keep; lookups; what an easier order does not
 // promise, where both are feasible; and what must not be.
 #[derive(Clone, Copy, Default)]
 pub struct Run {
-    pub seed: u64,
+    pub seed: Seed,
     pub pairs: u64,
     pub as_it_was: u64,
     pub one_eased: u64,
@@ -32,7 +33,7 @@ pub struct Run {
 
 impl Run {
     // A run that begins with a seed.
-    pub fn new(seed: u64) -> Run {
+    pub fn new(seed: Seed) -> Run {
         Run {
             seed,
             ..Run::default()

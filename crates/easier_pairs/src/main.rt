@@ -8,33 +8,24 @@ mod pairs;
 mod plans;
 mod shorter;
 
-use careful::{front, more};
+use careful::more;
 use comparing::write_count;
 use counts::Run;
-use pairs::{Order, compare_orders};
+use pairs::compare_orders;
 use shorter::{shorten, write_morning};
-use trial_orders::{KINDS, Kind, draw_order, ease, kind_of};
+use trial_orders::{KINDS, Kind, Seed, draw_order, ease, kind_of};
 
 // How many pairs there are, and the first seed.
 const ROUNDS: u64 = 24_000;
 
-const SEED: u64 = 71_530_229;
+const SEED: Seed = Seed(71_530_229);
 
 // An order of a kind drawn and eased, and both compared.
 fn try_pair(run: &mut Run, kind: Kind) {
     let mut first = [0; 70];
     let mut second = [0; 70];
-    let drawn = draw_order(run.seed, kind, &mut first);
-    let old = Order {
-        numbers: front(&first, drawn.size),
-        t0: drawn.t0,
-    };
-    let eased = ease(drawn.seed, old.numbers, old.t0, &mut second);
-    let new = Order {
-        numbers: front(&second, drawn.size),
-        t0: eased.t0,
-    };
-    run.seed = eased.seed;
+    let old = draw_order(&mut run.seed, kind, &mut first);
+    let new = ease(&mut run.seed, old, &mut second);
     compare_orders(run, kind, old, new);
 }
 

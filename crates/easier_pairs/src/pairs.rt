@@ -7,16 +7,9 @@ use careful::{front, more};
 use comparing::{MARK, count, pack_order, records_kind, says};
 use packed::Refusal;
 use refusals::Reason;
-use trial_orders::{Change, Kind, change_of, draw_profile};
+use trial_orders::{Change, Kind, Order, change_of, draw_profile};
 
-// An order by its jobs' numbers and the time from which on the bus is free.
-#[derive(Clone, Copy)]
-pub struct Order<'a> {
-    pub numbers: &'a [i32],
-    pub t0: i32,
-}
-
-// The same packed.
+// An order packed, and the time from which on the bus is free.
 #[derive(Clone, Copy)]
 struct Packed<'a> {
     bytes: &'a [u8],
@@ -97,11 +90,8 @@ fn try_tail(run: &mut Run, kind: Kind, old: &[u8], new: &[u8]) {
     let mut first = [0; 8];
     let mut second = [0; 8];
     let mut out = [MARK; 602];
-    let drawn = draw_profile(run.seed, kind, &mut first);
-    let one = front(&first, drawn.size);
-    let drawn = draw_profile(drawn.seed, kind, &mut second);
-    let other = front(&second, drawn.size);
-    run.seed = drawn.seed;
+    let one = draw_profile(&mut run.seed, kind, &mut first);
+    let other = draw_profile(&mut run.seed, kind, &mut second);
     let size = joined_size(better::better_of(one, other, &mut out));
     run.count_tail(compare_extended(one, front(&out, size), old, new));
 }
@@ -121,7 +111,7 @@ pub fn compare_orders(run: &mut Run, kind: Kind, old: Order, new: Order) {
     let mut other = [0; 94];
     let first = packed_in(old, &mut one);
     let second = packed_in(new, &mut other);
-    run.count_pair(change_of(old.numbers, old.t0, new.numbers, new.t0));
+    run.count_pair(change_of(old, new));
     compare_packed(run, first, second);
     try_tail(run, kind, first.bytes, second.bytes);
 }

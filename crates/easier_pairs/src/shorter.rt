@@ -1,12 +1,12 @@
 // The morning of the worked example with job 12 made shorter, second by second: what its plan comes to at some
 // lengths, and each length held against the one before.
 use crate::counts::Run;
-use crate::pairs::{Order, compare_orders};
+use crate::pairs::compare_orders;
 use crate::plans::plan_of;
 use careful::{count_of, number_of};
 use comparing::{pack_order, write_count, write_figure};
 use planner::Figures;
-use trial_orders::kind_of;
+use trial_orders::{Order, Seed, kind_of};
 
 // When the bus is free.
 const FREE: i32 = -600;
@@ -64,7 +64,7 @@ fn compare_lengths(run: &mut Run, length: u64) {
 }
 
 // All lengths below that of job 12, each held against the one a second longer. Tails are drawn from a seed on.
-pub fn shorten(seed: u64) -> Run {
+pub fn shorten(seed: Seed) -> Run {
     let mut run = Run::new(seed);
     for length in (1..LONGEST).rev() {
         compare_lengths(&mut run, length);

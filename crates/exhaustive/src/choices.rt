@@ -1,14 +1,14 @@
 // The question and the choice between two openings, by either tie rule, compared with the planner by trial:
 // the answer, and that nothing is left in the work area.
 use crate::counts::Run;
-use crate::orders::{Order, packed};
 use by_hand::Reached;
 use careful::more;
-use comparing::{MARK, leaves, records_kind, says};
+use comparing::{MARK, leaves, pack_order, records_kind, says};
 use openings::Won;
 use packed::Refusal;
 use refusals::Reason;
 use ties::{Tie, Winner};
+use trial_orders::Order;
 
 // An opening: its bytes, and what it reaches by the time that is asked.
 #[derive(Clone, Copy)]
@@ -95,13 +95,7 @@ fn records(bytes: &[u8]) -> &[u8] {
 
 // Whether the choice between two openings agrees: the records of the one that must win, or no byte where
 // neither may.
-fn choice_agrees<'a>(
-    tie: Tie,
-    first: &'a [u8],
-    second: &'a [u8],
-    t: i32,
-    won: Option<Winner>,
-) -> bool {
+fn choice_agrees(tie: Tie, first: &[u8], second: &[u8], t: i32, won: Option<Winner>) -> bool {
     let mut work = [MARK; 14_750];
     let part = hand(tie, first, second, t, &mut work);
     let expected = match won {
@@ -137,12 +131,12 @@ fn check_openings(run: &mut Run, first: Opening<'_>, second: Opening<'_>, t: i32
 pub fn check_choice(run: &mut Run, one: Order<'_>, other: Order<'_>, t: i32) {
     let mut space = [0; 94];
     let first = Opening {
-        bytes: packed(one, &mut space),
+        bytes: pack_order(one.t0, one.numbers, &mut space),
         reached: by_hand::worth(one.numbers, one.t0, t),
     };
     let mut other_space = [0; 94];
     let second = Opening {
-        bytes: packed(other, &mut other_space),
+        bytes: pack_order(other.t0, other.numbers, &mut other_space),
         reached: by_hand::worth(other.numbers, other.t0, t),
     };
     check_openings(run, first, second, t);

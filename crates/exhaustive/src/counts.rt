@@ -1,12 +1,13 @@
 // A run so far: the seeds, what was met, what was compared, and how often an answer differed.
 use careful::more;
 use comparing::write_count;
+use trial_orders::Seed;
 
 // How a run stands.
 #[derive(Clone, Copy, Default)]
 pub struct Run {
-    pub seed: u64,
-    pub halves_seed: u64,
+    pub seed: Seed,
+    pub halves_seed: Seed,
     pub orders: u64,
     pub feasible: u64,
     pub ties: u64,

@@ -1,11 +1,11 @@
 // The calls on profiles compared with the planner by trial: extending, the better of two, and looking up.
-ghost use Rattle.std.specs.Prelude.{◌≤◌, IfOk, IfSome};
+ghost use Rattle.std.specs.Prelude.{◌≤◌, IfOk};
 
 use crate::counts::Run;
-use crate::orders::{Order, packed};
 use careful::{front, is_count, more, plus};
-use comparing::{MARK, answers, leaves};
+use comparing::{MARK, answers, leaves, pack_order};
 use refusals::Reason;
+use trial_orders::Order;
 
 // What extending must answer: how many points it writes, or why it is refused.
 fn expect_extended(profile: &[i32], numbers: &[i32], out: &mut [i32]) -> Result<usize, Reason>
@@ -47,29 +47,30 @@ pub fn check_extend(run: &mut Run, profile: &[i32], order: Order<'_>) {
     let mut expected = [MARK; 604];
     let wanted = expect_extended(profile, order.numbers, &mut expected);
     let mut space = [0; 94];
-    let bytes = packed(order, &mut space);
+    let bytes = pack_order(order.t0, order.numbers, &mut space);
     run.expect(extend_agrees(profile, bytes, wanted, &expected));
     check_profile(run, &expected, wanted.unwrap_or(0));
 }
 
-// What better-of must answer: how many points it writes, if both profiles are valid.
-fn expect_joined(one: &[i32], other: &[i32], out: &mut [i32]) -> Option<usize>
-    ensures { IfSome result (λ points. points ≤ 301) }
+// What better-of must answer: how many points it writes, or why it is refused.
+fn expect_joined(one: &[i32], other: &[i32], out: &mut [i32]) -> Result<usize, Reason>
+    ensures { IfOk result (λ points. points ≤ 301) }
 {
-    if by_hand::is_profile(one) && by_hand::is_profile(other) {
-        return Some(by_hand::join(one, other, out));
+    if !by_hand::is_profile(one) || !by_hand::is_profile(other) {
+        return Err(Reason::ProfileNotValid);
     }
-    None
+    Ok(by_hand::join(one, other, out))
 }
 
 // Whether better-of answers what it must, and writes the points expected.
-fn join_agrees(one: &[i32], other: &[i32], wanted: Option<usize>, expected: &[i32]) -> bool {
+fn join_agrees(
+    one: &[i32],
+    other: &[i32],
+    wanted: Result<usize, Reason>,
+    expected: &[i32],
+) -> bool {
     let mut out = [MARK; 604];
-    let agrees = match better::better_of(one, other, &mut out) {
-        Err(reason) => reason == Reason::ProfileNotValid && wanted.is_none(),
-        Ok(many) => wanted == Some(many),
-    };
-    agrees && out.as_slice() == expected
+    better::better_of(one, other, &mut out) == wanted && out.as_slice() == expected
 }
 
 // The better of two profiles, which is looked up.

@@ -5,26 +5,24 @@
 mod choices;
 mod counts;
 mod extended;
-mod orders;
 mod plans;
 
-use careful::{front, lend, plus};
+use careful::{lend, plus};
 use choices::check_choice;
 use counts::Run;
 use extended::{check_extend, check_join, check_lookups};
-use orders::{Order, order_of};
 use plans::{check_halves, check_plan};
 use trial_orders::{
-    HALVES_KINDS, KINDS, Kind, draw_damage, draw_order, draw_profile, drawn_look, halves_kind_of,
-    kind_of, next,
+    HALVES_KINDS, KINDS, Kind, Order, Seed, draw_damage, draw_look, draw_order, draw_profile,
+    halves_kind_of, kind_of,
 };
 
 // How many rounds there are, the first seed, and that of the orders of halves.
 const ROUNDS: u64 = 1_200;
 
-const SEED: u64 = 20_261_115;
+const SEED: Seed = Seed(20_261_115);
 
-const HALVES_SEED: u64 = 31_326_063;
+const HALVES_SEED: Seed = Seed(31_326_063);
 
 // Two orders planned, and chosen between at a time, at the bus-free time of the first one's plan and the second
 // before.
@@ -40,17 +38,11 @@ fn compare_orders(run: &mut Run, one: Order<'_>, other: Order<'_>, t: i32) {
 // Two orders of a kind drawn and compared.
 fn try_orders(run: &mut Run, kind: Kind) {
     let mut first = [0; 70];
-    let one = draw_order(run.seed, kind, &mut first);
+    let one = draw_order(&mut run.seed, kind, &mut first);
     let mut second = [0; 70];
-    let other = draw_order(one.seed, kind, &mut second);
-    let look = next(other.seed);
-    run.seed = next(look);
-    compare_orders(
-        run,
-        order_of(one, &first),
-        order_of(other, &second),
-        drawn_look(look, kind),
-    );
+    let other = draw_order(&mut run.seed, kind, &mut second);
+    let look = draw_look(&mut run.seed, kind);
+    compare_orders(run, one, other, look);
 }
 
 // Two profiles looked up, joined, and extended by an order.
@@ -64,26 +56,22 @@ fn compare_profiles(run: &mut Run, one: &[i32], other: &[i32], order: Order<'_>)
 // An order and two profiles of a kind drawn and compared.
 fn try_profiles(run: &mut Run, kind: Kind) {
     let mut jobs = [0; 70];
-    let order = draw_order(run.seed, kind, &mut jobs);
+    let order = draw_order(&mut run.seed, kind, &mut jobs);
     let mut first = [0; 8];
-    let one = draw_profile(order.seed, kind, &mut first);
+    let one = draw_profile(&mut run.seed, kind, &mut first);
     let mut second = [0; 8];
-    let other = draw_profile(one.seed, kind, &mut second);
-    run.seed = other.seed;
-    compare_profiles(
-        run,
-        front(&first, one.size),
-        front(&second, other.size),
-        order_of(order, &jobs),
-    );
+    let other = draw_profile(&mut run.seed, kind, &mut second);
+    compare_profiles(run, one, other, order);
 }
 
 // An order of halves drawn, damaged or not, and compared.
 fn try_halves(run: &mut Run, kind: Kind) {
     let mut jobs = [0; 70];
-    let order = draw_order(run.halves_seed, kind, &mut jobs);
-    run.halves_seed = draw_damage(order.seed, kind, lend(&mut jobs, order.size));
-    check_halves(run, order_of(order, &jobs));
+    let Order { numbers, t0 } = draw_order(&mut run.halves_seed, kind, &mut jobs);
+    let size = numbers.len();
+    let numbers = lend(&mut jobs, size);
+    draw_damage(&mut run.halves_seed, kind, numbers);
+    check_halves(run, Order { numbers, t0 });
 }
 
 // A round: a kind's orders and profiles, and orders of halves.

@@ -1,14 +1,14 @@
 // Planning an order, as any and as one of halves, compared with the planner by trial: the answer, all that
 // was written, and that no more was.
 use crate::counts::Run;
-use crate::orders::{Order, packed};
 use by_hand::Best;
 use careful::{count_of, is_count, more};
-use comparing::{MARK, leaves, says};
+use comparing::{MARK, leaves, pack_order, says};
 use halves::HalvesPlan;
 use packed::Refusal;
 use planner::Figures;
 use refusals::Reason;
+use trial_orders::Order;
 
 // The figures of the best choice, which planning must answer.
 #[derive(Clone, Copy)]
@@ -107,7 +107,7 @@ pub fn check_plan(run: &mut Run, order: Order<'_>) {
     let best = by_hand::best_choice(order.numbers, order.t0);
     let wanted = best.map(|best| wanted_of(order, best));
     let mut space = [0; 94];
-    let bytes = packed(order, &mut space);
+    let bytes = pack_order(order.t0, order.numbers, &mut space);
     run.expect(plan_agrees(bytes, wanted, &expected_starts(order, best)));
     run.orders = more(run.orders, 1);
     run.feasible = more(run.feasible, best.is_some() as u64);
@@ -120,7 +120,7 @@ pub fn check_halves(run: &mut Run, order: Order<'_>) {
     let wanted = best.map(|best| wanted_of(order, best));
     let starts = expected_starts(order, best);
     let mut space = [0; 94];
-    let bytes = packed(order, &mut space);
+    let bytes = pack_order(order.t0, order.numbers, &mut space);
     run.expect(plan_agrees(bytes, wanted, &starts));
     if let Some(place) = by_hand::first_offending(order.numbers) {
         run.expect(refuses(bytes, place));

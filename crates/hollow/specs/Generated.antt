@@ -51,7 +51,7 @@ use Rattle.halves.specs.contracts.plan_halves as plan-halves
 use Rattle.halves.proofs.plan_halves.Reads as plan-halves-reads
 use Rattle.extending.specs.contracts.extend as extend
 use Rattle.extending.proofs.extend.Reads as extend-reads
-use Rattle.openings.specs.declared.Answer.{Answer}
+use Rattle.openings.specs.Answer.{Answer}
 use Rattle.openings.specs.contracts.question as question
 use Rattle.openings.proofs.question.Reads as question-reads
 use Rattle.openings.specs.contracts.question_first as question-first

@@ -24,10 +24,7 @@ use Rattle.extending.specs.Calls.{Extended, extended_of, out_after, extend_work_
 use Rattle.halves.specs.Calls.{HalvesPlanned, halves_of, halves_starts_after, halves_work_after, HalvesCall}
 use Rattle.ties.specs.Winning.{TieRule}
 use Rattle.choosing.specs.Choosing.{chosen_of, work_after, part_of, place_of, Handed}
-use Rattle.ties.specs.declared.Chosen.{Chosen}
-use Rattle.ties.specs.declared.Chosen.TheVariants as chosen
-use Rattle.openings.specs.Answer.{answer_of, Questioned}
-use Rattle.openings.specs.declared.Answer.{Answer}
+use Rattle.openings.specs.Answer.{Answer, answer_of, Questioned}
 use Rattle.checking.specs.Calls.{Checked, legal_of}
 use Rattle.best_plan.specs.Calls.{best_of, best_work_after, BestCall}
 use Rattle.plan_writer.specs.Calls.{written_of, out_after as written_after, write_work_after, WriteCall}
@@ -55,11 +52,6 @@ extend_refused (Ok n) = false
 abbrev is_refused : {T E : Type 0} → Result T E → Bool
 is_refused (Err r) = true
 is_refused (Ok x) = false
-
-abbrev question_refused : Chosen → Bool
-question_refused (chosen.Refused r) = true
-question_refused chosen.First = false
-question_refused chosen.Second = false
 
 abbrev check_refused : Checked → Bool
 check_refused (Err r) = true
@@ -258,7 +250,7 @@ asking rule =
       met = λ x. record { answer = refl; area = refl };
       only = λ x r b h. (h.answer, h.area);
       lent = λ x. x.3;
-      refusal = λ r. question_refused r.chosen;
+      refusal = is_err;
     }
 
 -- The same, with the orders where they stand. What is handed back is a part, by its bytes and its place; an empty one

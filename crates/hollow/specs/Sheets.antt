@@ -1,7 +1,9 @@
 -- Of the calls of sheets, versions that refuse everything, that refuse nothing, that leave a buffer as it was and that ignore an input are
 -- shut out: on sheets of entries of no bytes, which are refused with 1, on P4, and for the text on the week of three entries.
-use Rattle.std.specs.Prelude.{ℕ, refl, true, false, List, [], ℤ, pos, get_or}
+use Rattle.std.specs.Prelude.{ℕ, refl, true, false, List, [], ℤ, pos, get_or, Result, Ok, Err}
 use Rattle.std.proofs.Common.{arith}
+use Rattle.refusals.specs.declared.Reason.{Reason}
+use Rattle.refusals.specs.Numbers.{code_of}
 use Rattle.seconds.specs.Limits.{rest}
 use Rattle.seconds.specs.Signed.{signed}
 use Rattle.seconds.specs.Twos.{bits_to}
@@ -27,6 +29,11 @@ use Rattle.hollow.specs.Named.{front, work_area, one_job_bytes, empties, no_shee
 use Rattle.hollow.specs.Named.{feed_to, one_piece, feed_last, one_job_front, tell_of, tell_week}
 use Rattle.hollow.specs.Computed.{length-ones, front-ones, front-cleared}
 
+-- The bytes written of a text, 0 if refused.
+abbrev bytes_in : Result ℕ Reason → ℕ
+bytes_in (Ok n) = n
+bytes_in (Err r) = 0
+
 -- The number at a place of figures, of a front or of a text.
 abbrev at : ℕ → List ℕ → ℤ
 at i l = pos (get_or l i 0)
@@ -35,7 +42,7 @@ at i l = pos (get_or l i 0)
 
 pub join-not-hollow : NotHollowIn joining_sheets (λ b. b) (join_sheets 0 1) (join_sheets most_orders 1)
 unfolding join sheet_over fits is_sheet join_refusal joined_after
-join-not-hollow = not-hollow-in joining_sheets refl (λ r. r) (omega arith) (λ b. b) (at 0) (omega signed)
+join-not-hollow = not-hollow-in joining_sheets refl code_of (omega arith) (λ b. b) (at 0) (omega signed)
 
 -- Neither sheet may be ignored.
 pub record JoinTellsApart : Type 0 where
@@ -55,7 +62,7 @@ join-tells-apart =
 pub add-not-hollow : NotHollowIn adding (λ b. b.0) (add_to 0 []) (add_to most_orders [])
 unfolding number_of header_checks one_order join sheet_over fits is_sheet answered with_order add_refusal add_after
 add-not-hollow =
-    not-hollow-in adding (rw (length-ones area)) (λ r. r) (rw (length-ones area) (omega arith)) (λ b. b.0) (at 0)
+    not-hollow-in adding (rw (length-ones area)) code_of (rw (length-ones area) (omega arith)) (λ b. b.0) (at 0)
     (rw (length-ones area) (omega signed))
 
 -- The work area may not stay as it was, though the order is refused.
@@ -87,7 +94,7 @@ add-tells-apart =
 pub feed-not-hollow : NotHollowIn feeding (λ b. b.0) (feed_to 0 one_piece) (feed_to most_orders one_piece)
 unfolding number_of header_checks one_order join fits is_sheet answered with_order over byte feed_over is_state feed_fits feed_refusal feed_after
 feed-not-hollow =
-    not-hollow-in feeding (rw (length-ones area)) (λ r. r) (rw (length-ones area) (omega arith)) (λ b. b.0) (at 0)
+    not-hollow-in feeding (rw (length-ones area)) code_of (rw (length-ones area) (omega arith)) (λ b. b.0) (at 0)
     (rw (length-ones area) (omega signed))
 
 -- Neither the front nor the work area may stay as it was.
@@ -133,12 +140,12 @@ feed-tells-apart =
 -- By its length, and its first byte;
 pub tell-not-hollow : NotHollowIn telling (λ b. b) (tell_week false) (tell_of (empties 0) false)
 unfolding gcd_in gcd digits_in digits lowest_of top_line fraction_line last_line sheet_text fits is_sheet tell_refusal told_text text_after
-tell-not-hollow = not-hollow-in telling refl (λ r. r.bytes) (omega arith) (λ b. b) (at 0) (omega signed)
+tell-not-hollow = not-hollow-in telling refl bytes_in (omega arith) (λ b. b) (at 0) (omega signed)
 
 -- cut or whole may not be ignored;
 pub tell-not-without-cut : NotHollow telling (tell_week false) (tell_week true)
 unfolding gcd_in gcd digits_in digits lowest_of top_line fraction_line last_line sheet_text fits is_sheet tell_refusal told_text
-tell-not-without-cut = not-hollow telling refl (λ r. r.bytes) (omega arith)
+tell-not-without-cut = not-hollow telling refl bytes_in (omega arith)
 
 -- the text may not be the same for texts of one length, whatever is answered;
 pub tell-tells-apart : TellsApart telling (λ b. b) (tell_of (empties 1) false) (tell_of (empties 0) false)

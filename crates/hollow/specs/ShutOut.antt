@@ -28,7 +28,7 @@ use Rattle.planner.specs.Calls.{plan_numbers}
 use Rattle.halves.specs.Calls.{halves_numbers}
 use Rattle.ties.specs.Winning.{TieRule}
 use Rattle.choosing.specs.Choosing.{winner_of}
-use Rattle.openings.specs.declared.Answer.{Answer}
+use Rattle.openings.specs.Answer.{Answer, chosen_in, kind_told}
 use Rattle.checking.specs.Calls.{checked_numbers}
 use Rattle.plan_writer.specs.Calls.{bytes_for}
 use Rattle.report.specs.AsPrinted.{morning_bytes}
@@ -115,20 +115,20 @@ pub question-not-hollow : (rule : TieRule) → NotHollowIn (asking rule) (λ b. 
 unfolding rest
 question-not-hollow rule =
     not-hollow-in (asking rule) (rw (accepted.choose, accepted.morning-order, accepted.one-pack-order))
-    (λ r. winner_of r.chosen) (rw (accepted.choose, accepted.morning-order, accepted.one-pack-order) (omega arith))
+    (λ r. winner_of (chosen_in r)) (rw (accepted.choose, accepted.morning-order, accepted.one-pack-order) (omega arith))
     (λ b. b) front
     (rw (accepted.choose, accepted.morning-order, accepted.one-pack-order, front-cleared work_area, front-ones 14748)
     (omega signed))
 
 -- Nor may the kind always be 0: P4 for pack 3 has records of kind 1.
-pub question-kind : (rule : TieRule) (f : AskInput → Answer × List ℤ) → (f (ask_at (pos 100))).0.kind ≡ 0
+pub question-kind : (rule : TieRule) (f : AskInput → Answer × List ℤ) → kind_told (f (ask_at (pos 100))).0 ≡ 0
     → ShutOut (asking rule) f (ask_at (pos 100))
 unfolding rest
 question-kind rule f plain =
     other-answer (asking rule) f (ask_at (pos 100))
     (λ e.
     let told = rw (accepted.choose, accepted.morning-order, accepted.one-pack-order, accepted.one-pack-kind) at
-    (ap (λ (r : Answer). r.kind) e) in
+    (ap kind_told e) in
     omega (arith, plain, told))
 
 pub choose-not-hollow : (rule : TieRule) → NotHollowIn (choosing rule) (λ b. b) (choose_at (pos 1000)) (choose_at (pos 100))

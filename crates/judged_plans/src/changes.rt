@@ -4,7 +4,7 @@
 use crate::Trial;
 use by_hand::{Best, LEFT_OUT, flip_bit, pack_plan, write_starts};
 use careful::{Job, at, count_of, first_other, job_at, number_of, plus, put};
-use trial_orders::{drawn, drawn_byte, next};
+use trial_orders::Seed;
 
 // What is changed of a plan: a start a second sooner or later, or put to an edge of its window; it and all behind it
 // put off; a job left out or added; a bit of the mask flipped, two of its first, one of the starts, or one of the
@@ -57,28 +57,16 @@ const LONGEST: usize = 114;
 
 const MASK: usize = 6;
 
-// One of so many numbers from 0 up.
-fn draw(seed: &mut u64, many: u64) -> u64 {
-    *seed = next(*seed);
-    drawn(*seed, many)
-}
-
-// The same of at most 256 as a byte.
-fn draw_byte(seed: &mut u64, many: u64) -> u8 {
-    *seed = next(*seed);
-    drawn_byte(*seed, many)
-}
-
 // The choice that a plan begins with: the best, if one is given.
-fn draw_choice(seed: &mut u64, best: Option<Best>) -> u32 {
-    let choice = (draw(seed, 1_024) % 1_024) as u32;
+fn draw_choice(seed: &mut Seed, best: Option<Best>) -> u32 {
+    let choice = (seed.draw(1_024) % 1_024) as u32;
     best.map_or(choice, |best| best.choice)
 }
 
 // The place of a kept job drawn: the first from a drawn place on, or the first of all; past the end where
 // none is kept.
-fn draw_kept(seed: &mut u64, jobs: u64, starts: &[i32]) -> usize {
-    let place = first_other(starts, LEFT_OUT, draw(seed, jobs) as usize);
+fn draw_kept(seed: &mut Seed, jobs: u64, starts: &[i32]) -> usize {
+    let place = first_other(starts, LEFT_OUT, seed.draw(jobs) as usize);
     place
         .or(first_other(starts, LEFT_OUT, 0))
         .unwrap_or(starts.len())
@@ -107,21 +95,21 @@ fn last_start(job: Job) -> i32 {
 }
 
 // A start at t0, at the job's ready time or at its last start, or a second before or after.
-fn draw_edge(seed: &mut u64, trial: Trial, place: usize) -> i32 {
+fn draw_edge(seed: &mut Seed, trial: Trial, place: usize) -> i32 {
     let job = job_at(trial.numbers, place);
-    let edge = match draw(seed, 3) {
+    let edge = match seed.draw(3) {
         0 => trial.t0,
         1 => job.ready,
         _ => last_start(job),
     };
-    plus(plus(edge, number_of(draw(seed, 3))), -1)
+    plus(plus(edge, number_of(seed.draw(3))), -1)
 }
 
 // The starts of a plan changed.
-fn change_starts(seed: &mut u64, change: Change, trial: Trial, starts: &mut [i32]) {
+fn change_starts(seed: &mut Seed, change: Change, trial: Trial, starts: &mut [i32]) {
     let kept = draw_kept(seed, (trial.numbers.len() / 7) as u64, starts);
-    let added = draw(seed, 12) as usize;
-    let seconds = draw(seed, 40);
+    let added = seed.draw(12) as usize;
+    let seconds = seed.draw(40);
     match change {
         Change::Sooner => move_start(starts, kept, -1),
         Change::Later => move_start(starts, kept, 1),
@@ -134,35 +122,35 @@ fn change_starts(seed: &mut u64, change: Change, trial: Trial, starts: &mut [i32
 }
 
 // One of the last six bits of a plan of so many bytes flipped: the padding lies there.
-fn flip_last(seed: &mut u64, plan: &mut [u8], size: usize) {
-    let back = (draw(seed, 6) % 6) as usize;
+fn flip_last(seed: &mut Seed, plan: &mut [u8], size: usize) {
+    let back = (seed.draw(6) % 6) as usize;
     let bits = 8 * size.min(LONGEST);
     flip_bit(plan, bits.saturating_sub(1 + back));
 }
 
 // The bits of a plan of so many bytes flipped. Two flipped bits may leave as many ones, at other places.
-fn flip_bits(seed: &mut u64, change: Change, plan: &mut [u8], size: usize) {
+fn flip_bits(seed: &mut Seed, change: Change, plan: &mut [u8], size: usize) {
     match change {
-        Change::FlipMask => flip_bit(plan, draw_byte(seed, 48) as usize),
+        Change::FlipMask => flip_bit(plan, seed.draw_byte(48) as usize),
         Change::FlipTwo => {
-            flip_bit(plan, draw_byte(seed, 12) as usize);
-            flip_bit(plan, draw_byte(seed, 12) as usize);
+            flip_bit(plan, seed.draw_byte(12) as usize);
+            flip_bit(plan, seed.draw_byte(12) as usize);
         }
-        Change::FlipStart => flip_bit(plan, 48 + draw_byte(seed, 72) as usize),
+        Change::FlipStart => flip_bit(plan, 48 + seed.draw_byte(72) as usize),
         Change::FlipLast => flip_last(seed, plan, size),
         _ => {}
     }
 }
 
 // Drawn bytes put from a place on.
-fn put_bytes(seed: &mut u64, plan: &mut [u8], from: usize) {
+fn put_bytes(seed: &mut Seed, plan: &mut [u8], from: usize) {
     for byte in plan.iter_mut().skip(from) {
-        *byte = draw_byte(seed, 256);
+        *byte = seed.draw_byte(256);
     }
 }
 
 // The bytes of a plan of so many changed.
-fn change_bytes(seed: &mut u64, change: Change, plan: &mut [u8], size: usize) {
+fn change_bytes(seed: &mut Seed, change: Change, plan: &mut [u8], size: usize) {
     flip_bits(seed, change, plan, size);
     match change {
         Change::DrawAll => put_bytes(seed, plan, 0),
@@ -172,8 +160,8 @@ fn change_bytes(seed: &mut u64, change: Change, plan: &mut [u8], size: usize) {
 }
 
 // How many bytes a plan of so many is given.
-fn change_size(seed: &mut u64, change: Change, size: usize) -> usize {
-    let drawn_size = draw(seed, 40) as usize;
+fn change_size(seed: &mut Seed, change: Change, size: usize) -> usize {
+    let drawn_size = seed.draw(40) as usize;
     match change {
         Change::DrawAll => drawn_size,
         Change::Cut => size.saturating_sub(1),
@@ -184,7 +172,7 @@ fn change_size(seed: &mut u64, change: Change, size: usize) -> usize {
 
 // A plan for an order drawn: that of a choice, the best if one is given, changed. Returns how many bytes.
 pub fn draw_plan(
-    seed: &mut u64,
+    seed: &mut Seed,
     change: Change,
     trial: Trial,
     best: Option<Best>,

@@ -2,13 +2,14 @@
 use by_hand::{Judged, Rule};
 use comparing::{count, write_count};
 use refusals::Reason;
+use trial_orders::Seed;
 
 // How a run stands: orders; plans of ours and all plans; those refused by their length or their bits, and accepted;
 // the legal and the best of these, and those that let the bus wait; and plans of ours with one start a second
 // off, by the rule that they break.
 #[derive(Clone, Copy, Default)]
 pub struct Run {
-    pub seed: u64,
+    pub seed: Seed,
     pub orders: u64,
     pub ours: u64,
     pub plans: u64,
@@ -29,7 +30,7 @@ pub struct Run {
 
 impl Run {
     // A run that begins with a seed.
-    pub fn new(seed: u64) -> Run {
+    pub fn new(seed: Seed) -> Run {
         Run {
             seed,
             ..Run::default()

@@ -12,12 +12,12 @@ use changes::{Change, OF_DRAWN, OF_OURS, draw_plan};
 use checks::{check_plan, check_written};
 use comparing::{count, pack_order};
 use counts::Run;
-use trial_orders::{KINDS, Kind, draw_order, kind_of};
+use trial_orders::{KINDS, Kind, Order, Seed, draw_order, kind_of};
 
 // How many orders there are, and the first seed.
 const ROUNDS: u64 = 3_200;
 
-const SEED: u64 = 48_611_903;
+const SEED: Seed = Seed(48_611_903);
 
 // The bytes of a plan that keeps nothing.
 const EMPTY: usize = 6;
@@ -56,7 +56,7 @@ fn try_plans(run: &mut Run, trial: Trial) {
 }
 
 // Plans for an order judged: what is written for it, and drawn ones.
-fn judge_plans(run: &mut Run, numbers: &[i32], t0: i32) {
+fn judge_plans(run: &mut Run, Order { numbers, t0 }: Order<'_>) {
     let mut space = [0; 94];
     let trial = Trial {
         order: pack_order(t0, numbers, &mut space),
@@ -72,9 +72,8 @@ fn judge_plans(run: &mut Run, numbers: &[i32], t0: i32) {
 // An order of a kind drawn, and plans for it judged.
 fn try_order(run: &mut Run, kind: Kind) {
     let mut jobs = [0; 70];
-    let order = draw_order(run.seed, kind, &mut jobs);
-    run.seed = order.seed;
-    judge_plans(run, front(&jobs, order.size), order.t0);
+    let order = draw_order(&mut run.seed, kind, &mut jobs);
+    judge_plans(run, order);
 }
 
 // All orders, the kinds in turn from the last on.

@@ -2,14 +2,14 @@
 -- answer is 6 with a place and a field exactly when the checks before 6 are passed, the first job out of range is there, and that
 -- is its first field that is; and no other number comes with a field.
 use Prim.Native.Nat.{ℕ}
-use mathlib.Core.Path.{◌≡◌, refl, subst}
+use mathlib.Core.Path.{◌≡◌, refl, sym, subst}
 use mathlib.Core.Logic.{◌↔◌, ◌≢◌, ◌⊎◌}
 use mathlib.Core.List.{List}
 use contract.Lifetimes.{Lfts}
 use lib.IntN.{ℤ}
 use lib.ListN.{length}
 use Rattle.packed.specs.declared.Refusal.{Refusal}
-use Rattle.packed.specs.Judge.{in_field, fine, judge}
+use Rattle.packed.specs.Judge.{in_field, fine, judge, refusal_of}
 use Rattle.packed.specs.Packed.{numbers_of}
 use Rattle.packed.specs.Refusals.{header_checks, list_checks, order_checks}
 use Rattle.packed.proofs.RefusalPlaces.{BadField, no_field}
@@ -24,8 +24,10 @@ use Rattle.plan_writer.specs.Answers.{write-refusal, write-six}
 use Rattle.checking.specs.Answers.{legal-refusal, legal-six}
 use Rattle.best_plan.specs.Answers.{best-refusal, best-six}
 use Rattle.ties.specs.Winning.{TieRule, sooner, to_first}
-use Rattle.choosing.specs.Choosing.{chosen_of, work_after, Asked, refusal_of as choice_refusal}
+use Rattle.choosing.specs.Choosing.{chosen_of, work_after, Asked}
 use Rattle.choosing.proofs.WinnerLaws.{BadIn, asked-six, asked-names}
+use Rattle.openings.specs.Answer.{answer_of}
+use Rattle.openings.specs.AnswerLaws.{refusal-told}
 use Rattle.packed_answers.specs.declared.UnpackAnswer.{UnpackAnswer}
 use Rattle.packed_answers.specs.declared.PackAnswer.{PackAnswer}
 use Rattle.packed_answers.specs.declared.StepAnswer.{StepAnswer}
@@ -111,16 +113,17 @@ pub record FieldsNamed : Type 0 where
       (λ a (r : ChooseAnswer). NamesField (in_field r.refusal 0 r.field) (InOpenings a.0.now a.1.0.now))
 
 -- The choice between two openings, by the answer of the question.
-choice-names : (rule : TieRule) (first second : List ℕ) (t : ℤ) (work : List ℤ) → let r = choice_refusal (chosen_of rule first second t work) in
+choice-names : (rule : TieRule) (first second : List ℕ) (t : ℤ) (work : List ℤ) → let r = refusal_of (answer_of rule first second t work) in
     NamesField (in_field r.number 0 r.field) (InOpenings first second)
 choice-names rule first second t work =
-    let asked : Asked rule first second t work (chosen_of rule first second t work) (work_after rule first second t work) =
-    record { answer = refl; area = refl } in
-    let r = choice_refusal (chosen_of rule first second t work) in
+    let won = chosen_of rule first second t work in
+    let asked : Asked rule first second t work won (work_after rule first second t work) = record { answer = refl; area = refl } in
+    let r = refusal_of won in
     let named = asked-names rule first second t work asked in
     let whole : r ≡ in_field r.number 0 r.field = λ i. in_field r.number (named.1 i) r.field in
-    subst (λ (s : Refusal). NamesField s (InOpenings first second)) whole
-    (record { six = asked-six rule first second t work asked; other = named.0 })
+    let names = subst (λ (s : Refusal). NamesField s (InOpenings first second)) whole
+    (record { six = asked-six rule first second t work asked; other = named.0 }) in
+    subst (λ (s : Refusal). NamesField (in_field s.number 0 s.field) (InOpenings first second)) (sym (refusal-told first second won)) names
 
 pub fields-named : FieldsNamed
 fields-named =

@@ -1,7 +1,7 @@
 -- 19 is given by the exported calls exactly when 1 to 5 do not apply to a packed order, its kind is 1 and no pack differs from 0, in every
 -- outcome that their contracts allow. No other call gives it (`NumbersGiven`).
 use Prim.Native.Nat.{ℕ}
-use mathlib.Core.Path.{◌≡◌, refl}
+use mathlib.Core.Path.{◌≡◌, refl, ap}
 use mathlib.Core.Logic.{◌↔◌, ◌≢◌, ◌⊎◌}
 use mathlib.Core.List.{List, [], ◌∷◌, ◌++◌, append_assoc}
 use mathlib.Core.Option.{Option, none, some}
@@ -11,6 +11,7 @@ use lib.Dec.{ltb}
 use lib.IntN.{ℤ}
 use lib.ListN.{length}
 use borrow.Table.Steps.{cases}
+use Rattle.packed.specs.declared.Refusal.{Refusal}
 use Rattle.packed.specs.Judge.{Check, fine, judge, refusal_of as answer_refusal}
 use Rattle.packed.specs.Packed.{count_of, numbers_of, order_of}
 use Rattle.packed.specs.Refusals.{job_checks, weight_checks, halves_checks, room_checks, order_checks}
@@ -29,8 +30,10 @@ use Rattle.packed_plan.specs.Plan.{sent_checks}
 use Rattle.checking.specs.Calls.{legal_checks, legal_in, checked_by, checked_numbers}
 use Rattle.best_plan.specs.Calls.{best_checks, best_in}
 use Rattle.ties.specs.Winning.{opening_point, TieRule, sooner, to_first, winner_by}
-use Rattle.choosing.specs.Choosing.{choosing_checks, chosen_by, refusal_of}
+use Rattle.choosing.specs.Choosing.{choosing_checks, chosen_by}
 use Rattle.choosing.proofs.AnswerSays.{won-by, at-most-eleven}
+use Rattle.openings.specs.Answer.{with_kind}
+use Rattle.openings.specs.AnswerLaws.{refusal-told}
 use Rattle.packed_answers.specs.declared.UnpackAnswer.{UnpackAnswer}
 use Rattle.packed_answers.specs.declared.PackAnswer.{PackAnswer}
 use Rattle.packed_answers.specs.declared.OpenAnswer.{OpenAnswer}
@@ -129,14 +132,16 @@ module _ (bytes : List ℕ) where
 
 -- A choice between two openings.
 choose-nineteen : (rule : TieRule) (first second : List ℕ) (t : ℤ) (work : List ℤ)
-    → (refusal_of (chosen_by (judge (choosing_checks first second work)) (winner_by rule first second t))).number ≡ 19
+    → (answer_refusal (with_kind first second (chosen_by (judge (choosing_checks first second work)) (winner_by rule first second t)))).number ≡ 19
     ↔ EitherOpening first second
 unfolding choosing_checks
 choose-nineteen rule first second t work =
     rw (append_assoc (order_checks first) (order_checks second) (room_checks area (length work)))
     (nineteen-either (nineteen-order first) (nineteen-behind (room_checks area (length work)) tt (nineteen-order second))
-    (λ v. (refusal_of (chosen_by v (winner_by rule first second t))).number)
-    (λ e. absurd (omega (arith, at-most-eleven (won-by rule (opening_point first t) (opening_point second t)))))
+    (λ v. (answer_refusal (with_kind first second (chosen_by v (winner_by rule first second t)))).number)
+    (λ e.
+    let told = ap (λ (s : Refusal). s.number) (refusal-told first second (winner_by rule first second t)) in
+    absurd (omega (arith, told, at-most-eleven (won-by rule (opening_point first t) (opening_point second t)))))
     (λ r. refl))
 
 -- ---- every outcome of each call

@@ -41,8 +41,10 @@ use Rattle.best_plan.specs.Calls.{best_checks, best_in}
 use Rattle.frames.specs.Frames.{given_checks, made_checks}
 use Rattle.framing.specs.AnswerSays.{frame-passes}
 use Rattle.ties.specs.Winning.{opening_point, TieRule, sooner, to_first, winner_by}
-use Rattle.choosing.specs.Choosing.{choosing_checks, chosen_by, chosen_of, refusal_of}
+use Rattle.choosing.specs.Choosing.{choosing_checks, chosen_by}
 use Rattle.choosing.proofs.AnswerSays.{won-by, at-most-eleven}
+use Rattle.openings.specs.Answer.{with_kind, answer_of}
+use Rattle.openings.specs.AnswerLaws.{refusal-told}
 use Rattle.point_records.specs.Records.{flattened}
 use Rattle.packed_answers.specs.declared.HeatAnswer.{HeatAnswer}
 use Rattle.packed_answers.specs.declared.UnpackAnswer.{UnpackAnswer}
@@ -164,11 +166,13 @@ at_most : {n : ℕ} → n ≤ 11 → T (of_orders n)
 at_most {n} h = cases (low n) (λ e. rw e tt) (λ e. absurd (omega (arith, leb-false n 12 e)))
 
 choose-low : (rule : TieRule) (first second : List ℕ) (t : ℤ) (work : List ℤ)
-    → T (of_orders (refusal_of (chosen_of rule first second t work)).number)
+    → T (of_orders (answer_refusal (answer_of rule first second t work)).number)
 unfolding choosing_checks header_checks job_checks weight_checks
 choose-low rule first second t work =
-    by-verdict of_orders (choosing_checks first second work) tt (λ v. (refusal_of (chosen_by v (winner_by rule first second t))).number)
-    (at_most (at-most-eleven (won-by rule (opening_point first t) (opening_point second t)))) (λ r. refl)
+    by-verdict of_orders (choosing_checks first second work) tt
+    (λ v. (answer_refusal (with_kind first second (chosen_by v (winner_by rule first second t)))).number)
+    (rw (refusal-told first second (winner_by rule first second t))
+    (at_most (at-most-eleven (won-by rule (opening_point first t) (opening_point second t))))) (λ r. refl)
 
 -- ---- every outcome of each call
 

@@ -4,25 +4,25 @@ use Prim.Native.Nat.{ℕ, ◌+◌, ◌≤◌}
 use mathlib.Core.Path.{◌≡◌, refl, sym, ap, ◌∙◌}
 use mathlib.Core.Bool.{cond}
 use mathlib.Core.List.{List}
+use Rattle.std.specs.Prelude.{Ok, Err}
 use native.Mathlib.Omega.{arith}
 use contract.Lifetimes.{Lfts}
 use denote.Ref.{Bor}
-use lib.Dec.{eqb, lit<}
+use lib.Dec.{eqb}
 use lib.IntN.{ℤ}
 use lib.ListN.{length, take, drop}
 use borrow.Author.Rules.{part_to_end}
 use Rattle.packed.specs.Layout.{header_bytes}
-use Rattle.ties.specs.Winning.{TieRule, sooner, to_first}
-use Rattle.choosing.specs.Choosing.{Asked, Handed, work_after, part_of, place_of}
+use Rattle.ties.specs.Winning.{Chosen, TieRule, sooner, to_first}
+use Rattle.ties.specs.declared.Winner.TheVariants.{First, Second}
+use Rattle.choosing.specs.Choosing.{chosen_of, Asked, Handed, work_after, part_of, place_of, winner_of}
 use Rattle.choosing.proofs.ChoosingLaws.{headers-there}
-use Rattle.ties.specs.declared.Chosen.{Chosen}
-use Rattle.ties.specs.declared.Chosen.TheVariants.{Refused, First, Second}
-use Rattle.openings.specs.Answer.{answer_of}
-use Rattle.openings.specs.declared.Answer.{Answer}
+use Rattle.openings.specs.Answer.{chosen_in, answer_of}
+use Rattle.openings.specs.AnswerLaws.{chosen-told}
 use Rattle.openings.proofs.Inputs.{Given, work_in}
 use Rattle.openings.proofs.choose.Reads as handing
 use Rattle.openings.proofs.choose_first.Reads as handing-first
-use Rattle.opening_answers.specs.Numbers.{choose_numbers}
+use Rattle.opening_answers.specs.Numbers.{offset_of, length_chosen, choose_numbers}
 use Rattle.opening_answers.specs.declared.ChooseAnswer.{ChooseAnswer}
 use Rattle.leafanchor.proofs.leafanchor_choose.Reads as choose
 use Rattle.leafanchor.proofs.leafanchor_choose_first.Reads as choose-first
@@ -41,45 +41,48 @@ pub record IsPart (r : ChooseAnswer) (first second part : Bor (List ℕ)) : Type
   pub place : part.ref_ptr ≡ on_by r.offset (named r.winner first.ref_ptr second.ref_ptr)
 
 -- So is the part of each answer of the question.
-bytes-said : (c : Chosen) (kind : ℕ) (first second : List ℕ)
-    → let r = choose_numbers (record { chosen = c; kind = kind }) (length first) (length second) in
-    part_of c first second ≡ take r.length (drop r.offset (named r.winner first second))
-bytes-said (Refused n) kind first second = refl
-bytes-said First kind first second = sym (part_to_end first header_bytes)
-bytes-said Second kind first second = sym (part_to_end second header_bytes)
+bytes-said : (c : Chosen) (first second : List ℕ)
+    → part_of c first second ≡ take (length_chosen c (length first) (length second)) (drop (offset_of c) (named (winner_of c) first second))
+bytes-said (Err r) first second = refl
+bytes-said (Ok First) first second = sym (part_to_end first header_bytes)
+bytes-said (Ok Second) first second = sym (part_to_end second header_bytes)
 
-place-said : (c : Chosen) (kind : ℕ) (first second : ℕ × ℕ) (m n : ℕ)
-    → let r = choose_numbers (record { chosen = c; kind = kind }) m n in
-    place_of c first second ≡ on_by r.offset (named r.winner first second)
-place-said (Refused k) kind first second m n = let e : first.1 ≡ 0 + first.1 = omega arith in ap (λ (o : ℕ). (first.0, o)) e
-place-said First kind first second m n = refl
-place-said Second kind first second m n = refl
+place-said : (c : Chosen) (first second : ℕ × ℕ) → place_of c first second ≡ on_by (offset_of c) (named (winner_of c) first second)
+place-said (Err r) first second = let e : first.1 ≡ 0 + first.1 = omega arith in ap (λ (o : ℕ). (first.0, o)) e
+place-said (Ok First) first second = refl
+place-said (Ok Second) first second = refl
 
 module _ (rule : TieRule) (first second : Bor (List ℕ)) (t : ℤ) (work : List ℤ) where
-  -- The question's answer, as the definitions say it.
-  abbrev answer : Answer
-  answer = answer_of rule first.now second.now t work
+  -- Who wins, as the definitions say it, and the numbers.
+  abbrev won : Chosen
+  won = chosen_of rule first.now second.now t work
 
-  asked : Asked rule first.now second.now t work answer.chosen (work_after rule first.now second.now t work)
+  abbrev numbers : ChooseAnswer
+  numbers = choose_numbers (answer_of rule first.now second.now t work) (length first.now) (length second.now)
+
+  told : chosen_in (answer_of rule first.now second.now t work) ≡ won
+  told = chosen-told first.now second.now won
+
+  asked : Asked rule first.now second.now t work won (work_after rule first.now second.now t work)
   asked = record { answer = refl; area = refl }
 
   -- What is handed back by a tie rule is the part that the numbers by it say.
   is-part : {r : ChooseAnswer} {part : Bor (List ℕ)} {work' : List ℤ}
-      → r ≡ choose_numbers answer (length first.now) (length second.now) → Handed rule first second t work part work'
-      → IsPart r first second part
+      → r ≡ numbers → Handed rule first second t work part work' → IsPart r first second part
   is-part e h =
-      let won = answer.chosen in
-      let bytes = h.bytes ∙ bytes-said won answer.kind first.now second.now in
-      let place = h.place ∙ place-said won answer.kind first.ref_ptr second.ref_ptr (length first.now) (length second.now) in
-      rw e (record { bytes = bytes; place = place })
+      let bytes = h.bytes ∙ bytes-said won first.now second.now in
+      let place = h.place ∙ place-said won first.ref_ptr second.ref_ptr in
+      rw (e, told) (record { bytes = bytes; place = place })
 
   -- Offset and length stay within the bytes of the winner, for a winner has a header; they are 0 if refused.
-  inside : (c : Chosen) (kind : ℕ) → answer.chosen ≡ c
-      → let r = choose_numbers (record { chosen = c; kind = kind }) (length first.now) (length second.now) in
-      r.offset + r.length ≤ length (named r.winner first.now second.now)
-  inside (Refused n) kind e = omega arith
-  inside First kind e = let h = headers-there rule first second t work asked e (lit< tt) in omega arith
-  inside Second kind e = let h = headers-there rule first second t work asked e (lit< tt) in omega arith
+  within : (c : Chosen) → won ≡ c
+      → offset_of c + length_chosen c (length first.now) (length second.now) ≤ length (named (winner_of c) first.now second.now)
+  within (Err r) e = omega arith
+  within (Ok First) e = let h = headers-there rule first second t work asked e in omega arith
+  within (Ok Second) e = let h = headers-there rule first second t work asked e in omega arith
+
+  inside : numbers.offset + numbers.length ≤ length (named numbers.winner first.now second.now)
+  inside = rw told (within won refl)
 
 -- On the same inputs the part that is handed back is the one that the numbers say, and the work area is left the same.
 module _ (κs : Lfts 3) (μs : Lfts 2) (a x y : Given) (r : ChooseAnswer) (part : Bor (List ℕ)) where
@@ -98,7 +101,7 @@ abbrev Inside : ChooseAnswer → Given → Type 0
 Inside r a = r.offset + r.length ≤ length (named r.winner a.0.now a.1.0.now)
 
 pub part-inside : (κs : Lfts 3) (a x : Given) (r : ChooseAnswer) → choose.Post κs a r x → Inside r a
-part-inside κs a x r h = rw h.0 (inside sooner a.0 a.1.0 a.1.1.0 (work_in a) _ 0 refl)
+part-inside κs a x r h = rw h.0 (inside sooner a.0 a.1.0 a.1.1.0 (work_in a))
 
 pub part-inside-first : (κs : Lfts 3) (a x : Given) (r : ChooseAnswer) → choose-first.Post κs a r x → Inside r a
-part-inside-first κs a x r h = rw h.0 (inside to_first a.0 a.1.0 a.1.1.0 (work_in a) _ 0 refl)
+part-inside-first κs a x r h = rw h.0 (inside to_first a.0 a.1.0 a.1.1.0 (work_in a))

@@ -48,18 +48,16 @@ fn exchange(numbers: &mut [i32], place: usize, other: usize) {
     put_job(numbers, place, in_place_of(there, here));
 }
 
-// One damage to an order of halves, or none, drawn behind a seed: a job is spoiled in one of three ways, or
-// exchanged with another or with the one where an optional half's partner is. It may still be of halves. Returns
-// the seed after it.
-pub fn draw_damage(seed: u64, kind: Kind, numbers: &mut [i32]) -> u64 {
-    let mut seed = Seed(seed);
+// One damage to an order of halves, or none, drawn: a job is spoiled in one of three ways, or
+// exchanged with another or with the one where an optional half's partner is. It may still be of halves.
+pub fn draw_damage(seed: &mut Seed, kind: Kind, numbers: &mut [i32]) {
     let jobs = (numbers.len() / 7) as u64;
     let place = seed.draw_byte(jobs) as usize;
     let other = seed.draw_byte(jobs) as usize;
     let job = job_at(numbers, place);
     match seed.draw(8) {
-        0 => put_job(numbers, place, spoil_length(&mut seed, job)),
-        1 => put_job(numbers, place, spoil_number(&mut seed, job)),
+        0 => put_job(numbers, place, spoil_length(seed, job)),
+        1 => put_job(numbers, place, spoil_number(seed, job)),
         2 => put_job(numbers, place, spoil_mark(job)),
         3 => exchange(numbers, place, other),
         4 => {
@@ -68,5 +66,4 @@ pub fn draw_damage(seed: u64, kind: Kind, numbers: &mut [i32]) -> u64 {
         }
         _ => {}
     }
-    seed.0
 }

@@ -1,8 +1,8 @@
 // An order made easier: what is eased is drawn, from nothing at all to every time and length. A check by the
 // numbers of both says whether the second order is easier than the first.
-use crate::in_time;
 use crate::seeds::Seed;
-use careful::{Job, count_of, jobs_of, more, number_of, plus, put_job};
+use crate::{Order, in_time};
+use careful::{Job, count_of, front, jobs_of, more, number_of, plus, put_job};
 
 // The highest number that a job may have, and the most seconds by which anything is eased.
 const HIGHEST: u64 = 63;
@@ -27,13 +27,6 @@ struct Easing {
     part: Part,
     seconds: u64,
     packs: u64,
-}
-
-// An order eased: when the bus is free, and the seed after it.
-#[derive(Clone, Copy)]
-pub struct Eased {
-    pub t0: i32,
-    pub seed: u64,
 }
 
 // How an order was changed: whether it is easier by the rule, and how many of its times and lengths are others.
@@ -142,17 +135,16 @@ impl Easing {
     }
 }
 
-// An order eased, drawn behind a seed, its jobs put from the first place on. When the bus is free is eased alone,
-// or with all parts of all jobs.
-pub fn ease(seed: u64, old: &[i32], t0: i32, new: &mut [i32]) -> Eased {
-    let mut seed = Seed(seed);
-    let easing = Easing::draw(&mut seed, jobs_of(old).len() as u64);
-    easing.ease_jobs(&mut seed, old, new);
+// An order eased, its jobs put from the first place on. When the bus is free is eased alone, or with all parts of all
+// jobs.
+pub fn ease<'a>(seed: &mut Seed, old: Order<'_>, numbers: &'a mut [i32]) -> Order<'a> {
+    let easing = Easing::draw(seed, jobs_of(old.numbers).len() as u64);
+    easing.ease_jobs(seed, old.numbers, numbers);
     let here = easing.part == Part::Free || easing.job.is_none();
-    let by = easing.draw_by(&mut seed, here, Part::Free);
-    Eased {
-        t0: in_time(less(t0, by)),
-        seed: seed.0,
+    let by = easing.draw_by(seed, here, Part::Free);
+    Order {
+        numbers: front(numbers, old.numbers.len()),
+        t0: in_time(less(old.t0, by)),
     }
 }
 
@@ -174,10 +166,10 @@ fn others(old: Job, new: Job) -> u64 {
 }
 
 // The change from one order to another, job by job.
-pub fn change_of(old: &[i32], old_t0: i32, new: &[i32], new_t0: i32) -> Change {
-    let mut easier = old.len() == new.len() && new_t0 <= old_t0;
-    let mut eased = (new_t0 != old_t0) as u64;
-    for (old, new) in jobs_of(old).iter().zip(jobs_of(new)) {
+pub fn change_of(old: Order<'_>, new: Order<'_>) -> Change {
+    let mut easier = old.numbers.len() == new.numbers.len() && new.t0 <= old.t0;
+    let mut eased = (new.t0 != old.t0) as u64;
+    for (old, new) in jobs_of(old.numbers).iter().zip(jobs_of(new.numbers)) {
         let old = Job::from(*old);
         let new = Job::from(*new);
         easier = easier && no_harder(old, new);

@@ -1,7 +1,7 @@
 // The jobs of an order, drawn one behind the other.
 use crate::in_time;
 use crate::kinds::Kind;
-use crate::seeds::{Seed, drawn};
+use crate::seeds::Seed;
 use careful::{Job, count_of, job_at, number_of, plus};
 
 // How far above its partner's number an optional half's lies, and its seconds for each weight.
@@ -64,7 +64,7 @@ fn draw_length(seed: &mut Seed, kind: Kind, weight: i32) -> i32 {
 // The pack that a seed draws. One job in eight has one, so that orders of both kinds of records are met. It
 // needs no seed of its own, since no plan reads it.
 fn drawn_pack(seed: Seed) -> i32 {
-    let pack = drawn(seed.0, 2_048);
+    let pack = seed.drawn(2_048);
     if pack > 255 { 0 } else { number_of(pack) }
 }
 
