@@ -8,7 +8,7 @@ const MOST: usize = 10;
 // The seconds that the contactor rests after every job.
 pub const REST: i32 = 15;
 
-// What stands for the start of a job that is left out.
+// What stands for the start of a job that is left out: the number that C is given, not a none.
 pub const LEFT_OUT: i32 = 200_000;
 
 // What running a choice comes to: whether it may be run at all, when the bus is free after it, and the

@@ -63,7 +63,8 @@ pub fn plus(one: i32, other: i32) -> i32 {
     0
 }
 
-// A count as a number, 0 where it is too great.
+// A count as a number, 0 where it is too great. This and those behind it have limits of their own, which no `try_from` and no saturating
+// sum has.
 pub fn number_of(count: u64) -> i32 {
     if count < 1_000_000 { count as i32 } else { 0 }
 }

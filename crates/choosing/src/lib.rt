@@ -14,7 +14,8 @@ use refusals::Reason;
 use ties::{Tie, Winner, decide};
 use weighing::weigh;
 
-// Which of two openings that have passed their checks wins: each is weighed in the same area.
+// Which of two openings that have passed their checks wins: each is weighed in the same area. The tie, the openings, the time and the area
+// go one by one, as the calls and their definitions name them.
 fn weigh_both(
     tie: Tie,
     first: &[u8],

@@ -60,7 +60,8 @@ pub fn limit_by(time: i32) -> i32
     code_of(time, 0)
 }
 
-// How light a point is: LIGHTEST less its weight.
+// How light a point is: LIGHTEST less its weight. A point stays a number with a fact beside it: it is read from lent numbers at every
+// turn, where a type of its own would be made and taken apart again.
 pub fn light_in(code: i32) -> usize
     requires { pos 0 ≤ℤ code }
     ensures { result ≡ lightness code }

@@ -25,7 +25,7 @@ pub struct Job {
     pub deadline: i32,
 }
 
-// What a header says.
+// What a header says. The kind stays a number: any byte may stand there until it is judged, and a record is sized by it.
 #[derive(Clone, Copy)]
 pub struct Header {
     pub count: usize,

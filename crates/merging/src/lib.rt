@@ -33,6 +33,7 @@ fn merge(
     let mut b = pushed[j];
     let mut n = at;
     let mut best = lightest;
+    // The cursors move by a test of what is read, so no iterator over a list fits.
     for _ in 0..list.count + other.count {
         let c = work[i + 1];
         let d = pushed[j + 1];

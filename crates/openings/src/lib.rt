@@ -61,7 +61,7 @@ pub fn question(first: &[u8], second: &[u8], t: i32, work: &mut [i32]) -> Result
     tell(Tie::Sooner, first, second, t, work)
 }
 
-// The question by the night desk's rule: of equal weights, the first opening.
+// The question by the night desk's rule: of equal weights, the first opening. A call of its own for each tie: C and the pages name both.
 pub fn question_first(first: &[u8], second: &[u8], t: i32, work: &mut [i32]) -> Result<Won, Refusal>
     ensures { Questioned to_first first.now second.now t work.old result work.new }
 {

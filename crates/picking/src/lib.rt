@@ -13,7 +13,7 @@ ghost use Rattle.picking.specs.Picking.{IsLeast, Reached, CanStart, CanMake, Can
 use fields::Job;
 use repeating::{MOST_REPEATING, Repeating, count_of};
 
-// The place of the least of some numbers, the first of those that are equal.
+// The place of the least of some numbers, the first of those that are equal. By place: that is the answer.
 fn least(times: &[u32]) -> usize
     requires { 1 ≤ length times.now }
     ensures { IsLeast times.now (length times.now) result }

@@ -26,7 +26,7 @@ pub fn delta_of(rate: Rate) -> i32
     ((rate.takes + REST as usize) * SECOND - rate.gain) as i32
 }
 
-// A number moved on.
+// A number moved on: what a push and a wait share.
 fn later(code: i32, delta: i32) -> i32
     requires { Coded code × Delta delta }
     ensures { result ≡ code +ℤ delta }

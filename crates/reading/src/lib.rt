@@ -51,7 +51,7 @@ fn put_point(out: &mut [i32], place: usize, time: i32, weight: i32)
     out[2 * place + 1] = weight;
 }
 
-// A list written to the front of `out` as alternating numbers.
+// A list written to the front of `out` as alternating numbers. By place: a point is two numbers there.
 pub fn write_list(work: &[i32], list: Prefix, out: &mut [i32])
     requires { CanWrite work.now list.place list.count out.old }
     ensures { out.new ≡ written_over (alternating (points_at work.now list)) out.old }

@@ -9,7 +9,8 @@ ghost use Rattle.sheet.specs.Joining.{CanJoin, partly};
 
 use refusals::Reason;
 
-// How many numbers a sheet has, and how many of them are sums.
+// How many numbers a sheet has, and how many of them are sums. They stay a slice with a fact on its length: C lends them so, and feeding
+// holds them in front of three more.
 pub const FIGURES: usize = 26;
 
 pub const SUMS: usize = 24;
