@@ -4,7 +4,7 @@ use mathlib.Core.Path.{◌≡◌, refl, sym, ap, ◌∙◌}
 use mathlib.Core.Bool.{true, false}
 use native.Mathlib.Omega.{arith}
 use mir.Syntax.{w8, w32}
-use Rattle.std.proofs.Common.{Option, Some, None, Err}
+use Rattle.std.proofs.Common.{rules, Option, Some, None}
 use Rattle.refusals.specs.declared.Field.{Field}
 use Rattle.refusals.specs.NumbersLaws.{figure-low}
 use Rattle.refusals.specs.Numbers.{figure_of, figure_or_none}
@@ -31,7 +31,7 @@ within job f named is = no-bad-field job (sym named ∙ ap figure_or_none is)
 pub returns-in-Some : goal.returns-in-Some
 returns-in-Some c =
     let told = out c.args.job c.bad_field.result c.in-Some.field c.bad_field.ensures c.in-Some.is in
-    rw (told.0, ← told.1) (record { goes = ap (λ r. Err r) c.in_field.ensures; notes = refl })
+    rw (told.0, ← told.1) (record { goes = search rules; notes = refl })
 
 pub overflow_cast-numbers : goal.overflow_cast-numbers
 overflow_cast-numbers c =
