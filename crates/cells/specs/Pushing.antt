@@ -4,7 +4,7 @@ use Rattle.std.proofs.Common.{ap, ◌∙◌, arith}
 use Rattle.seconds.specs.Ranges.{Between}
 use Rattle.seconds.specs.Signed.{signed, add_is, sub_is, max-is, max_z}
 use Rattle.codes.specs.Code.{at0}
-use Rattle.cells.specs.Cells.{Put, CanRun, moved_on, CanPushCells, PushedCells}
+use Rattle.cells.specs.Cells.{Put, CanCount, CanRun, moved_on, CanPushCells, PushedCells}
 
 module _ {row : List ℤ} {end : ℕ} {limit delta : ℤ} {gain : ℕ} {pushed : List ℤ} (g : CanPushCells row end limit delta gain pushed)
     {mid : List ℤ} (m : Put (λ y. moved_on limit delta (at0 row (y - gain)) (y - gain)) gain (gain + end) pushed mid)
@@ -25,6 +25,12 @@ module _ {row : List ℤ} {end : ℕ} {limit delta : ℤ} {gain : ℕ} {pushed :
           low = omega (signed, max-is (at0 row 0) (limit -ℤ pos 0), sub_is limit (pos 0), add_is (max_z (at0 row 0) (limit -ℤ pos 0)) delta);
           high = omega (signed, max-is (at0 row 0) (limit -ℤ pos 0), sub_is limit (pos 0), add_is (max_z (at0 row 0) (limit -ℤ pos 0)) delta);
         }
+
+    pub can-count : CanCount (at0 mid gain) gain
+    can-count =
+        let r = first_range in
+        let e = first-is in
+        record { code = record { low = omega signed; high = omega signed }; few = omega (arith, g.all.light) }
 
     module _ (first : ℤ) (is : first ≡ at0 mid gain +ℤ pos gain) where
       pub can-run : CanRun mid 0 gain first

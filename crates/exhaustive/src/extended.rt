@@ -84,7 +84,7 @@ pub fn check_join(run: &mut Run, one: &[i32], other: &[i32]) {
 // Whether an answer to a lookup is the weight expected, if any.
 fn is_found(finding: Result<Option<u32>, Reason>, valid: bool, weight: Option<i32>) -> bool {
     match finding {
-        Err(_) => !valid,
+        Err(reason) => !valid && reason == Reason::ProfileNotValid,
         Ok(Some(found)) => valid && weight.is_some_and(|weight| is_count(found as u64, weight)),
         Ok(None) => valid && weight.is_none(),
     }

@@ -203,7 +203,11 @@ module _ {bytes : List ℕ} {n : ℕ} {awaited : List ℕ} {place : ℕ} (s : Se
 
 -- No place is left.
 pub search-none : {bytes : List ℕ} {n : ℕ} {awaited : List ℕ} {place : ℕ} → Searching bytes n awaited place → n ≤ place
-    → None ≡ found_below n (first_offending (numbers_of bytes))
+    → place ≡ first_offending (numbers_of bytes)
 search-none {bytes} {n} {awaited} {place} s h =
     let e : place ≡ n = omega (arith, s.going) in
-    found-none n place h ∙ ap (found_below n) (sym (s.search ∙ rw e (first-end (offends_at (jobs_in bytes)) n)))
+    sym (s.search ∙ rw e (first-end (offends_at (jobs_in bytes)) n))
+
+pub search-lacks : {bytes : List ℕ} {n : ℕ} {awaited : List ℕ} {place : ℕ} → Searching bytes n awaited place → n ≤ place
+    → None ≡ found_below n (first_offending (numbers_of bytes))
+search-lacks {bytes} {n} {awaited} {place} s h = found-none n place h ∙ ap (found_below n) (search-none s h)

@@ -172,15 +172,19 @@ module _ (zs : List ℤ) (p count : ℕ) (j : Repeating) (b : p < count) (r : nu
   unfit-is : (t : Bool) → may_repeat (numbers_in j) ≡ t → unfit_at zs p ≡ not t
   unfit-is t e = ap (λ (job : List ℤ). not (may_repeat job)) (sym (read-given zs p j r)) ∙ ap not e
 
+  pub unfit-here : may_repeat (numbers_in j) ≡ false → first (unfit_at zs) p count ≡ p
+  unfit-here e = first-here (unfit_at zs) p count b (unfit-is false e)
+
+  pub unfit-on : may_repeat (numbers_in j) ≡ true → first (unfit_at zs) p count ≡ first (unfit_at zs) (p + 1) count
+  unfit-on e = first_on (unfit_at zs) p count b (unfit-is true e)
+
   -- The search so far is the search from here on.
   module _ (so_far : first (unfit_at zs) 0 count ≡ first (unfit_at zs) p count) where
-    pub unfit-here : may_repeat (numbers_in j) ≡ false → Some p ≡ found_below count (first (unfit_at zs) 0 count)
-    unfit-here e =
-        let found : first (unfit_at zs) 0 count ≡ p = so_far ∙ first-here (unfit_at zs) p count b (unfit-is false e) in
-        rw found (found-there count p b)
+    pub unfit-found : may_repeat (numbers_in j) ≡ false → Some p ≡ found_below count (first (unfit_at zs) 0 count)
+    unfit-found e = rw (so_far ∙ unfit-here e) (found-there count p b)
 
-    pub unfit-on : may_repeat (numbers_in j) ≡ true → first (unfit_at zs) 0 count ≡ first (unfit_at zs) (p + 1) count
-    unfit-on e = so_far ∙ first_on (unfit_at zs) p count b (unfit-is true e)
+    pub unfit-passed : may_repeat (numbers_in j) ≡ true → first (unfit_at zs) 0 count ≡ first (unfit_at zs) (p + 1) count
+    unfit-passed e = so_far ∙ unfit-on e
 
 -- Each may.
 pub none-unfit : (zs : List ℤ) (p count : ℕ) → p ≡ count → first (unfit_at zs) 0 count ≡ first (unfit_at zs) p count

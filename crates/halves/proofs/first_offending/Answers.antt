@@ -3,7 +3,7 @@
 use mathlib.Core.Path.{sym, ◌∙◌}
 use native.Mathlib.Omega.{arith}
 use Rattle.fields.specs.Facts.{record-in}
-use Rattle.halves.specs.AwaitingLaws.{search-room, search-starts, can-take, room-kept, search-ends, search-on, search-none}
+use Rattle.halves.specs.AwaitingLaws.{search-room, search-starts, can-take, room-kept, search-ends, search-on, search-lacks}
 use Rattle.halves.proofs.first_offending.Goals as goal
 
 pub loop-place-init : goal.loop-place-init
@@ -37,4 +37,4 @@ shape_of-awaited c =
     c.loop-place.invariant.room ∙ sym (search-room c.args.bytes.now c.args.n c.args.awaited.now c.requires)
 
 pub returns : goal.returns
-returns c = search-none c.loop-place.invariant c.loop-place-test.false
+returns c = search-lacks c.loop-place.invariant c.loop-place-test.false

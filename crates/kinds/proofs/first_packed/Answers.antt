@@ -7,7 +7,7 @@ use mir.Syntax.{w32}
 use mir.Val.{SFits}
 use borrow.Author.Rules.{rules}
 use Rattle.packed.specs.Packed.{job_count, the_pack}
-use Rattle.kinds.specs.KindsLaws.{search-starts, search-on, search-finds, search-ends}
+use Rattle.kinds.specs.KindsLaws.{search-starts, search-on, search-finds, search-lacks}
 use Rattle.kinds.proofs.first_packed.Goals as goal
 
 pub loop-place-init : goal.loop-place-init
@@ -34,4 +34,4 @@ returns g c =
     let zs = g.J.Jobs.numbers c.args.jobs.now in
     let end : c.loop-place.place ≡ job_count zs =
     omega (arith, c.loop-place-test.false, c.loop-place.auto.place-end, c.count-place-end.ensures.all) in
-    search-ends zs (job_count zs) refl c.loop-place.place end c.loop-place.invariant
+    search-lacks zs (job_count zs) refl c.loop-place.place end c.loop-place.invariant

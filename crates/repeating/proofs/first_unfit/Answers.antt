@@ -2,17 +2,17 @@
 -- Assumes nothing.
 use mathlib.Core.Path.{sym, ◌∙◌}
 use native.Mathlib.Omega.{arith}
-use Rattle.repeating.specs.RepeatingLaws.{unfit-here, unfit-on, none-unfit}
+use Rattle.repeating.specs.RepeatingLaws.{unfit-found, unfit-passed, none-unfit}
 use Rattle.repeating.proofs.first_unfit.Goals as goal
 
 pub returns-then-not-may_repeat : goal.returns-then-not-may_repeat
 returns-then-not-may_repeat c =
-    unfit-here c.args.numbers.now c.loop-place.place c.args.count c.read-job.result c.loop-place-test.true c.read-job.ensures
+    unfit-found c.args.numbers.now c.loop-place.place c.args.count c.read-job.result c.loop-place-test.true c.read-job.ensures
     c.loop-place.invariant (sym c.may_repeat.ensures ∙ c.if-not-may_repeat.true)
 
 pub loop-place-preserved : goal.loop-place-preserved
 loop-place-preserved c =
-    unfit-on c.args.numbers.now c.loop-place.place c.args.count c.read-job.result c.loop-place-test.true c.read-job.ensures
+    unfit-passed c.args.numbers.now c.loop-place.place c.args.count c.read-job.result c.loop-place-test.true c.read-job.ensures
     c.loop-place.invariant (sym c.may_repeat.ensures ∙ c.if-not-may_repeat.false)
 
 pub returns : goal.returns
