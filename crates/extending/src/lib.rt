@@ -10,9 +10,8 @@ ghost use Rattle.extending.specs.Calls.{extend_judged, ExtendCall};
 ghost use Rattle.extending.specs.Extending.{CanExtend, ExtendedIn};
 
 use area::{AREA, clear};
-use fields::header_at;
 use filling::{fill_last, last_weight, start_profile};
-use judge::{judge_jobs, judge_weight};
+use judge::{judge_jobs, judge_weight, records_in};
 use packed::Refusal;
 use profiles::{MOST_NUMBERS, valid};
 use reading::write_list;
@@ -23,9 +22,8 @@ fn extend_by_lists(profile: &[i32], bytes: &[u8], out: &mut [i32], work: &mut [i
     requires { CanExtend profile.now bytes.now out.old work.old }
     ensures { ExtendedIn profile.now bytes.now out.old result out.new }
 {
-    let header = header_at(bytes);
     let count = start_profile(work, profile);
-    let last = fill_last(work, bytes, header.count, count);
+    let last = fill_last(work, records_in(bytes), count);
     write_list(work, last, out);
     last.count
 }

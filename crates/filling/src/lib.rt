@@ -14,7 +14,7 @@ ghost use Rattle.filling.specs.Begin.{CanStart, CanBegin, Begun};
 
 use cells::{blank_row, spread};
 use codes::{PAST, Prefix, code_of};
-use fields::job_in;
+use jobs::Records;
 use pushing::Rate;
 use stepping::{Terms, step};
 use sweeping::{Stretch, many_late, settle, sweep};
@@ -59,12 +59,12 @@ struct Sofar {
     totals: Totals,
 }
 
-// The job at a place, from its bytes.
-fn task_in(bytes: &[u8], k: usize) -> Task
-    requires { CanRead bytes.now k }
-    ensures { TaskIs bytes.now k result }
+// The job at a place, from its record.
+fn task_in(records: Records, k: usize) -> Task
+    requires { CanRead records.bytes.now k }
+    ensures { TaskIs records.entry.bytes.now k result }
 {
-    let job = job_in(bytes, k);
+    let job = records.job_at(k);
     let terms = Terms {
         critical: job.critical == 1,
         ready: job.ready,
@@ -78,12 +78,12 @@ fn task_in(bytes: &[u8], k: usize) -> Task
 }
 
 // The list after the job at a place, from the list before it, by the three cases.
-fn list_one(work: &mut [i32], bytes: &[u8], k: usize, list: Prefix, pushed: &mut [i32]) -> NextList
-    requires { CanFillOne bytes.now k (as_stretch list) false work.old pushed.old [] }
-    ensures { FilledOne bytes.now k (as_stretch list) false work.old [] (as_stretch result.list) result.weight work.new
+fn list_one(work: &mut [i32], records: Records, k: usize, list: Prefix, pushed: &mut [i32]) -> NextList
+    requires { CanFillOne records.bytes.now k (as_stretch list) false work.old pushed.old [] }
+    ensures { FilledOne records.entry.bytes.now k (as_stretch list) false work.old [] (as_stretch result.list) result.weight work.new
         pushed.new [] }
 {
-    let task = task_in(bytes, k);
+    let task = task_in(records, k);
     let list = step(work, list, task.terms, task.rate, pushed);
     let late = many_late(work, list, task.terms.ready);
     NextList {
@@ -96,16 +96,16 @@ fn list_one(work: &mut [i32], bytes: &[u8], k: usize, list: Prefix, pushed: &mut
 // The same by the cells of the list, which become those of the list after the job.
 fn cells_one(
     work: &mut [i32],
-    bytes: &[u8],
+    records: Records,
     k: usize,
     from: Stretch,
     pushed: &mut [i32],
     row: &mut [i32],
 ) -> NextCells
-    requires { CanFillOne bytes.now k from true work.old pushed.old row.old }
-    ensures { FilledOne bytes.now k from true work.old row.old result.stretch result.weight work.new pushed.new row.new }
+    requires { CanFillOne records.bytes.now k from true work.old pushed.old row.old }
+    ensures { FilledOne records.entry.bytes.now k from true work.old row.old result.stretch result.weight work.new pushed.new row.new }
 {
-    let task = task_in(bytes, k);
+    let task = task_in(records, k);
     let stretch = sweep(work, from, task.terms, task.rate, pushed, row);
     NextCells {
         stretch,
@@ -128,11 +128,11 @@ pub fn notes(count: usize) -> [Prefix; NOTES]
     [Prefix { place: 0, count }; NOTES]
 }
 
-// The lists after each of the n jobs, behind a first list at the front, as long as few points are past a job's ready time. They
+// The lists after each of the jobs, behind a first list at the front, as long as few points are past a job's ready time. They
 // are noted behind the first, which is noted at 0.
-fn fill_by_lists(work: &mut [i32], bytes: &[u8], n: usize, notes: &mut [Prefix]) -> Sofar
-    requires { CanFillLists bytes.now n work.old notes.old }
-    ensures { FilledSofar bytes.now n (noted notes.old 0).count work.old result notes.new work.new }
+fn fill_by_lists(work: &mut [i32], records: Records, notes: &mut [Prefix]) -> Sofar
+    requires { CanFillLists records.bytes.now records.count work.old notes.old }
+    ensures { FilledSofar records.entry.bytes.now records.entry.count (noted notes.old 0).count work.old result notes.new work.new }
 {
     let mut pushed = buffer();
     let mut list = notes[0];
@@ -140,8 +140,8 @@ fn fill_by_lists(work: &mut [i32], bytes: &[u8], n: usize, notes: &mut [Prefix])
         points: 0,
         weight: 0,
     };
-    for k in 0..n {
-        let next = list_one(work, bytes, k, list, &mut pushed);
+    for k in 0..records.count {
+        let next = list_one(work, records, k, list, &mut pushed);
         list = next.list;
         totals.points += list.count;
         totals.weight += next.weight;
@@ -155,7 +155,7 @@ fn fill_by_lists(work: &mut [i32], bytes: &[u8], n: usize, notes: &mut [Prefix])
         }
     }
     Sofar {
-        jobs: n,
+        jobs: records.count,
         list,
         totals,
     }
@@ -164,14 +164,13 @@ fn fill_by_lists(work: &mut [i32], bytes: &[u8], n: usize, notes: &mut [Prefix])
 // The lists after the other jobs, by cells in a row.
 fn fill_by_cells(
     work: &mut [i32],
-    bytes: &[u8],
-    n: usize,
+    records: Records,
     sofar: Sofar,
     notes: &mut [Prefix],
     row: &mut [i32],
 ) -> Totals
-    requires { CanFillCells bytes.now n sofar work.old notes.old row.old }
-    ensures { FilledCells bytes.now n sofar work.old notes.old result notes.new work.new row.new }
+    requires { CanFillCells records.bytes.now records.count sofar work.old notes.old row.old }
+    ensures { FilledCells records.entry.bytes.now records.entry.count sofar work.old notes.old result notes.new work.new row.new }
 {
     let mut pushed = buffer();
     spread(work, sofar.list, row);
@@ -180,8 +179,8 @@ fn fill_by_cells(
         points: sofar.list.count,
     };
     let mut totals = sofar.totals;
-    for k in sofar.jobs..n {
-        let next = cells_one(work, bytes, k, last, &mut pushed, row);
+    for k in sofar.jobs..records.count {
+        let next = cells_one(work, records, k, last, &mut pushed, row);
         last = next.stretch;
         totals.points += last.points;
         totals.weight += next.weight;
@@ -190,30 +189,30 @@ fn fill_by_cells(
     totals
 }
 
-// The lists after each of the n jobs, behind a first list at the front: as lists, and from the first with many late points on by cells.
-pub fn fill_lists(work: &mut [i32], bytes: &[u8], n: usize, notes: &mut [Prefix]) -> Totals
-    requires { CanFillLists bytes.now n work.old notes.old }
-    ensures { Filled bytes.now n (noted notes.old 0).count work.old result notes.new work.new }
+// The lists after each of the jobs, behind a first list at the front: as lists, and from the first with many late points on by cells.
+pub fn fill_lists(work: &mut [i32], records: Records, notes: &mut [Prefix]) -> Totals
+    requires { CanFillLists records.bytes.now records.count work.old notes.old }
+    ensures { Filled records.entry.bytes.now records.entry.count (noted notes.old 0).count work.old result notes.new work.new }
 {
-    let sofar = fill_by_lists(work, bytes, n, notes);
-    if sofar.jobs < n {
+    let sofar = fill_by_lists(work, records, notes);
+    if sofar.jobs < records.count {
         let mut row = blank_row();
-        return fill_by_cells(work, bytes, n, sofar, notes, &mut row);
+        return fill_by_cells(work, records, sofar, notes, &mut row);
     }
     sofar.totals
 }
 
-// The list after all of the n jobs, from a first list at the front.
-pub fn fill_last(work: &mut [i32], bytes: &[u8], n: usize, count: usize) -> Prefix
-    requires { CanFill bytes.now n count work.old }
-    ensures { FilledLast bytes.now count work.old result work.new }
+// The list after all of the jobs, from a first list at the front.
+pub fn fill_last(work: &mut [i32], records: Records, count: usize) -> Prefix
+    requires { CanFill records.bytes.now records.count count work.old }
+    ensures { FilledLast records.entry.bytes.now count work.old result work.new }
 {
     let mut noted = notes(count);
-    let sofar = fill_by_lists(work, bytes, n, &mut noted);
-    if sofar.jobs < n {
+    let sofar = fill_by_lists(work, records, &mut noted);
+    if sofar.jobs < records.count {
         let mut row = blank_row();
-        fill_by_cells(work, bytes, n, sofar, &mut noted, &mut row);
-        return settle(work, noted[n], &row);
+        fill_by_cells(work, records, sofar, &mut noted, &mut row);
+        return settle(work, noted[records.count], &row);
     }
     sofar.list
 }

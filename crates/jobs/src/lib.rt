@@ -3,7 +3,7 @@
 #![tactic(auto)]
 
 ghost use Rattle.std.specs.Prelude.{◌≡◌, ◌≤◌, ◌<◌, List, ℤ};
-ghost use Rattle.packed.specs.Packed.{numbers_of, job_count, fields_at};
+ghost use Rattle.packed.specs.Packed.{numbers_of, job_count, job_fields, fields_at};
 ghost use Rattle.fields.specs.Fields.{fields_of};
 ghost use Rattle.jobs.specs.Held.{RecordsStand, AllGiven};
 
@@ -32,6 +32,16 @@ pub struct Records<'a> {
     ghost stand: { RecordsStand bytes.now count kind },
 }
 
+impl<'a> Records<'a> {
+    // The job at a place, by its record.
+    pub fn job_at(self, place: usize) -> Job
+        requires { place < self.count }
+        ensures { fields_of result ≡ job_fields self.entry.bytes.now place }
+    {
+        fields::job_by_kind(self.bytes, self.kind, place)
+    }
+}
+
 impl<'a> Jobs for Records<'a> {
     ghost numbers = { λ r. numbers_of r.bytes.now };
 
@@ -40,7 +50,7 @@ impl<'a> Jobs for Records<'a> {
     }
 
     fn job(&self, place: usize) -> Job {
-        fields::job_by_kind(self.bytes, self.kind, place)
+        self.job_at(place)
     }
 }
 

@@ -61,7 +61,7 @@ pub fn judge_header(bytes: &[u8]) -> Result<(), Refusal>
 }
 
 // The records of bytes that have passed them.
-fn records_in(bytes: &[u8]) -> Records
+pub fn records_in(bytes: &[u8]) -> Records
     requires { judge (header_checks bytes.now) ≡ fine }
     ensures { result.bytes.now ≡ bytes.now }
 {

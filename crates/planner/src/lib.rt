@@ -11,7 +11,7 @@ use area::{AREA, clear};
 use codes::Prefix;
 use fields::{Header, header_at};
 use filling::{Totals, fill_lists, notes, start_at};
-use judge::judge_order;
+use judge::{judge_order, records_in};
 use packed::Refusal;
 use profiles::LATEST;
 use reading::{Found, last_by};
@@ -43,7 +43,7 @@ fn make_plan(
     requires { CanMake bytes.now header mask totals end starts.old }
     ensures { MadeIn bytes.now starts.old (Ok result) starts.new }
 {
-    write_starts(bytes, header.count, header.t0, mask, starts);
+    write_starts(records_in(bytes), header.t0, mask, starts);
     Figures {
         mask,
         kept: kept_of(mask),
@@ -66,13 +66,13 @@ fn plan_by_lists(
     requires { CanPlanOver bytes.now header starts.old work.old notes.old }
     ensures { MadeIn bytes.now starts.old result starts.new }
 {
-    let n = header.count;
+    let records = records_in(bytes);
     start_at(work, header.t0);
-    let totals = fill_lists(work, bytes, n, notes);
-    match last_by(work, notes[n], LATEST) {
+    let totals = fill_lists(work, records, notes);
+    match last_by(work, notes[records.count], LATEST) {
         None => Err(Reason::NoFeasibleChoice.into()),
         Some(end) => {
-            let mask = walk(work, bytes, n, notes, end);
+            let mask = walk(work, records, notes, end);
             Ok(make_plan(bytes, header, mask, totals, end, starts))
         }
     }

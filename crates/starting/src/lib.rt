@@ -7,7 +7,8 @@ ghost use Rattle.fields.specs.Fields.{as_job};
 ghost use Rattle.starting.specs.Picks.{picks_of, TakesTurn, turn_of, WritesStarts, starts_written};
 
 use clock::{greater, rested};
-use fields::{Job, job_in};
+use fields::Job;
+use jobs::Records;
 
 // The worth of the highest bit of a mask, which is that of place 0.
 const HIGHEST: u64 = 0x8000_0000_0000_0000;
@@ -42,14 +43,14 @@ fn take_turn(job: Job, kept: bool, free: i32) -> Turn
 }
 
 // The starts of the jobs that a mask keeps, in place order.
-pub fn write_starts(bytes: &[u8], n: usize, t0: i32, mask: u64, starts: &mut [i32])
-    requires { WritesStarts bytes.now n t0 mask starts.old }
-    ensures { starts.new ≡ starts_written bytes.now n t0 mask starts.old }
+pub fn write_starts(records: Records, t0: i32, mask: u64, starts: &mut [i32])
+    requires { WritesStarts records.bytes.now records.count t0 mask starts.old }
+    ensures { starts.new ≡ starts_written records.entry.bytes.now records.entry.count t0 mask starts.old }
 {
     let mut free = t0;
     let mut left = mask;
-    for i in 0..n {
-        let turn = take_turn(job_in(bytes, i), left >= HIGHEST, free);
+    for i in 0..records.count {
+        let turn = take_turn(records.job_at(i), left >= HIGHEST, free);
         starts[i] = turn.start;
         free = turn.free;
         left = left % HIGHEST * 2;

@@ -13,7 +13,8 @@ ghost use Rattle.walking.specs.Trail.{leaves_out, Timely, last_start_of, StepsBa
 
 use clock::{lesser, rested};
 use codes::Prefix;
-use fields::{Job, job_in};
+use fields::Job;
+use jobs::Records;
 use reading::{Found, last_by};
 use std::hint::select_unpredictable;
 
@@ -71,17 +72,17 @@ fn step_back(work: &[i32], list: Prefix, bit: u64, job: Job, trail: Trail) -> Tr
 }
 
 // The mask of the choice that ends at a point, from the last job to the first.
-pub fn walk(work: &[i32], bytes: &[u8], n: usize, notes: &[Prefix], end: Found) -> u64
-    requires { Walks work.now bytes.now n notes.now end }
-    ensures { some result ≡ walk_mask (t0_of bytes.now) (jobs_in bytes.now) end.weight end.time }
+pub fn walk(work: &[i32], records: Records, notes: &[Prefix], end: Found) -> u64
+    requires { Walks work.now records.bytes.now records.count notes.now end }
+    ensures { some result ≡ walk_mask (t0_of records.entry.bytes.now) (jobs_in records.entry.bytes.now) end.weight end.time }
 {
     let mut trail = Trail {
         mask: 0,
         weight: end.weight,
         by: end.time,
     };
-    for k in (0..n).rev() {
-        let job = job_in(bytes, k);
+    for k in (0..records.count).rev() {
+        let job = records.job_at(k);
         trail = step_back(work, notes[k], bit_at(k), job, trail);
     }
     trail.mask

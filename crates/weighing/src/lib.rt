@@ -10,6 +10,7 @@ ghost use Rattle.weighing.specs.Weighing.{CanWeigh};
 
 use fields::header_at;
 use filling::{fill_last, start_at};
+use judge::records_in;
 use reading::{Found, last_by};
 
 // The last point of an order's profile by a time.
@@ -19,6 +20,6 @@ pub fn weigh(bytes: &[u8], t: i32, work: &mut [i32]) -> Option<Found>
 {
     let header = header_at(bytes);
     start_at(work, header.t0);
-    let last = fill_last(work, bytes, header.count, 1);
+    let last = fill_last(work, records_in(bytes), 1);
     last_by(work, last, t)
 }

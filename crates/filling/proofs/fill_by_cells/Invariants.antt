@@ -10,8 +10,8 @@ use Rattle.filling.proofs.fill_by_cells.Given as goal
 
 abbrev pub invariant-loop-k : goal.invariant-loop-k
 invariant-loop-k l = record {
-  filling : (count : ℕ) (first : List ℤ) → CanFill l.bytes l.n count first
-      → FilledSofar l.bytes l.n count first l.fn.sofar l.initial.notes l.initial.work
-      → Filling l.bytes count first l.k l.last true l.totals l.notes l.work l.row;
+  filling : (count : ℕ) (first : List ℤ) → CanFill l.records.bytes.now l.records.count count first
+      → FilledSofar l.records.bytes.now l.records.count count first l.fn.sofar l.initial.notes l.initial.work
+      → Filling l.records.bytes.now count first l.k l.last true l.totals l.notes l.work l.row;
   buffer : Buffer l.pushed;
 }

@@ -22,7 +22,7 @@ pub list_one-next-requires : goal.list_one-next-requires
 list_one-next-requires c = next-can c.requires.filling c.loop-k.invariant.filling c.loop-k-test.true c.loop-k.invariant.buffer
 
 one_more : (c : After-list_one-next)
-    → Filling c.args.bytes.now (noted c.args.notes.now 0).count c.args.work.now (c.loop-k.k + 1) (as_stretch c.list_one-next.result.list) false
+    → Filling c.args.records.bytes.now (noted c.args.notes.now 0).count c.args.work.now (c.loop-k.k + 1) (as_stretch c.list_one-next.result.list) false
     (record {
       points = c.loop-k.totals.points + c.list_one-next.result.list.count;
       weight = c.loop-k.totals.weight + c.list_one-next.result.weight;

@@ -8,6 +8,6 @@ use Rattle.filling.proofs.fill_by_lists.Given as goal
 
 abbrev pub invariant-loop-k : goal.invariant-loop-k
 invariant-loop-k l = record {
-  filling : Filling l.bytes (noted l.initial.notes 0).count l.initial.work l.k (as_stretch l.list) false l.totals l.notes l.work [];
+  filling : Filling l.records.bytes.now (noted l.initial.notes 0).count l.initial.work l.k (as_stretch l.list) false l.totals l.notes l.work [];
   buffer : Buffer l.pushed;
 }

@@ -14,7 +14,7 @@ module _ (c : After-notes-noted) where
   first : (noted c.notes-noted.result 0).count ≡ c.args.count
   first = ap (λ (p : Prefix). p.count) c.notes-noted.ensures.first
 
-  can : CanFill c.args.bytes.now c.args.n (noted c.notes-noted.result 0).count c.args.work.now
+  can : CanFill c.args.records.bytes.now c.args.records.count (noted c.notes-noted.result 0).count c.args.work.now
   can = rw first c.requires
 
 -- All are filled, the others by cells.
@@ -24,17 +24,17 @@ settle-requires c =
     let all = c.fill_by_cells.ensures _ _ (can made) c.fill_by_lists-sofar.ensures in
     record { ps = _; points = all.many; carried = by-cells refl all.last; room = omega (arith, c.requires.room) }
 
-pub returns-then-sofar-n : goal.returns-then-sofar-n
-returns-then-sofar-n c =
-    let made : After-notes-noted = (goal.at.returns-then-sofar-n c).After-notes-noted in
+pub returns-then-sofar-records : goal.returns-then-sofar-records
+returns-then-sofar-records c =
+    let made : After-notes-noted = (goal.at.returns-then-sofar-records c).After-notes-noted in
     let all = c.fill_by_cells.ensures _ _ (can made) c.fill_by_lists-sofar.ensures in
     let e = c.settle.ensures in
     let h = e.held _ all.many (by-cells refl all.last) in
-    rw (first made) at (last-stands c.args.bytes.now _ c.args.work.now e.room h.0 h.1)
+    rw (first made) at (last-stands c.args.records.bytes.now _ c.args.work.now e.room h.0 h.1)
 
 pub returns : goal.returns
 returns c =
     let made : After-notes-noted = (goal.at.returns c).After-notes-noted in
     let e = c.fill_by_lists-sofar.ensures in
-    let last = by-list refl (filling-last (can made) e.filling (omega (arith, e.order, c.if-sofar-n.false))) in
-    rw (first made) at (last-stands c.args.bytes.now _ c.args.work.now last.room last.held last.count)
+    let last = by-list refl (filling-last (can made) e.filling (omega (arith, e.order, c.if-sofar-records.false))) in
+    rw (first made) at (last-stands c.args.records.bytes.now _ c.args.work.now last.room last.held last.count)

@@ -6,4 +6,4 @@ use Rattle.filling.proofs.fill_lists.Goals as goal
 pub returns : goal.returns
 returns c =
     let e = c.fill_by_lists-sofar.ensures in
-    (filling-all c.requires.filling e.filling (omega (arith, e.order, c.if-sofar-n.false))).filled
+    (filling-all c.requires.filling e.filling (omega (arith, e.order, c.if-sofar-records.false))).filled

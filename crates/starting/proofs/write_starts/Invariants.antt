@@ -6,4 +6,4 @@ use Rattle.starting.proofs.write_starts.Given as goal
 
 abbrev pub invariant-loop-i : goal.invariant-loop-i
 invariant-loop-i l =
-    Writing (jobs_in l.bytes) l.n l.t0 l.mask l.initial.starts l.starts l.free l.left l.i
+    Writing (jobs_in l.records.bytes.now) l.records.count l.t0 l.mask l.initial.starts l.starts l.free l.left l.i

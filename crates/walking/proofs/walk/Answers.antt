@@ -8,7 +8,7 @@ use Rattle.walking.specs.declared.Trail.{Trail}
 use Rattle.walking.specs.Trail.{Walks}
 use Rattle.walking.specs.TrailLaws.{Trails, trail-start, trail-end, CanStep, can-step}
 use Rattle.walking.proofs.walk.Goals as goal
-use Rattle.walking.proofs.walk.Goals.{After-job_in-job, Start}
+use Rattle.walking.proofs.walk.Goals.{After-job_at-job, Start}
 
 -- What is given, with the end as the code reads it back.
 module _ (s : Start) where
@@ -18,16 +18,16 @@ module _ (s : Start) where
   time-back : end.time ≡ s.args.end.time
   time-back = to_z-of_z (free-fits s.requires.free)
 
-  walks : Walks s.args.work.now s.args.bytes.now s.args.n s.args.notes.now end
+  walks : Walks s.args.work.now s.args.records.bytes.now s.args.records.count s.args.notes.now end
   walks = rw time-back s.requires
 
 pub loop-k-init : goal.loop-k-init
 loop-k-init c = trail-start (walks (goal.at.loop-k-init c).Start)
 
 -- The trail, with the job at its place read.
-module _ (c : After-job_in-job) where
+module _ (c : After-job_at-job) where
   abbrev entry : Start
-  entry = (goal.at.After-job_in-job c).Start
+  entry = (goal.at.After-job_at-job c).Start
 
   abbrev k : ℕ
   k = c.loop-k.k - 1
@@ -35,18 +35,18 @@ module _ (c : After-job_in-job) where
   abbrev trail : Trail
   trail = c.loop-k.trail
 
-  on : Trails c.args.bytes.now (end entry).weight (end entry).time (suc k) trail
+  on : Trails c.args.records.bytes.now (end entry).weight (end entry).time (suc k) trail
   on = let e : suc k ≡ c.loop-k.k = omega (arith, c.loop-k-test.true) in rw e c.loop-k.invariant
 
-  step : CanStep c.args.work.now c.args.bytes.now (noted c.args.notes.now k) (end entry).weight (end entry).time k c.job_in-job.result trail
-  step = can-step (walks entry) k trail on c.job_in-job.result c.job_in-job.ensures
+  step : CanStep c.args.work.now c.args.records.bytes.now (noted c.args.notes.now k) (end entry).weight (end entry).time k c.job_at-job.result trail
+  step = can-step (walks entry) k trail on c.job_at-job.result c.job_at-job.ensures
 
 pub step_back-trail-requires : goal.step_back-trail-requires
-step_back-trail-requires c = rw c.bit_at.ensures (step (goal.at.step_back-trail-requires c).After-job_in-job).asks
+step_back-trail-requires c = rw c.bit_at.ensures (step (goal.at.step_back-trail-requires c).After-job_at-job).asks
 
 pub loop-k-preserved : goal.loop-k-preserved
 loop-k-preserved c =
-    (step (goal.at.loop-k-preserved c).After-job_in-job).keeps c.step_back-trail.result (rw c.bit_at.ensures at c.step_back-trail.ensures)
+    (step (goal.at.loop-k-preserved c).After-job_at-job).keeps c.step_back-trail.result (rw c.bit_at.ensures at c.step_back-trail.ensures)
 
 pub returns : goal.returns
 returns c =

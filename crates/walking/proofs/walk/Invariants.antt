@@ -4,4 +4,4 @@ use Rattle.walking.specs.TrailLaws.{Trails}
 use Rattle.walking.proofs.walk.Given as goal
 
 abbrev pub invariant-loop-k : goal.invariant-loop-k
-invariant-loop-k l = Trails l.bytes l.initial.trail.weight l.initial.trail.by l.k l.trail
+invariant-loop-k l = Trails l.records.bytes.now l.initial.trail.weight l.initial.trail.by l.k l.trail
