@@ -69,7 +69,7 @@ fn plan_by_lists(
     let records = records_in(bytes);
     start_at(work, header.t0);
     let totals = fill_lists(work, records, notes);
-    match last_by(work, notes[records.count], LATEST) {
+    match last_by(work, notes[header.count], LATEST) {
         None => Err(Reason::NoFeasibleChoice.into()),
         Some(end) => {
             let mask = walk(work, records, notes, end);

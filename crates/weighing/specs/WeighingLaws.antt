@@ -14,6 +14,7 @@ use Rattle.profile.specs.Profile.{worth, lookup, last_weight, extend, start_poin
 use Rattle.profile.proofs.Closure.{valid-holds, valid-start}
 use Rattle.profile.proofs.Worth.{lookup-worth, order-rises}
 use Rattle.packed.specs.Packed.{order_of, jobs_in}
+use Rattle.packed.proofs.RefusalLaws.{HeaderFine}
 use Rattle.packed.proofs.Accepted.{OrderFine, order-fine}
 use Rattle.fields.specs.Facts.{HeaderRead}
 use Rattle.fields.specs.declared.Header.{Header}
@@ -50,6 +51,9 @@ module _ {bytes : List ℕ} {work : List ℤ} (f : CanWeigh bytes work) where
   -- There is a header to read.
   pub header-there : 4 ≤ length bytes
   header-there = order.header.long
+
+  pub header-stands : HeaderFine bytes
+  header-stands = order.header
 
   module _ {h : Header} (read : HeaderRead bytes h) where
     timely : InTime h.t0

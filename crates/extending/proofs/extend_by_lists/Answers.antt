@@ -1,47 +1,52 @@
 -- `extending::extend_by_lists` meets its contract: the profile is the first list, and the extended one is the last.
 -- Assumes nothing.
 use Prim.Native.Nat.{◌≤◌}
-use mathlib.Core.Path.{◌≡◌}
+use mathlib.Core.Path.{◌≡◌, sym, ap, subst, ◌∙◌}
 use lib.ListN.{length}
 use borrow.Author.Rules.{rules}
 use Rattle.packed.specs.Packed.{count_of}
-use Rattle.fields.specs.Facts.{header_read}
+use Rattle.packed.proofs.RefusalLaws.{header-fine}
 use Rattle.area.specs.Area.{area}
-use Rattle.extending.proofs.ExtendingLaws.{header-there, can-begin, can-fill, can-put, extended}
+use Rattle.filling.specs.Lists.{CanFill, FilledLast}
+use Rattle.extending.proofs.ExtendingLaws.{header-stands, can-begin, can-fill, can-put, extended}
 use Rattle.extending.proofs.extend_by_lists.Goals as goal
-use Rattle.extending.proofs.extend_by_lists.Goals.{After-fill_last-last, After-header_at-header, After-start_profile-count, Start}
-
-pub header_at-header-requires : goal.header_at-header-requires
-header_at-header-requires c = header-there c.requires
+use Rattle.extending.proofs.extend_by_lists.Goals.{After-fill_last-last, After-records_in}
 
 pub start_profile-count-requires : goal.start_profile-count-requires
-start_profile-count-requires c =
-    let s : Start = (goal.at.start_profile-count-requires c).Start in
-    can-begin s.requires
+start_profile-count-requires c = can-begin c.requires
 
--- The header that was read has the order's count.
-counted : (c : After-header_at-header) → c.header_at-header.result.count ≡ count_of c.args.bytes.now
-counted c = (header_read c.args.bytes.now c.header_at-header.result c.header_at-header.ensures).count
+pub records_in-requires : goal.records_in-requires
+records_in-requires c = (header-fine c.args.bytes.now).1 (header-stands c.requires)
 
--- The work area is as long as it was.
-room : (c : After-start_profile-count) → area ≤ length c.start_profile-count.new.work
-room c = search rules
+-- The records are the order's, and the work area is as long as it was.
+module _ (c : After-records_in) where
+  counted : c.records_in.result.count ≡ count_of c.args.bytes.now
+  counted = c.records_in.result.stand.counted ∙ ap count_of c.records_in.ensures
+
+  room : area ≤ length c.start_profile-count.new.work
+  room = search rules
 
 pub fill_last-last-requires : goal.fill_last-last-requires
 fill_last-last-requires c =
-    can-fill c.requires (counted (goal.at.fill_last-last-requires c).After-header_at-header) c.start_profile-count.ensures (room (goal.at.fill_last-last-requires c).After-start_profile-count)
+    let r : After-records_in = (goal.at.fill_last-last-requires c).After-records_in in
+    subst (λ b. CanFill b c.records_in.result.count c.start_profile-count.result c.start_profile-count.new.work) (sym c.records_in.ensures)
+    (can-fill c.requires (counted r) c.start_profile-count.ensures (room r))
+
+-- The last list is the order's.
+last : (c : After-fill_last-last)
+    → FilledLast c.args.bytes.now c.start_profile-count.result c.start_profile-count.new.work c.fill_last-last.result c.fill_last-last.new.work
+last c =
+    subst (λ b. FilledLast b c.start_profile-count.result c.start_profile-count.new.work c.fill_last-last.result c.fill_last-last.new.work)
+    c.records_in.ensures c.fill_last-last.ensures
 
 pub write_list-requires : goal.write_list-requires
 write_list-requires c =
     let f : After-fill_last-last = (goal.at.write_list-requires c).After-fill_last-last in
-    let p : After-start_profile-count = (goal.at.After-fill_last-last f).After-start_profile-count in
-    let h : After-header_at-header = (goal.at.After-start_profile-count p).After-header_at-header in
-    can-put h.requires (counted h) p.start_profile-count.ensures (room p) f.fill_last-last.ensures
+    let r : After-records_in = (goal.at.After-fill_last-last f).After-records_in in
+    can-put c.requires (counted r) c.start_profile-count.ensures (room r) (last f)
 
 pub returns : goal.returns
 returns c =
     let f : After-fill_last-last = (goal.at.returns c).After-fill_last-last in
-    let p : After-start_profile-count = (goal.at.After-fill_last-last f).After-start_profile-count in
-    let h : After-header_at-header = (goal.at.After-start_profile-count p).After-header_at-header in
-    extended h.requires (counted h) p.start_profile-count.ensures (room p) f.fill_last-last.ensures
-    c.write_list.ensures
+    let r : After-records_in = (goal.at.After-fill_last-last f).After-records_in in
+    extended c.requires (counted r) c.start_profile-count.ensures (room r) (last f) c.write_list.ensures
