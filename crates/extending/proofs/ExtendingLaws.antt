@@ -76,11 +76,11 @@ module _ {ns : List ℤ} {bytes : List ℕ} {out work : List ℤ} (f : CanExtend
   all = (accepted ns bytes).0 f.accepted
 
   -- There is a header to read, and it is fine.
-  pub header-there : 4 ≤ length bytes
-  header-there = all.header.long
-
   pub header-stands : HeaderFine bytes
   header-stands = all.header
+
+  pub header-there : 4 ≤ length bytes
+  header-there = header-stands.long
 
   -- The profile's points can be put in front,
   pub can-begin : CanBegin ns work

@@ -78,7 +78,13 @@ fn task_in(records: Records, k: usize) -> Task
 }
 
 // The list after the job at a place, from the list before it, by the three cases.
-fn list_one(work: &mut [i32], records: Records, k: usize, list: Prefix, pushed: &mut [i32]) -> NextList
+fn list_one(
+    work: &mut [i32],
+    records: Records,
+    k: usize,
+    list: Prefix,
+    pushed: &mut [i32],
+) -> NextList
     requires { CanFillOne records.bytes.now k (as_stretch list) false work.old pushed.old [] }
     ensures { FilledOne records.entry.bytes.now k (as_stretch list) false work.old [] (as_stretch result.list) result.weight work.new
         pushed.new [] }
