@@ -8,11 +8,10 @@ use Rattle.profile.specs.Profile.{worth, order_profile}
 use Rattle.packed.specs.declared.Refusal.{Refusal}
 use Rattle.packed.specs.Judge.{plainly, fine, refused, judge}
 use Rattle.packed.specs.Packed.{count_of, order_of}
-use Rattle.packed.specs.Refusals.{room_checks}
+use Rattle.packed.specs.Refusals.{header_checks, room_checks}
 use Rattle.packed.proofs.Accepted.{order-within}
+use Rattle.packed.proofs.RefusalLaws.{header-fine}
 use Rattle.packed_plan.specs.Plan.{mask_bytes, mask_in, kept_in}
-use Rattle.fields.specs.Facts.{HeaderRead}
-use Rattle.fields.specs.declared.Header.{Header}
 use Rattle.judge.specs.Told.{stays, told-next}
 use Rattle.legal.specs.Legal.{weight_kept, is_best}
 use Rattle.area.specs.Area.{area, cleared}
@@ -27,11 +26,11 @@ use Rattle.best_plan.specs.Most.{most-told}
 -- ---- by weight
 
 module _ {order plan : List ℕ} {work : List ℤ} (can : CanWeighPlan order plan work) where
-  -- There is a header to read
-  pub header-there : 4 ≤ length order
-  header-there = (order-accepted order plan can.accepted).header.long
+  -- The header is accepted,
+  pub header-passed : judge (header_checks order) ≡ fine
+  header-passed = (header-fine order).1 (order-accepted order plan can.accepted).header
 
-  -- and a mask,
+  -- there is a mask,
   pub mask-there : mask_bytes ≤ length plan
   mask-there = (plan-accepted order plan can.accepted).long
 
@@ -39,19 +38,22 @@ module _ {order plan : List ℕ} {work : List ℤ} (can : CanWeighPlan order pla
   pub can-weigh : CanWeigh order work
   can-weigh = record { accepted = order-passed order plan can.accepted; room = can.room }
 
-  module _ {h : Header} (read : HeaderRead order h) where
+  module _ {bytes : List ℕ} {n : ℕ} (same : bytes ≡ order) (counted : n ≡ count_of bytes) where
+    of-order : n ≡ count_of order
+    of-order = counted ∙ ap count_of same
+
     -- The weight that the plan keeps can be summed,
-    pub can-sum : CanSum order h.count
-    can-sum = record { order = order-accepted order plan can.accepted; count = read.count }
+    pub can-sum : CanSum bytes n
+    can-sum = rw same (record { order = order-accepted order plan can.accepted; count = of-order })
 
     kept-is : {mask : ℕ} → mask ≡ mask_in plan
-        → weight_under order h.count mask ≡ weight_kept (order_of order) (kept_in (count_of order) plan)
+        → weight_under bytes n mask ≡ weight_kept (order_of order) (kept_in (count_of order) plan)
     unfolding order_of kept_in
-    kept-is m = rw (m, read.count)
+    kept-is m = rw (same, m, of-order)
 
     -- and the greatest weight found decides.
     pub most-weighed : {mask kept : ℕ} {most : Option ℕ} {r : Bool} → mask ≡ mask_in plan
-        → kept ≡ weight_under order h.count mask → most ≡ worth (order_profile (order_of order)) latest_free → r ≡ not_above most kept
+        → kept ≡ weight_under bytes n mask → most ≡ worth (order_profile (order_of order)) latest_free → r ≡ not_above most kept
         → r ≡ most_in order plan
     most-weighed m k w e =
         rw (e, w, k, kept-is m)

@@ -2,39 +2,33 @@
 -- Assumes nothing.
 use Prim.Native.Nat.{◌<◌}
 use native.Mathlib.Omega.{arith}
-use Rattle.fields.specs.Facts.{record-in}
 use Rattle.best_plan.specs.WeightLaws.{sum-starts, job-weighs, gain-small, sum-on, sum-ends}
 use Rattle.best_plan.proofs.kept_weight.Goals as goal
 use Rattle.best_plan.proofs.kept_weight.Goals.{In-loop-place}
 
 pub loop-place-init : goal.loop-place-init
-loop-place-init c = sum-starts c.args.order.now c.args.n c.args.mask c.requires
+loop-place-init c = sum-starts c.args.records.bytes.now c.args.records.count c.args.mask c.requires
 
 -- There are at most 48 jobs.
 few : (c : In-loop-place) → c.loop-place.place < 48
 few c = let i = c.loop-place.invariant in omega (arith, c.loop-place-test.true, i.count, i.order.header.few)
 
-pub job_in-job-requires : goal.job_in-job-requires
-job_in-job-requires c =
-    let i = c.loop-place.invariant in
-    record-in c.args.order.now c.loop-place.place i.order.header (omega (arith, c.loop-place-test.true, i.count))
-
 pub keeps-requires : goal.keeps-requires
 keeps-requires c = few (goal.at.keeps-requires c).In-loop-place
 
 pub weight_of-weight-requires : goal.weight_of-weight-requires
-weight_of-weight-requires c = job-weighs c.loop-place.invariant c.loop-place-test.true c.job_in-job.result c.job_in-job.ensures
+weight_of-weight-requires c = job-weighs c.loop-place.invariant c.loop-place-test.true c.job_at-job.result c.job_at-job.ensures
 
 -- What the job counts is small.
 pub overflow_add-weight : goal.overflow_add-weight
 overflow_add-weight c =
-    let small = gain-small c.loop-place.invariant c.loop-place-test.true c.job_in-job.result c.job_in-job.ensures c.keeps.ensures
+    let small = gain-small c.loop-place.invariant c.loop-place-test.true c.job_at-job.result c.job_at-job.ensures c.keeps.ensures
     c.weight_of-weight.ensures in
     omega (arith, small, few (goal.at.overflow_add-weight c).In-loop-place, c.loop-place.invariant.light)
 
 pub loop-place-preserved : goal.loop-place-preserved
 loop-place-preserved c =
-    sum-on c.loop-place.invariant c.loop-place-test.true c.job_in-job.result c.job_in-job.ensures c.keeps.ensures
+    sum-on c.loop-place.invariant c.loop-place-test.true c.job_at-job.result c.job_at-job.ensures c.keeps.ensures
     c.weight_of-weight.ensures
 
 pub returns : goal.returns

@@ -5,4 +5,4 @@ use Rattle.best_plan.specs.WeightLaws.{Summing}
 use Rattle.best_plan.proofs.kept_weight.Given as goal
 
 abbrev pub invariant-loop-place : goal.invariant-loop-place
-invariant-loop-place l = Summing l.order l.n l.mask l.weight l.place
+invariant-loop-place l = Summing l.records.bytes.now l.records.count l.mask l.weight l.place

@@ -5,4 +5,4 @@ use Rattle.halves.specs.AwaitingLaws.{Searching}
 use Rattle.halves.proofs.first_offending.Given as goal
 
 abbrev pub invariant-loop-place : goal.invariant-loop-place
-invariant-loop-place l = Searching l.bytes l.n l.awaited l.place
+invariant-loop-place l = Searching l.records.bytes.now l.records.count l.awaited l.place
