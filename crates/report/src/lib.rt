@@ -9,7 +9,8 @@ ghost use Rattle.report.specs.Report.{refusal_line, plan_line, start_word, job_l
 ghost use Rattle.report.specs.Writing.{front_words, kept_words, CanRefuse, CanList, listed, CanTell, HasRoom};
 
 use area::AREA;
-use fields::{header_at, job_in};
+use jobs::Records;
+use judge::records_in;
 use packed::Refusal;
 use planner::{Figures, plan};
 use starting::LEFT_OUT;
@@ -93,13 +94,13 @@ fn put_job(text: &mut Writer, number: u32, start: i32)
     text.byte(NEWLINE);
 }
 
-// The lines of the first n jobs, in place order.
-fn put_jobs(text: &mut Writer, bytes: &[u8], n: usize, starts: &[i32])
-    requires { CanList bytes.now n starts.now text.old }
-    ensures { Writes (listed bytes.now starts.now n) (23 * n) text.old text.new }
+// The lines of the jobs, in place order.
+fn put_jobs(text: &mut Writer, records: Records, starts: &[i32])
+    requires { CanList records.bytes.now records.count starts.now text.old }
+    ensures { Writes (listed records.entry.bytes.now starts.now records.entry.count) (23 * records.entry.count) text.old text.new }
 {
-    for place in 0..n {
-        let job = job_in(bytes, place);
+    for place in 0..records.count {
+        let job = records.job_at(place);
         put_job(text, job.number as u32, starts[place]);
     }
 }
@@ -109,11 +110,9 @@ fn tell_plan(bytes: &[u8], figures: Figures, starts: &[i32], out: &mut [u8]) -> 
     requires { CanTell bytes.now figures starts.now out.old }
     ensures { Wrote out.old 0 (report_of bytes.now) out.new result }
 {
-    let header = header_at(bytes);
-    let n = header.count;
     let mut text = Writer { out, at: 0 };
     put_plan(&mut text, figures);
-    put_jobs(&mut text, bytes, n, starts);
+    put_jobs(&mut text, records_in(bytes), starts);
     text.at
 }
 

@@ -6,4 +6,4 @@ use Rattle.checking.proofs.all_turns.Given as goal
 
 abbrev pub invariant-loop-place : goal.invariant-loop-place
 invariant-loop-place l =
-    Judging (jobs_in l.order) l.n l.t0 l.mask l.plan l.free l.left l.k l.place
+    Judging (jobs_in l.records.bytes.now) l.records.count l.t0 l.mask l.plan l.free l.left l.k l.place

@@ -6,4 +6,4 @@ use Rattle.report.specs.Writing.{listed}
 use Rattle.report.proofs.put_jobs.Given as goal
 
 abbrev pub invariant-loop-place : goal.invariant-loop-place
-invariant-loop-place l = Writes (listed l.bytes l.starts l.place) (23 * l.place) l.initial.text l.text
+invariant-loop-place l = Writes (listed l.records.bytes.now l.starts l.place) (23 * l.place) l.initial.text l.text

@@ -9,12 +9,12 @@ use Rattle.unpack.specs.WritingLaws.{none_written, one_more}
 use Rattle.unpack.proofs.write_numbers.Goals as goal
 
 pub loop-k-init : goal.loop-k-init
-loop-k-init c = sym (none_written c.args.bytes.now c.args.numbers.now)
+loop-k-init c = sym (none_written c.args.records.bytes.now c.args.numbers.now)
 
 pub loop-k-preserved : goal.loop-k-preserved
 loop-k-preserved c =
     let k : ℕ = c.loop-k.k in
-    let j = c.job_in-job in
+    let j = c.job_at-job in
     c.put_numbers.ensures
     ∙ ap (λ (zs : List ℤ). take (7 * k) zs ++ fields_of j.result ++ drop (7 * k + 7) zs) c.loop-k.invariant
-    ∙ one_more c.args.bytes.now c.args.numbers.now k j.result j.ensures
+    ∙ one_more c.args.records.bytes.now c.args.numbers.now k j.result j.ensures

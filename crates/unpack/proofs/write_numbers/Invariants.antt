@@ -4,4 +4,4 @@ use Rattle.unpack.specs.Writing.{first_jobs}
 use Rattle.unpack.proofs.write_numbers.Given as goal
 
 abbrev pub invariant-loop-k : goal.invariant-loop-k
-invariant-loop-k l = l.numbers ≡ first_jobs l.bytes l.k l.initial.numbers
+invariant-loop-k l = l.numbers ≡ first_jobs l.records.bytes.now l.k l.initial.numbers
