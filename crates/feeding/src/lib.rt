@@ -77,7 +77,10 @@ fn keep(front: &mut [u8], got: usize, bytes: &[u8])
 {
     if got < FRONT {
         let n = bytes.len().min(FRONT - got);
-        front[got..got + n].copy_from_slice(&bytes[..n]);
+        // Byte by byte: the copy of a slice asks the C library for memmove, which no other call needs.
+        for i in 0..n {
+            front[got + i] = bytes[i];
+        }
     }
 }
 

@@ -1,20 +1,38 @@
 -- `feeding::keep` meets its contract: as many bytes are copied as there is room for, and a full front stays. Assumes nothing.
-use mathlib.Core.Path.{sym, ◌∙◌}
+use mathlib.Core.Path.{◌≡◌, sym, ap, ◌∙◌}
 use native.Mathlib.Omega.{arith}
-use lib.ListN.{take}
-use Rattle.std.proofs.Common.{length-take-le}
-use Rattle.std.proofs.lemmas.Slice.{put_mid-paste}
-use Rattle.streams.proofs.Kept.{kept_full}
-use Rattle.feeding.specs.FeedingLaws.{stretch-kept}
+use Prim.Native.Nat.{◌+◌}
+use lib.ListN.{length, take, get_or, set}
+use Rattle.std.proofs.Common.{take_all}
+use Rattle.streams.proofs.Kept.{kept_in, kept_full, kept-length}
+use Rattle.feeding.specs.FeedingLaws.{copy_step, keep-least}
 use Rattle.feeding.proofs.keep.Goals as goal
 
-pub returns-then-got-lt-FRONT : goal.returns-then-got-lt-FRONT
-returns-then-got-lt-FRONT c =
+pub bounds-front-got : goal.bounds-front-got
+bounds-front-got c =
+    let a = c.args in
+    let same : length c.loop-i.front ≡ length a.front.now =
+    ap length c.loop-i.invariant ∙ kept-length a.front.now a.got (take c.loop-i.i a.bytes.now) in
+    omega (arith, c.min-n.ensures, c.requires)
+
+pub loop-i-preserved : goal.loop-i-preserved
+loop-i-preserved c =
+    let a = c.args in
+    let i = c.loop-i.i in
+    let here : i ≡ 0 + i = omega arith in
+    ap (λ k. set c.loop-i.front (a.got + i) (get_or a.bytes.now k 0)) here
+    ∙ copy_step a.front.now a.got a.bytes.now 0 i c.loop-i.front c.loop-i.invariant (omega (arith, c.min-n.ensures))
+    (omega (arith, c.min-n.ensures))
+
+pub returns-after-loop-i : goal.returns-after-loop-i
+returns-after-loop-i c =
+    let a = c.args in
     let n = c.min-n.result in
-    let bytes = c.args.bytes.now in
-    put_mid-paste c.args.got _ c.args.front.now c.copy_from_slice.new.self (take n bytes) n c.copy_from_slice.ensures.after (omega arith)
-    (sym (length-take-le n bytes (omega (arith, c.min-n.ensures))))
-    ∙ stretch-kept c.args.front.now c.args.got bytes n c.if-got-lt-FRONT.true c.requires c.min-n.ensures
+    let all : c.loop-i.i ≡ n = omega arith in
+    c.loop-i.invariant
+    ∙ ap (λ k. kept_in a.front.now a.got (take k a.bytes.now)) all
+    ∙ keep-least a.front.now a.got a.bytes.now (length a.bytes.now) n (omega arith) c.if-got-lt-FRONT.true c.min-n.ensures
+    ∙ ap (kept_in a.front.now a.got) (take_all (length a.bytes.now) a.bytes.now (omega arith))
 
 pub returns-else-got-lt-FRONT : goal.returns-else-got-lt-FRONT
 returns-else-got-lt-FRONT c = sym (kept_full c.args.front.now c.args.got c.args.bytes.now c.if-got-lt-FRONT.false)
