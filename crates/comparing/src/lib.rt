@@ -23,9 +23,34 @@ pub fn records_kind(bytes: &[u8]) -> Option<u32> {
     bytes.get(3).map(|kind| u32::from(*kind))
 }
 
+// The number that a reason must be told by (R24), written apart from the library's.
+fn number_of(reason: Reason) -> u32 {
+    match reason {
+        Reason::OrderTooShort => 1,
+        Reason::UnknownKind => 2,
+        Reason::TooManyJobs => 3,
+        Reason::WrongLength => 4,
+        Reason::BusFreeOutOfRange => 5,
+        Reason::JobOutOfRange => 6,
+        Reason::NumberRepeated => 7,
+        Reason::ProfileNotValid => 8,
+        Reason::TooMuchWeight => 9,
+        Reason::BufferTooShort => 10,
+        Reason::NoFeasibleChoice => 11,
+        Reason::CellTooCold => 12,
+        Reason::NotOfHalves => 13,
+        Reason::PlanWrongLength => 14,
+        Reason::PlanStrayBits => 15,
+        Reason::RepeatingNotValid => 16,
+        Reason::FrameTooLong => 17,
+        Reason::NoSheet => 18,
+        Reason::EveryPackZero => 19,
+    }
+}
+
 // Whether a refusal gives this reason at this place; none of the orders compared has a field out of range.
 pub fn says(refusal: Refusal, reason: Reason, place: usize) -> bool {
-    refusal.number() == reason.number() && refusal.place() == place && refusal.figure() == 0
+    refusal.number() == number_of(reason) && refusal.place() == place && refusal.figure() == 0
 }
 
 // Whether a call's answer is the one expected; a refusal is at no place.
