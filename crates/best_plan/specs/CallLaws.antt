@@ -26,7 +26,11 @@ use Rattle.best_plan.specs.Most.{most-told}
 -- ---- by weight
 
 module _ {order plan : List ℕ} {work : List ℤ} (can : CanWeighPlan order plan work) where
-  -- The header is accepted,
+  -- There is a header to read,
+  pub header-there : 4 ≤ length order
+  header-there = (order-accepted order plan can.accepted).header.long
+
+  -- which is accepted,
   pub header-passed : judge (header_checks order) ≡ fine
   header-passed = (header-fine order).1 (order-accepted order plan can.accepted).header
 

@@ -7,6 +7,7 @@ use Rattle.std.specs.Int.Signed.{non_neg}
 use Rattle.std.specs.Int.{w32, w64}
 use Rattle.std.proofs.Math.Facts.{to_z-of_z}
 use Rattle.seconds.specs.Limits.{most_weight}
+use Rattle.seconds.specs.RangesLaws.{time-fits}
 use Rattle.seconds.specs.Signed.{signed, abs_is}
 use Rattle.order.specs.Job.{Job, one_rate, Point}
 use Rattle.order.proofs.Within.{JobWithin}
@@ -85,6 +86,16 @@ module _ (bytes : List ℕ) (k : ℕ) (order : OrderFine bytes) (there : k < cou
     }
 
 -- ---- a job told
+
+-- Its times are read back from their bits.
+abbrev pub read_back : Task → Task
+read_back task = record {
+  terms = record { critical = task.terms.critical; ready = read task.terms.ready; deadline = read task.terms.deadline };
+  rate = task.rate;
+}
+
+pub read-task : {bytes : List ℕ} {k : ℕ} {task : Task} → TaskIs bytes k task → TaskIs bytes k (read_back task)
+read-task t = rw (to_z-of_z (time-fits t.starts), to_z-of_z (time-fits t.ends)) t
 
 module _ {bytes : List ℕ} {k : ℕ} {task : Task} (t : TaskIs bytes k task) where
   weight_is : (job_in bytes k).weight ≡ task.rate.gain

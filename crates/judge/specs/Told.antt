@@ -61,6 +61,10 @@ told-next cs ds e = rw (judge-append cs ds, e)
 pub stays : (cs ds : List Check) {r : Refusal} → judge cs ≡ refused r → judge (cs ++ ds) ≡ refused r
 stays cs ds e = rw (judge-append cs ds, e)
 
+-- Of three.
+pub first-refused : (cs ds es : List Check) {r : Refusal} → judge cs ≡ refused r → judge (cs ++ ds ++ es) ≡ refused r
+first-refused cs ds es e = stays (cs ++ ds) es (stays cs ds e)
+
 -- ---- 6, 7 and 9
 
 -- None is out of range, and the jobs are gathered: 6 and 7 are judged by their numbers.
@@ -91,10 +95,7 @@ module _ (cs : List Check) (zs : List ℤ) (before : ℕ) where
   abbrev pub three : List Check
   three = cs ++ job_checks zs ++ weight_checks before zs
 
-  -- Refused at first,
-  pub first-refused : {r : Refusal} → judge cs ≡ refused r → judge three ≡ refused r
-  first-refused e = stays (cs ++ job_checks zs) (weight_checks before zs) (stays cs (job_checks zs) e)
-
+  -- Refused at first (`first-refused`),
   module _ (passed : judge cs ≡ fine) where
     -- by 6 or 7,
     pub jobs-refused : {r : Refusal} → judge (job_checks zs) ≡ refused r → judge three ≡ refused r

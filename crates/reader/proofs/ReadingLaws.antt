@@ -201,16 +201,19 @@ module _ (bytes : List ℕ) where
       go fine f h = record { header = (header-fine bytes).0 f; passed = f; counted = sym (ap open_count h) }
       go (refused r) f h = let z : ◌≡◌ {A = ℕ} 0 1 = cc in absurd (omega arith)
 
-  -- Bytes that were not: a step says the same.
-  pub open-refused : (place : ℕ) {r : Refusal} → open_of bytes ≡ Err r → step_of bytes place ≡ record { answer = Err r; place = place }
+  -- Bytes that were not: the refusal has no place and no field, and a step says the same.
+  pub open-refused : (place : ℕ) {r : Refusal} → open_of bytes ≡ Err r
+      → (r ≡ plainly r.number) × (step_of bytes place ≡ record { answer = Err r; place = place })
   open-refused place {r} e = go (judge (header_checks bytes)) refl e
     where
       go : (v : Verdict) → judge (header_checks bytes) ≡ v → opened_by (count_of bytes) v ≡ Err r
-          → step_of bytes place ≡ record { answer = Err r; place = place }
+          → (r ≡ plainly r.number) × (step_of bytes place ≡ record { answer = Err r; place = place })
       go fine f h = let z : ◌≡◌ {A = ℕ} 0 1 = cc in absurd (omega arith)
       go (refused s) f h =
-          let same : s ≡ r = ap refusal_of h in
-          step-refused bytes place f ∙ (λ i. record { answer = Err (same i); place = place })
+          let same : s ≡ r = ap refusal_of h in (
+            subst (λ (q : Refusal). q ≡ plainly q.number) same (open-refusal bytes f).plain,
+            step-refused bytes place f ∙ (λ i. record { answer = Err (same i); place = place }),
+          )
 
 -- ---- where the reader stands after a step
 

@@ -9,7 +9,7 @@ use mir.Facts.{to_z-of_z}
 use borrow.Author.Rules.{rules}
 use Rattle.std.proofs.Common.{Err}
 use Rattle.packed.specs.Judge.{Verdict, judge}
-use Rattle.packed.specs.Refusals.{list_checks}
+use Rattle.packed.specs.Refusals.{list_checks, job_checks, weight_checks}
 use Rattle.judge.specs.Told.{given-told, first-refused, jobs-refused, sum-left}
 use Rattle.judge.proofs.judge_numbers.Goals as goal
 
@@ -22,7 +22,7 @@ pub returns-in_err-judge_list : goal.returns-in_err-judge_list
 returns-in_err-judge_list c =
     let e : c.from_residual.result ≡ Err c.in_err-judge_list.field-0.0 = search rules in
     let zs = c.args.given.now in
-    e ∙ sym (first-refused (list_checks c.args.t0 zs) zs 0 (list-says c.args.t0 zs c.ranges.t0 c.judge_list.ensures c.in_err-judge_list.was))
+    e ∙ sym (first-refused (list_checks c.args.t0 zs) (job_checks zs) (weight_checks 0 zs) (list-says c.args.t0 zs c.ranges.t0 c.judge_list.ensures c.in_err-judge_list.was))
 
 pub invariant_of-judge_each : goal.invariant_of-judge_each
 invariant_of-judge_each c =

@@ -4,7 +4,7 @@ use mathlib.Core.Path.{◌≡◌, sym, subst, ◌∙◌}
 use borrow.Author.Rules.{rules}
 use Rattle.std.proofs.Common.{Ok, Err}
 use Rattle.packed.specs.Packed.{numbers_of}
-use Rattle.packed.specs.Refusals.{header_checks}
+use Rattle.packed.specs.Refusals.{header_checks, job_checks, weight_checks}
 use Rattle.judge.specs.Verdicts.{JudgedEach}
 use Rattle.judge.specs.Told.{first-refused, jobs-refused, sum-left}
 use Rattle.judge.proofs.judge_order.Goals as goal
@@ -13,7 +13,7 @@ pub returns-in_err-judge_header : goal.returns-in_err-judge_header
 returns-in_err-judge_header c =
     let e : c.from_residual.result ≡ Err c.in_err-judge_header.field-0.0 = search rules in
     let bytes = c.args.bytes.now in
-    e ∙ sym (first-refused (header_checks bytes) (numbers_of bytes) c.args.before (sym c.judge_header.ensures ∙ c.in_err-judge_header.was))
+    e ∙ sym (first-refused (header_checks bytes) (job_checks (numbers_of bytes)) (weight_checks c.args.before (numbers_of bytes)) (sym c.judge_header.ensures ∙ c.in_err-judge_header.was))
 
 pub returns-in_err-weight : goal.returns-in_err-weight
 returns-in_err-weight c =

@@ -43,7 +43,7 @@ module _ (bytes : List ℕ) (place : ℕ) (job : Job) (read : fields_of job ≡ 
 pub returns-in_err-count : goal.returns-in_err-count
 returns-in_err-count c =
     let e : c.from_residual.result ≡ Err c.in_err-count.field-0.0 = search rules in
-    e ∙ sym (ap answer (open-refused c.args.bytes.now c.args.place (sym c.open.ensures ∙ c.in_err-count.was)))
+    e ∙ sym (ap answer (open-refused c.args.bytes.now c.args.place (sym c.open.ensures ∙ c.in_err-count.was)).1)
 
 pub returns-then-place-count : goal.returns-then-place-count
 returns-then-place-count c =
