@@ -25,7 +25,7 @@ PARTS = [
         packed_answers Numbers, plan_answers Numbers, opening_answers Numbers, verdict_answers Numbers, sheet_answers Numbers,
         text Decimal, report Report, sheet_text SheetText, week_report WeekText'''),
 ]
-IMPORT = re.compile(r'(?:unfoldable )?(?:pub |ghost )?use Rattle\.(?!std\.)(\w+)\.(?:specs|proofs)\.(\w+)\.')
+IMPORT = re.compile(r'\s*(?:unfoldable )?(?:pub |ghost )?use Rattle\.(?!std\.)(\w+)\.(?:specs|proofs)\.(\w+)\.')
 LAW = re.compile(r'(pub )?\S+ : |.*\b(refl|omega|rw|cc|search|grind|simp|unfolding)\b')
 
 

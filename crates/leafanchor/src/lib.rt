@@ -263,7 +263,7 @@ pub extern "C" fn leafanchor_sheet_add(
     ensures lent { figures.new ≡ add_after figures.old order.now work.old }
     ensures area { work.new ≡ add_work_after figures.old work.old }
 {
-    sheet_answers::sheet_answer(adding::add(figures, order, work))
+    sheet_answers::done_answer(adding::add(figures, order, work))
 }
 
 // A second sheet joined to a first.
@@ -272,7 +272,7 @@ pub extern "C" fn leafanchor_sheet_join(figures: &mut [u32], more: &[u32]) -> Sh
     ensures answer { result ≡ sheet_numbers (join_refusal figures.old more.now) }
     ensures lent { figures.new ≡ sheet_after figures.old more.now }
 {
-    sheet_answers::sheet_answer(sheet::join(figures, more))
+    sheet_answers::done_answer(sheet::join(figures, more))
 }
 
 // A piece of a stream, of which 29 numbers and a front of 437 bytes are held.
@@ -289,7 +289,7 @@ pub extern "C" fn leafanchor_sheet_feed(
     ensures room { front.new ≡ front_after feed.old front.old piece.now work.old }
     ensures area { work.new ≡ feed_work_after feed.old front.old work.old }
 {
-    sheet_answers::sheet_answer(feeding::feed(feed, front, piece, work))
+    sheet_answers::done_answer(feeding::feed(feed, front, piece, work))
 }
 
 // The text of a sheet, written to the front of `text`; any `cut` but 0 says that the stream was cut.

@@ -3,8 +3,6 @@ pub mod Layout
 pub mod Places
 pub mod PlacesLaws
 pub mod Packed
-pub mod Said
-pub mod Shown
 pub mod Judge
 pub mod JudgeLaws
 pub mod Refusals

@@ -4,69 +4,79 @@
 
 ghost use Rattle.std.specs.Prelude.{◌≡◌};
 ghost use Rattle.refusals.specs.Numbers.{number_of, figure_of};
-ghost use Rattle.packed.specs.Judge.{plainly, at_place, in_field, without_place};
+ghost use Rattle.packed.specs.Judge.{plainly as only_number, at_place, in_field, without_place};
 
 use refusals::{Field, Reason};
-use std::marker::Model;
 
-// A refusal: why, the place of the job that it is about, and the field of that job that is out of range (R24). Every answer
-// that can refuse with a place or a field holds one. A contract sees it in R24's and R36's numbers, 0 where it names none.
+// A refusal: its number, the place of the job that it is about, and the field of that job that is out of
+// range (R24, R36); 0 where it names none. Every answer that can refuse with a place or a field holds one. Its members
+// are numbers, as C is given them and as `in_field` takes them; the calls make them of a reason and a field by name.
 #[derive(Clone, Copy)]
 pub struct Refusal {
-    reason: Reason,
-    place: usize,
-    field: Option<Field>,
+    pub number: u32,
+    pub place: usize,
+    pub field: u32,
 }
 
-impl Model for Refusal {
-    ghost use Rattle.packed.specs.Said.{Said};
+// A refusal that names a field of the job at a place.
+pub fn in_field(number: u32, place: usize, field: u32) -> Refusal
+    ensures { result ≡ in_field number place field }
+{
+    Refusal {
+        number,
+        place,
+        field,
+    }
+}
 
-    ghost Value = { Said };
+// One that names a place alone.
+pub fn at_place(number: u32, place: usize) -> Refusal
+    ensures { result ≡ at_place number place }
+{
+    in_field(number, place, 0)
+}
 
-    ghost use Rattle.packed.specs.Shown.{shown, meant, meant-shown};
+// One that names neither.
+pub fn plainly(number: u32) -> Refusal
+    ensures { result ≡ only_number number }
+{
+    at_place(number, 0)
+}
 
-    ghost view = { shown };
-
-    ghost inverse = { meant };
-
-    ghost inverse_ok = { λ a h. meant-shown a };
+// A refusal without its place, for an answer that does not say of which order it would be.
+pub fn without_place(refusal: Refusal) -> Refusal
+    ensures { result ≡ without_place refusal }
+{
+    in_field(refusal.number, 0, refusal.field)
 }
 
 impl Refusal {
-    // A refusal that names a field of the job at a place.
+    // A refusal that names a field of the job at a place, both by name.
     pub fn in_field(reason: Reason, place: usize, field: Field) -> Refusal
         ensures { result ≡ in_field (number_of reason) place (figure_of field) }
     {
-        Refusal {
-            reason,
-            place,
-            field: Some(field),
-        }
+        in_field(reason.number(), place, field.figure())
     }
 
     // One that names a place alone.
     pub fn at_place(reason: Reason, place: usize) -> Refusal
         ensures { result ≡ at_place (number_of reason) place }
     {
-        Refusal {
-            reason,
-            place,
-            field: None,
-        }
+        at_place(reason.number(), place)
     }
 
-    // A refusal without its place, for an answer that does not say of which order it would be.
+    // This one without its place.
     pub fn without_place(self) -> Refusal
         ensures { result ≡ without_place self }
     {
-        Refusal { place: 0, ..self }
+        without_place(self)
     }
 
     // Its number (R24).
     pub fn number(self) -> u32
         ensures { result ≡ self.number }
     {
-        self.reason.number()
+        self.number
     }
 
     // The place that it names, 0 where it names none.
@@ -80,18 +90,15 @@ impl Refusal {
     pub fn figure(self) -> u32
         ensures { result ≡ self.field }
     {
-        match self.field {
-            Some(field) => field.figure(),
-            None => 0,
-        }
+        self.field
     }
 }
 
 // One that names neither.
 impl From<Reason> for Refusal {
-    ghost from_gives = { λ reason r. r ≡ plainly (number_of reason) };
+    ghost from_gives = { λ reason r. r ≡ only_number (number_of reason) };
 
     fn from(reason: Reason) -> Refusal {
-        Refusal::at_place(reason, 0)
+        plainly(reason.number())
     }
 }

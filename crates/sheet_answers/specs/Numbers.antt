@@ -5,8 +5,11 @@ use Rattle.refusals.specs.Numbers.{number_of, code_of}
 use Rattle.sheet_answers.specs.declared.SheetAnswer.{SheetAnswer}
 use Rattle.sheet_answers.specs.declared.SheetTextAnswer.{SheetTextAnswer}
 
+abbrev pub numbered : ℕ → SheetAnswer
+numbered refusal = record { refusal = refusal }
+
 abbrev pub sheet_numbers : Result ⊤ Reason → SheetAnswer
-sheet_numbers done = record { refusal = code_of done }
+sheet_numbers done = numbered (code_of done)
 
 abbrev pub text_numbers : Result ℕ Reason → SheetTextAnswer
 text_numbers (Ok n) = record { refusal = 0; bytes = n }

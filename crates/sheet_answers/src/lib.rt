@@ -2,7 +2,7 @@
 #![tactic(auto)]
 
 ghost use Rattle.std.specs.Prelude.{◌≡◌};
-ghost use Rattle.sheet_answers.specs.Numbers.{sheet_numbers, text_numbers};
+ghost use Rattle.sheet_answers.specs.Numbers.{numbered, sheet_numbers, text_numbers};
 
 use refusals::Reason;
 
@@ -21,15 +21,21 @@ pub struct SheetTextAnswer {
     pub bytes: usize,
 }
 
+// The answer of a call that has a refusal alone.
+pub fn sheet_answer(refusal: u32) -> SheetAnswer
+    ensures { result ≡ numbered refusal }
+{
+    SheetAnswer { refusal }
+}
+
 // The answer of a call that has nothing else to say.
-pub fn sheet_answer(done: Result<(), Reason>) -> SheetAnswer
+pub fn done_answer(done: Result<(), Reason>) -> SheetAnswer
     ensures { result ≡ sheet_numbers done }
 {
-    let refusal = match done {
-        Ok(()) => 0,
-        Err(reason) => reason.number(),
-    };
-    SheetAnswer { refusal }
+    match done {
+        Ok(()) => sheet_answer(0),
+        Err(reason) => sheet_answer(reason.number()),
+    }
 }
 
 // The answer of the text.
